@@ -34,7 +34,7 @@ for rounds in 0 2 4 6 8 10 15 20 30 40; do
             END { print "rounds " rounds ": distance/parent" said }'
 done
 
-"$tokentree" measure ring.toml --runs 200 --csv | awk -F, '
+"$tokentree" measure ring.toml --runs 200 --csv --plot settled.svg | awk -F, '
     NR == 1 { for (i = 3; i <= NF; i++) name[i] = $i; next }
     { for (i = 3; i <= NF; i++) { sum[i] += $i; if ($i > most[i]) most[i] = $i } }
     END { for (i = 3; i in name; i++) print name[i] ": mean " sum[i] / (NR - 1) ", most " most[i] }'
@@ -74,4 +74,5 @@ done
 
 if [ "${1:-}" = --pictures ]; then
     cp recovery.svg "$docs/recovery.svg"
+    cp settled.svg "$docs/settled.svg"
 fi

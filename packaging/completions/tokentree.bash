@@ -46,7 +46,7 @@ _tokentree() {
     stop) flags='--timeout --help' valued='--timeout' places='DIR ID' ;;
     network) flags='--root --capacity --lease --edges --seed --help' valued='--root --capacity --lease --edges --seed' places='KIND N M' ;;
     schedule) flags='--scramble --rounds --random --seed --loss --clients --give-back --help' valued='--scramble --rounds --random --seed --loss --give-back' places='FILE' ;;
-    measure) flags='--runs --seed --rounds --random --table --csv --json --help' valued='--runs --seed' places='FILE' ;;
+    measure) flags='--runs --seed --rounds --random --table --csv --plot --json --help' valued='--runs --seed --plot' places='FILE' ;;
     worst) flags='--searches --steps --seed --events --help' valued='--searches --steps --seed --events' places='FILE' ;;
     draw) flags='--columns --from --to --film --page --seconds --help' valued='--columns --from --to --seconds' places='FILE EVENTS' ;;
     threads) flags='--events --help' valued='--events' places='FILE TURNS' ;;

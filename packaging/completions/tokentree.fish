@@ -74,6 +74,7 @@ complete -c tokentree -n '__fish_seen_subcommand_from measure; and not contains 
 complete -c tokentree -n '__fish_seen_subcommand_from measure; and not contains -- -- (commandline -opc)' -l random -d 'Run by random steps'
 complete -c tokentree -n '__fish_seen_subcommand_from measure; and not contains -- -- (commandline -opc)' -l table -d 'Also show a line for each run'
 complete -c tokentree -n '__fish_seen_subcommand_from measure; and not contains -- -- (commandline -opc)' -l csv -d 'Print a row for each run: when each layer stood'
+complete -c tokentree -n '__fish_seen_subcommand_from measure; and not contains -- -- (commandline -opc)' -l plot -x -d 'Also draw those rows in this file, as SVG'
 complete -c tokentree -n '__fish_seen_subcommand_from measure; and not contains -- -- (commandline -opc)' -l json -d 'Print one JSON object, on one line'
 complete -c tokentree -n __fish_use_subcommand -f -a worst -d 'Searches for runs that recover late, and shows after how many sweeps'
 complete -c tokentree -n '__fish_seen_subcommand_from worst; and not contains -- -- (commandline -opc)' -l searches -x -d 'How many searches, 1 to 1000000 [default: 16]'

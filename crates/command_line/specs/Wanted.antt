@@ -37,9 +37,10 @@ abbrev pub AreColumnsRefused : Found → Refusal → Type 0
 AreColumnsRefused found (Word fault) = IsRefused found (codes "columns") 1 1200 fault
 AreColumnsRefused found _ = ⊥
 
--- that window, and the columns of `--columns`, by default 1200
+-- that window, the columns of `--columns`, by default 1200, and what has settled if `--layers` is given
 abbrev pub IsWantedOf : Found → Wanted → Type 0
-IsWantedOf found wanted = IsWindowOf found wanted.window × IsGivenOr found (codes "columns") 1 1200 1200 wanted.columns
+IsWantedOf found wanted =
+    IsWindowOf found wanted.window × IsGivenOr found (codes "columns") 1 1200 1200 wanted.columns × IsFlag found (codes "layers") wanted.layers
 
 -- the window or the columns are invalid
 abbrev pub IsWantedRefused : Found → Refusal → Type 0

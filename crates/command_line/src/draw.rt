@@ -28,6 +28,7 @@ const DRAW: Grammar<'static> = Grammar {
         Parameter::Value("columns", "N", "The most columns, 1 to 1200"),
         Parameter::Value("from", "SWEEP", "Begin once this many sweeps have ended"),
         Parameter::Value("to", "SWEEP", "End once more sweeps than this have ended"),
+        Parameter::Flag("layers", "Also show what has settled, in four thin lanes"),
         Parameter::Flag("film", "Write a film of the run: an SVG that plays"),
         Parameter::Flag("page", "Write the film in an HTML page with controls"),
         Parameter::Value(
@@ -37,7 +38,7 @@ const DRAW: Grammar<'static> = Grammar {
         ),
     ],
     needs: &[("seconds", "film"), ("page", "film")],
-    excludes: &[("film", "columns")],
+    excludes: &[("film", "columns"), ("film", "layers")],
     choice: None,
 };
 
@@ -63,6 +64,14 @@ worst of them: lending over privileged over wrong. With --from and --to the
 picture shows only the moments at which that many sweeps have ended since the
 start. If lines were refused and the text has carriage returns, as at the end of
 CRLF lines, a line on standard error says so.
+
+With --layers four thin lanes stand below the picture. They show what has
+settled, as simulate --layers says it: how large a share of the directed links
+is stable; up to which stage the distances are right, and the whole height once
+the tree is reached; whether the token ring is good; and whether every loan has
+the privilege. If a column stands for several events, they show the state after
+the last of them. The whole network is looked at once a column, so this takes
+longer. If --to ends the picture within a column, that column shows nothing.
 
 With --film it writes a picture that moves. It shows the network, with the root
 at the top and each node as far below as its true distance. Each node shows the
@@ -170,7 +179,11 @@ fn wanted(given: &ArgMatches) -> Result<Wanted, Refusal>
         None => MOST_COLUMNS,
         Some(columns) => columns as u16,
     };
-    Ok(Wanted { columns, window })
+    Ok(Wanted {
+        columns,
+        window,
+        layers: given.get_flag("layers"),
+    })
 }
 
 /// The window that the words of `draw` ask for.

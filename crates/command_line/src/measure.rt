@@ -8,7 +8,7 @@ ghost use Rattle.command_line.specs.Scheduling.{IsSchedulerRefused, is_slow, sch
 ghost use Rattle.subcommands.specs.experiments.declared.measured_run.Scheduler.TheVariants.{Random, Rounds};
 
 use crate::program::NETWORK_FILE;
-use crate::refusal::{Refusal, ScheduleFault};
+use crate::refusal::{Refusal, ScheduleFault, ended};
 use clap::{ArgMatches, Command};
 use command_grammar::{
     Grammar, Number, Parameter, given_number, number_if_given, with_command, word,
@@ -19,7 +19,7 @@ use std::rt::Files;
 use std::thread::Threads;
 use std::time::Clock;
 use subcommands::measure::Plan;
-use subcommands::{Scheduler, measure, measure_csv, measure_json};
+use subcommands::{Scheduler, measure, measure_csv, measure_json, measure_plot};
 
 /// What `measure` takes.
 const MEASURE: Grammar<'static> = Grammar {
@@ -45,9 +45,10 @@ const MEASURE: Grammar<'static> = Grammar {
         ),
         Parameter::Flag("table", "Also show a line for each run"),
         Parameter::Flag("csv", "Print a row for each run: when each layer stood"),
+        Parameter::Value("plot", "PATH", "Also draw those rows in this file, as SVG"),
         Parameter::Flag("json", "Print one JSON object, on one line"),
     ],
-    needs: &[("share", "schedule")],
+    needs: &[("share", "schedule"), ("plot", "csv")],
     excludes: &[
         ("random", "rounds"),
         ("schedule", "rounds"),
@@ -107,6 +108,12 @@ e being the greatest distance of a node from the root, and its ring by one less
 than the sharper bound. If it has 'sweeps none', these four are empty. Such a
 measurement takes longer.
 
+With --plot it first writes a picture of these rows to the file PATH, as SVG
+1.1: for each layer, how large a share of the runs had it for good by each
+number of sweeps, and upright lines at the proved bounds above. From 1 on, each
+step of the axis doubles the number of sweeps. A run with 'sweeps none' is in no
+curve, but counts as a run. The file is not touched before all runs are made.
+
 With --json it prints one JSON object: runs, least, median, most, sharp and
 sweeps-bound, and seeds. That is a list with the seed and the sweeps of each run
 that would have a line. null means none.
@@ -153,10 +160,28 @@ pub fn run<R: Files + Print + Eprint + Clock + AllocGlobal + Threads + Sync>(
     if given.get_flag("json") {
         return Ok(measure_json::run(rt, file, plan)?);
     }
+    if let Some(path) = given.get_str("plot") {
+        return Ok(plot(rt, file, plan, path));
+    }
     if given.get_flag("csv") {
         return Ok(measure_csv::run(rt, file, plan)?);
     }
     Ok(measure::run(rt, file, plan)?)
+}
+
+/// Plots the runs of a plan, and prints their rows. The status says whether that failed, or a run.
+fn plot<R: Files + Print + Eprint + Clock + AllocGlobal + Threads + Sync>(
+    rt: &R,
+    file: &str,
+    plan: Plan,
+    path: &str,
+) -> ExitCode
+    ensures { (exit_status result ≡ 0) ⊎ (exit_status result ≡ 1) }
+{
+    match measure_plot::run(rt, file, plan, path) {
+        Ok(status) => status,
+        Err(fault) => ended(rt, file, Err(fault)),
+    }
 }
 
 /// The plan, by the words of `measure`.

@@ -22,6 +22,7 @@ pub mod Added
 pub mod Lanes
 pub mod Ruler
 pub mod Axis
+pub mod Settled
 pub mod Picture
 pub mod Shown
 pub use Rattle.run_recording.specs as run_recording

@@ -1,11 +1,11 @@
 -- The picture of a run.
-use Rattle.std.specs.Prelude.{◌≡◌, List, [], ◌∷◌, ◌++◌, length, map, codes, decimal}
+use Rattle.std.specs.Prelude.{◌≡◌, ℕ, ◌+◌, ◌<◌, ◌⊎◌, false, Option, None, Some, List, [], ◌∷◌, ◌++◌, length, map, codes, decimal}
 use Rattle.topology.specs.Network.{Network}
 use Rattle.svg_drawing.specs.declared.element.Drawing.{Drawing}
 use Rattle.run_picture.specs.declared.layout.page.Page.{Page}
 use Rattle.run_picture.specs.Axis.{IsAxis}
 use Rattle.run_picture.specs.Curves.{curves_shown, levels_shown}
-use Rattle.svg_drawing.specs.Drawn.{Given, Shown, given_of, shown_of, numbered}
+use Rattle.svg_drawing.specs.Drawn.{Given, Shown, given_of, shown_of, numbered, rect_shown}
 use Rattle.run_picture.specs.Head.{head_shown, said_words}
 use Rattle.run_picture.specs.Lanes.{AreLanes}
 use Rattle.run_picture.specs.Legend.{legend_shown}
@@ -14,15 +14,27 @@ use Rattle.run_recording.specs.Recordings.{RecordingView}
 use Rattle.run_picture.specs.Ruler.{IsRuler}
 use Rattle.run_picture.specs.Tree.{tree_shown}
 use Rattle.run_recording.specs.Visits.{first_visits}
+use Rattle.run_recording.specs.Held.{is_held}
+use Rattle.run_recording.specs.Laned.{LanesView}
+use Rattle.run_recording.specs.configuration.ConfigurationView.{world_of}
+use Rattle.run_recording.specs.layers.LayersOf.{AreLayersOf}
+use Rattle.run_recording.specs.layers.declared.whole.Layers.{Layers}
+use Rattle.run_picture.specs.Settled.{all_lanes_shown}
+use Rattle.svg_drawing.specs.declared.colours.Colour.TheVariants.{Paper}
+use Rattle.svg_drawing.specs.Lengths.{px}
 
 -- what the element that holds a page says: that it is SVG 1.1, how large the page is, and in which
 -- letters it is written
-abbrev pub page_attributes : Page → List Given
-page_attributes page =
+abbrev pub attributes_of : ℕ → ℕ → List Given
+attributes_of width height =
     record { name = codes "xmlns"; value = codes "http://www.w3.org/2000/svg" } ∷ record { name = codes "version"; value = codes "1.1" }
-    ∷ numbered (codes "width") (page_width page) ∷ numbered (codes "height") (page_height page)
-    ∷ record { name = codes "viewBox"; value = codes "0 0 " ++ (decimal (page_width page) ++ (codes " " ++ decimal (page_height page))) }
+    ∷ numbered (codes "width") width ∷ numbered (codes "height") height
+    ∷ record { name = codes "viewBox"; value = codes "0 0 " ++ (decimal width ++ (codes " " ++ decimal height)) }
     ∷ record { name = codes "font-family"; value = codes "sans-serif" } ∷ record { name = codes "font-size"; value = codes "11" } ∷ []
+
+-- the same of a page
+abbrev pub page_attributes : Page → List Given
+page_attributes page = attributes_of (page_width page) (page_height page)
 
 -- These elements show a recording on the page of a network, each part over those before it: head,
 -- legend, tree, lanes, the curves' levels, the curves, the axis of events, and what stands above the
@@ -46,3 +58,28 @@ pub record ShowsRun (page : Page) (net : Network) (r : RecordingView) (shown : L
 pub record IsPicture (net : Network) (r : RecordingView) (drawing : Drawing) : Type 0 where
   pub attributes : map given_of drawing.attributes.items ≡ page_attributes (page_of net (length r.strip.columns))
   pub elements : ShowsRun (page_of net (length r.strip.columns)) net r (map shown_of drawing.elements.items)
+
+-- These states are what had settled at the last moment of each column: of each full column as it was
+-- kept, and of one that is not full, at the end, if the window holds that.
+abbrev pub AreStates : RecordingView → Option LanesView → List Layers → Type 0
+AreStates r None states = states ≡ []
+AreStates r (Some lanes) states =
+    (last : List Layers) × (states ≡ lanes.states ++ last)
+    × ((last ≡ []) ⊎ ((layers : Layers) × (last ≡ layers ∷ []) × (0 < lanes.left) × AreLayersOf (world_of r.judge.configuration) layers))
+    × (last ≡ [] → (lanes.left ≡ 0) ⊎ (is_held r.window r.ended ≡ false))
+
+abbrev pub AreStatesOf : RecordingView → List Layers → Type 0
+AreStatesOf r states = AreStates r r.lanes states
+
+-- The drawing is the picture of a recorded run, and below it are the lanes of what had settled at the
+-- last moment of each of its columns; its page is 72 higher.
+pub record IsLayeredPicture (net : Network) (r : RecordingView) (drawing : Drawing) : Type 0 where
+  pub states : List Layers
+  pub are_states : AreStatesOf r states
+  pub upper : List Shown
+  pub attributes : map given_of drawing.attributes.items
+      ≡ attributes_of (page_width (page_of net (length r.strip.columns))) (px (page_height (page_of net (length r.strip.columns)) + 72))
+  pub shows : ShowsRun (page_of net (length r.strip.columns)) net r upper
+  pub elements : map shown_of drawing.elements.items
+      ≡ upper ++ (rect_shown 0 (page_height (page_of net (length r.strip.columns))) (page_width (page_of net (length r.strip.columns))) 72 Paper
+      ∷ all_lanes_shown (page_of net (length r.strip.columns)) states)

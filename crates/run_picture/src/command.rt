@@ -6,12 +6,12 @@ ghost use Rattle.command_parts.specs.declared.fault.Fault.TheVariants.{Output};
 
 mod watched;
 
-use crate::layout::draw;
+use crate::layout::{draw, draw_layered};
 use byte_streams::Source;
 use command_parts::{
     Fault, ReadSource, Returns, STANDARD_INPUT, events_status, read_network, return_hint, say_hint,
 };
-use run_recording::{Recording, Window, record};
+use run_recording::{Recording, Window, record, record_layers};
 use std::alloc::{AllocError, Global};
 use std::fs;
 use std::io::{Input, Read, Write, writer};
@@ -32,6 +32,8 @@ pub struct Wanted {
     pub columns: u16,
     /// The moments that are shown.
     pub window: Window,
+    /// Whether lanes below the picture show what has settled.
+    pub layers: bool,
 }
 
 /// A picture as a text.
@@ -55,7 +57,11 @@ pub trait Draws: Copy {
 impl Draws for Wanted {
     fn drawn<S: Source>(self, alloc: Global, net: &Net, source: &mut S) -> Result<Drawn, Fault> {
         let columns = usize::from(self.columns.max(1));
-        let recording = record(alloc, net, source, columns, self.window)?;
+        let recording = if self.layers {
+            record_layers(alloc, net, source, columns, self.window)?
+        } else {
+            record(alloc, net, source, columns, self.window)?
+        };
         match picture(alloc, net, &recording) {
             Ok(text) => Ok(Drawn {
                 text,
@@ -131,9 +137,13 @@ pub fn write_picture<S: Source, W: Write, D: Draws>(
     put(output, drawn.text.as_slice(), drawn.refused)
 }
 
-/// The picture of a recording, as a text.
+/// The picture of a recording, as a text: with lanes of what has settled, if it has them.
 fn picture(alloc: Global, net: &Net, recording: &Recording) -> Result<Vec<u8>, AllocError> {
-    let drawing = draw(alloc, net, recording)?;
+    let drawing = if recording.lanes().is_some() {
+        draw_layered(alloc, net, recording)?
+    } else {
+        draw(alloc, net, recording)?
+    };
     spelled(alloc, &drawing)
 }
 

@@ -1,7 +1,7 @@
 //! A run laid out on a page.
 ghost use Rattle.std.specs.Prelude.{◌≡◌, ◌∷◌, ◌++◌, [], IfOk, OnOk, map, string_bytes};
 ghost use Rattle.svg_drawing.specs.Drawn.{given_of, numbered};
-ghost use Rattle.run_picture.specs.Picture.{page_attributes, IsPicture};
+ghost use Rattle.run_picture.specs.Picture.{attributes_of, AreStatesOf, IsLayeredPicture, IsPicture};
 
 mod axis;
 mod curves;
@@ -9,6 +9,7 @@ mod lanes;
 mod legend;
 mod page;
 mod ruler;
+mod settled;
 mod tree;
 mod words;
 
@@ -18,9 +19,10 @@ use lanes::draw_lanes;
 use legend::draw_legend;
 use page::Page;
 use ruler::draw_ruler;
-use run_recording::{Recording, first_visits};
+use run_recording::{Layers, Recording, first_visits};
+use settled::draw_settled;
 use std::alloc::{AllocError, Global};
-use svg_drawing::{Attribute, Canvas, Drawing};
+use svg_drawing::{Attribute, Canvas, Colour, Drawing, Point, Px};
 use topology::Net;
 use tree::draw_tree;
 use words::draw_head;
@@ -44,17 +46,59 @@ pub fn draw(alloc: Global, net: &Net, recording: &Recording) -> Result<Drawing, 
     draw_axis(&mut canvas, page, before.events, width)?;
     draw_ruler(&mut canvas, page, columns, before.sweeps)?;
     Ok(Drawing {
-        attributes: page_attributes(alloc, page)?,
+        attributes: page_attributes(alloc, page.width(), page.height())?,
         elements: canvas.elements,
     })
 }
 
-/// The attributes of the element that holds a page.
-fn page_attributes(alloc: Global, page: Page) -> Result<Vec<Attribute>, AllocError>
-    ensures { IfOk result (λ attributes. map given_of attributes.items ≡ page_attributes page) }
+/// How much higher the page is with the lanes of what has settled.
+const SETTLED: Px = Px(72);
+
+/// The drawing of a run on a network, and below it what has settled, column by column.
+pub fn draw_layered(alloc: Global, net: &Net, recording: &Recording) -> Result<Drawing, AllocError>
+    ensures { IfOk result (IsLayeredPicture net.now recording.now) }
 {
-    let width = page.width().0;
-    let height = page.height().0;
+    let page = Page::new(net, recording.strip().columns().len());
+    let picture = draw(alloc, net, recording)?;
+    let states = states_of(alloc, recording)?;
+    let mut canvas = Canvas::new(alloc);
+    canvas.elements = picture.elements;
+    let corner = Point {
+        x: Px(0),
+        y: page.height(),
+    };
+    canvas.rect(corner, page.width(), SETTLED, Colour::Paper)?;
+    draw_settled(&mut canvas, page, states.as_slice())?;
+    Ok(Drawing {
+        attributes: page_attributes(alloc, page.width(), page.height() + SETTLED)?,
+        elements: canvas.elements,
+    })
+}
+
+/// What had settled at the last moment of each column. If the last column is not full, its last
+/// moment is the end of the run; it has none if the window does not hold that.
+fn states_of(alloc: Global, recording: &Recording) -> Result<Vec<Layers>, AllocError>
+    ensures { IfOk result (λ states. AreStatesOf recording.now states.items) }
+{
+    let mut states = Vec::new(alloc);
+    let Some(lanes) = recording.lanes() else {
+        return Ok(states);
+    };
+    states.extend_from_slice(lanes.states())?;
+    if lanes.left() > 0 {
+        if let Some(last) = recording.settled_at_end() {
+            states.push(last)?;
+        }
+    }
+    Ok(states)
+}
+
+/// The attributes of the element that holds a page.
+fn page_attributes(alloc: Global, width: Px, height: Px) -> Result<Vec<Attribute>, AllocError>
+    ensures { IfOk result (λ attributes. map given_of attributes.items
+        ≡ attributes_of width.0 height.0) }
+{
+    let (width, height) = (width.0, height.0);
     let mut attributes = Vec::new(alloc);
     put(
         &mut attributes,

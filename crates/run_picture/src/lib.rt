@@ -22,7 +22,10 @@ mod layout;
 
 pub use byte_streams;
 pub use command_parts;
-pub use layout::draw;
-pub use run_recording::{Before, Column, Mark, Recording, Strip, Window, first_visits, record};
+pub use layout::{draw, draw_layered};
+pub use run_recording::{
+    Before, Column, Lanes, Layers, Mark, Recording, Strip, Window, first_visits, record,
+    record_layers,
+};
 pub use svg_drawing::{Attribute, Drawing, Element, spelled};
 pub use topology;

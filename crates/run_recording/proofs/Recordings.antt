@@ -19,6 +19,7 @@ use Rattle.run_recording.specs.declared.window.Window.{Window}
 use Rattle.run_recording.specs.Strips.{Shows}
 use Rattle.film_stills.specs.declared.still.Still.{Still}
 use Rattle.run_recording.specs.Filmed.{still_of, take_of, filmed_if, ended_with, AreFilmed, IsReeled}
+use Rattle.run_recording.specs.Laned.{AreWorlds, IsLaned, world_if}
 use Rattle.run_recording.proofs.Strips.{as_empty}
 use Rattle.run_recording.specs.Recordings.{moment_of, shown_if, ended_at, AreMoments, IsBeforeAny, RecordingView, IsRecorded, IsReading}
 use Rattle.run_recording.specs.Recordings.AreMoments.{Start, Next}
@@ -84,8 +85,9 @@ still_after start es e events sweeps = still_of (run start (es ++ e ∷ [])) (ta
 -- nothing has happened
 pub begun : (start : World) (r : RecordingView) (moment : Column) → HasSeen r.judge start [] → r.ended ≡ 0 → r.events ≡ 0
     → r.before.events ≡ 0 → r.before.sweeps ≡ 0 → moment ≡ moment_of start false 0 0 → Shows r.strip (shown_if r.window 0 moment)
-    → IsReeled r.reel (filmed_if r.window 0 (still_of start (take_of None 0 false 0))) → IsRecorded start [] r
-begun start r moment seen ended events led swept is shown reeled = record {
+    → IsReeled r.reel (filmed_if r.window 0 (still_of start (take_of None 0 false 0)))
+    → IsLaned r.lanes (world_if r.window 0 start) → IsRecorded start [] r
+begun start r moment seen ended events led swept is shown reeled laned = record {
   seen = seen;
   moments = shown_if r.window 0 (moment_of start false 0 0);
   are = rw ended Start;
@@ -93,6 +95,9 @@ begun start r moment seen ended events led swept is shown reeled = record {
   stills = filmed_if r.window 0 (still_of start (take_of None 0 false 0));
   filmed = rw ended AreFilmed.Start;
   reeled = reeled;
+  worlds = world_if r.window 0 start;
+  are_worlds = rw ended AreWorlds.Start;
+  laned = laned;
   events_are = events;
   before_is = before_start r.window start _ r.before led swept Start (at_most_one r.window 0 (moment_of start false 0 0));
 }
@@ -110,8 +115,9 @@ pub recorded_more : (start : World) (es : List Event) (e : Event) (old new : Rec
     → new.events ≡ old.events + 1
     → empty ≡ (length old.strip.columns == 0) → new.before ≡ (if empty then record { events = new.events; sweeps = old.ended } else old.before)
     → IsReeled new.reel (h.stills ++ filmed_if old.window new.ended (still_after start es e new.events after))
+    → IsLaned new.lanes (h.worlds ++ world_if old.window new.ended (run start (es ++ e ∷ [])))
     → IsRecorded start (es ++ e ∷ []) new
-recorded_more start es e old new before after moment empty h seen (count, counted, before_is) (next, counted_next, after_is) is window ended shown events empty_is first reeled =
+recorded_more start es e old new before after moment empty h seen (count, counted, before_is) (next, counted_next, after_is) is window ended shown events empty_is first reeled laned =
     let exact = is ∙ ap (λ b. moment_of (run start (es ++ e ∷ [])) (is_damage (run start es) e) b after) before_is
     ∙ ap (moment_of (run start (es ++ e ∷ [])) (is_damage (run start es) e) (counted_up_to count)) after_is in
     let are = Next e count next h.are counted counted_next moment exact in
@@ -120,6 +126,7 @@ recorded_more start es e old new before after moment empty h seen (count, counte
     let still_is : still_after start es e new.events after ≡ still_after start es e (length es + 1) (counted_up_to next) =
     ap (λ n. still_after start es e n after) led ∙ ap (still_after start es e (length es + 1)) after_is in
     let filmed = AreFilmed.Next e count next h.filmed counted counted_next in
+    let worlds = AreWorlds.Next e count next h.are_worlds counted counted_next in
     let first_is : new.before ≡ (if length h.moments == 0 then record { events = length es + 1; sweeps = old.ended } else old.before) =
     first
     ∙ ap (λ b. if b then record { events = new.events; sweeps = old.ended } else old.before) (empty_is ∙ as_empty old.strip.width old.strip.last h.moments old.strip.columns h.shown.0)
@@ -132,6 +139,9 @@ recorded_more start es e old new before after moment empty h seen (count, counte
       stills = h.stills ++ filmed_if old.window (ended_with old.ended (counted_up_to count) (counted_up_to next)) (still_after start es e (length es + 1) (counted_up_to next));
       filmed = rw (window, ended_is) filmed;
       reeled = rw (ended_is, still_is) at reeled;
+      worlds = h.worlds ++ world_if old.window (ended_with old.ended (counted_up_to count) (counted_up_to next)) (run start (es ++ e ∷ []));
+      are_worlds = rw (window, ended_is) worlds;
+      laned = rw ended_is at laned;
       events_are = grind (arith, common_steps);
       before_is = rw window (before_more old.window start es e old.ended (ended_at old.ended moment) h.moments
           (shown_if old.window (ended_at old.ended moment) moment) old.before new.before h.are are
@@ -152,6 +162,9 @@ reader_moves start es r reader h = record {
   stills = h.stills;
   filmed = h.filmed;
   reeled = h.reeled;
+  worlds = h.worlds;
+  are_worlds = h.are_worlds;
+  laned = h.laned;
   events_are = h.events_are;
   before_is = h.before_is;
 }

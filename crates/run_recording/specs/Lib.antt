@@ -3,6 +3,7 @@ pub use Rattle.world.specs.run_model as run_model
 pub use Rattle.world.specs.events_text as events_text
 pub use Rattle.world.specs.judge.configuration as configuration
 pub use Rattle.film_stills.specs as film_stills
+pub use Rattle.layers.specs as layers
 pub use Rattle.world.specs.SimulatedText
 pub mod Marks
 pub mod Columns
@@ -12,6 +13,7 @@ pub mod SightSteps
 pub mod Held
 pub mod UnderWay
 pub mod Filmed
+pub mod Laned
 pub mod Recordings
 pub mod RecordingSteps
 pub mod TreeEdges

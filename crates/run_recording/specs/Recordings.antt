@@ -19,6 +19,7 @@ use Rattle.film_stills.specs.declared.still.Still.{Still}
 use Rattle.film_stills.specs.Reels.{ReelView}
 use Rattle.run_recording.specs.Held.{is_held}
 use Rattle.run_recording.specs.Filmed.{AreFilmed, IsReeled}
+use Rattle.run_recording.specs.Laned.{AreWorlds, IsLaned, LanesView}
 use Rattle.run_recording.specs.Seen.{marks_of}
 use Rattle.run_recording.specs.Strips.{StripView, Shows}
 
@@ -78,13 +79,14 @@ IsBeforeAny window start es [] before = Unit {0}
 IsBeforeAny window start es (moment ∷ moments) before = IsBefore window start es before
 
 -- what contracts see of a recording: its judge, what is kept of the line under way, the columns,
--- the stills of a film, if one is made, the window, the sweeps that have ended, the number of
+-- the stills of a film, if one is made, what has settled, if that is asked for, the window, the sweeps that have ended, the number of
 -- events, the number of lines that spelled none, and what was before the first moment shown
 pub record RecordingView : Type 0 where
   pub judge : JudgeView
   pub reader : Kept
   pub strip : StripView
   pub reel : Option ReelView
+  pub lanes : Option LanesView
   pub window : Window
   pub ended : ℕ
   pub events : ℕ
@@ -101,6 +103,9 @@ pub record IsRecorded (start : World) (es : List Event) (r : RecordingView) : Ty
   pub stills : List Still
   pub filmed : AreFilmed r.window start es r.ended stills
   pub reeled : IsReeled r.reel stills
+  pub worlds : List World
+  pub are_worlds : AreWorlds r.window start es r.ended worlds
+  pub laned : IsLaned r.lanes worlds
   pub events_are : r.events ≡ length es
   pub before_is : IsBeforeAny r.window start es moments r.before
 

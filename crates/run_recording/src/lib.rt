@@ -18,6 +18,7 @@
 #![tactic(auto)]
 
 mod column;
+mod lanes;
 mod mark;
 mod recording;
 mod runs;
@@ -30,8 +31,11 @@ mod window;
 pub use column::Column;
 pub use film_stills;
 pub use film_stills::{Look, MOST_EDGES, MOST_FRAMED, MOST_WAYS, NO_EDGE, Place, Reel, Still};
+pub use lanes::Lanes;
+pub use layers;
+pub use layers::Layers;
 pub use mark::Mark;
-pub use recording::{Before, Recording, record, record_film};
+pub use recording::{Before, Recording, record, record_film, record_layers};
 pub use runs::{Run, runs_of};
 pub use sight::Sight;
 pub use strip::Strip;

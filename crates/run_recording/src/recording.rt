@@ -12,14 +12,19 @@ ghost use Rattle.run_recording.specs.Recordings.{shown_if, RecordsNext, IsRecord
 ghost use Rattle.run_recording.specs.Recordings.{IsReading};
 ghost use Rattle.run_recording.specs.RecordingSteps.{EndsThere, IsDamageWhere, ReadsAll, ReadsNext};
 ghost use Rattle.run_recording.specs.RecordingSteps.{IsMomentSeen, IsStillSeen, KeepsStillSeen};
+ghost use Rattle.run_recording.specs.Laned.{IsLaned, KeepsWorld, lane_moments, limit_of};
+ghost use Rattle.run_recording.specs.Held.{is_held};
+ghost use Rattle.layers.specs.LayersOf.{AreLayersOf};
 
 use crate::column::Column;
+use crate::lanes::Lanes;
 use crate::sight::Sight;
 use crate::strip::Strip;
 use crate::under_way::under_way_of;
 use crate::window::Window;
 use byte_streams::Source;
 use film_stills::{MOST_WAYS, Reel, Still};
+use layers::Layers;
 use std::alloc::{Allocator, Global};
 use std::marker::Model;
 use topology::Net;
@@ -52,6 +57,8 @@ pub struct Recording<A: Allocator + Copy = Global> {
     strip: Strip<A>,
     /// The stills of a film, if one is made.
     reel: Option<Reel<A>>,
+    /// What has settled, column by column, if that is asked for.
+    lanes: Option<Lanes<A>>,
     window: Window,
     /// The sweeps that have ended since the start.
     ended: u64,
@@ -66,6 +73,7 @@ impl<A: Allocator + Copy> Model for Recording<A> {
     ghost use Rattle.std.specs.Prelude.{◌+◌, ◌≤◌};
     ghost use Rattle.world.specs.judge.configuration.ConfigurationView.{world_of};
     ghost use Rattle.run_recording.specs.Recordings.{RecordingView};
+    ghost use Rattle.run_recording.specs.Laned.{lane_moments};
     ghost use Rattle.run_recording.specs.Seen.{IsSightOf};
 
     ghost Value = { RecordingView };
@@ -75,6 +83,7 @@ impl<A: Allocator + Copy> Model for Recording<A> {
       reader = r.reader;
       strip = r.strip;
       reel = r.reel;
+      lanes = r.lanes;
       window = r.window;
       ended = r.ended;
       events = r.events;
@@ -83,6 +92,7 @@ impl<A: Allocator + Copy> Model for Recording<A> {
     } };
 
     ghost invariant = { λ r. (r.strip.moments ≤ r.events + 1)
+        × (lane_moments r.lanes ≤ r.events + 1)
         × IsSightOf (world_of r.judge.configuration) r.sight };
 }
 
@@ -108,7 +118,34 @@ pub fn record<A: Allocator + Copy, N: Allocator + Copy, R: Source>(
 {
     let world = World::with_spares(alloc, net, SPARE_PAIRS)?;
     let strip = Strip::new(alloc, columns)?;
-    let mut recording = Recording::new(world, strip, None, window);
+    let mut recording = Recording::new(world, strip, None, None, window);
+    recording.read_all(source)?;
+    recording.last_line();
+    Ok(recording)
+}
+
+/// The same, and also what has settled at the last moment of each full column.
+///
+/// # Errors
+/// Those of [`record`].
+pub fn record_layers<A: Allocator + Copy, N: Allocator + Copy, R: Source>(
+    alloc: A,
+    net: &Net<N>,
+    source: &mut R,
+    columns: usize,
+    window: Window,
+) -> Result<Recording<A>, SimFault>
+    requires { 0 < columns }
+    ensures recorded { (bytes : List ℕ) → R.rest source.old ≡ Some bytes
+        → IfOk result (IsRecorded (simulated_start net.now) (events_of bytes)) }
+    ensures window { IfOk result (λ r. r.window ≡ window) }
+    ensures columns { IfOk result (λ r. r.strip.limit ≡ columns) }
+    ensures lanes { IfOk result (λ r. limit_of r.lanes ≡ Some columns) }
+{
+    let world = World::with_spares(alloc, net, SPARE_PAIRS)?;
+    let strip = Strip::new(alloc, columns)?;
+    let lanes = Lanes::new(alloc, columns)?;
+    let mut recording = Recording::new(world, strip, None, Some(lanes), window);
     recording.read_all(source)?;
     recording.last_line();
     Ok(recording)
@@ -135,7 +172,7 @@ pub fn record_film<A: Allocator + Copy, N: Allocator + Copy, R: Source>(
     let world = World::with_spares(alloc, net, SPARE_PAIRS)?;
     let strip = Strip::new(alloc, 1)?;
     let reel = Reel::new(alloc, stills)?;
-    let mut recording = Recording::new(world, strip, Some(reel), window);
+    let mut recording = Recording::new(world, strip, Some(reel), None, window);
     recording.read_all(source)?;
     recording.last_line();
     Ok(recording)
@@ -191,6 +228,26 @@ fn keep_still<A: Allocator + Copy>(
     }
 }
 
+/// Keeps what has settled, if that is asked for and the window holds the moment. It looks at the
+/// network only if the moment is the last one of its column.
+fn keep_layers<A: Allocator + Copy>(
+    lanes: &mut Option<Lanes<A>>,
+    window: Window,
+    ended: u64,
+    configuration: &Configuration<A>,
+)
+    requires { lane_moments lanes.old < 2 ^ 62 }
+    ensures keeps { KeepsWorld (world_of configuration.now) window ended lanes.old lanes.new }
+    ensures limit { limit_of lanes.new ≡ limit_of lanes.old }
+    ensures moments { lane_moments lanes.new ≤ lane_moments lanes.old + 1 }
+{
+    if let Some(lanes) = lanes {
+        if window.holds(ended) {
+            lanes.push(configuration);
+        }
+    }
+}
+
 /// The column of a moment at which the sweeps since the last damage went from `before` to `after`.
 fn moment_of<A: Allocator + Copy>(
     sight: &Sight,
@@ -229,15 +286,19 @@ impl<A: Allocator + Copy> Recording<A> {
         world: World<A>,
         mut strip: Strip<A>,
         mut reel: Option<Reel<A>>,
+        mut lanes: Option<Lanes<A>>,
         window: Window,
     ) -> Recording<A>
         requires strip { Shows strip [] }
         requires reel { IsReeled reel [] }
+        requires lanes { IsLaned lanes [] }
+        requires moments { lane_moments lanes ≡ 0 }
         ensures recorded { IsRecorded (world_of world) [] result }
         ensures reading { IsReading (world_of world) [] result }
         ensures window { result.window ≡ window }
         ensures limit { result.strip.limit ≡ strip.limit }
         ensures reel { room_of result.reel ≡ room_of reel }
+        ensures lanes { limit_of result.lanes ≡ limit_of lanes }
         ensures events { result.events ≡ 0 }
     {
         let judge = Judge::new(world);
@@ -251,12 +312,14 @@ impl<A: Allocator + Copy> Recording<A> {
             sweeps: 0,
         };
         keep_still(&mut reel, window, 0, &sight, judge.configuration(), take);
+        keep_layers(&mut lanes, window, 0, judge.configuration());
         Recording {
             judge,
             sight,
             reader: EventReader::new(),
             strip,
             reel,
+            lanes,
             window,
             ended: 0,
             events: 0,
@@ -275,6 +338,7 @@ impl<A: Allocator + Copy> Recording<A> {
         ensures window { self.new.window ≡ self.old.window }
         ensures limit { self.new.strip.limit ≡ self.old.strip.limit }
         ensures reel { room_of self.new.reel ≡ room_of self.old.reel }
+        ensures lanes { limit_of self.new.lanes ≡ limit_of self.old.lanes }
         ensures events { self.new.events < 2 ^ 61 }
     {
         byte_streams::laws::reading_in_pieces();
@@ -302,6 +366,7 @@ impl<A: Allocator + Copy> Recording<A> {
         ensures window { self.new.window ≡ self.old.window }
         ensures limit { self.new.strip.limit ≡ self.old.strip.limit }
         ensures reel { room_of self.new.reel ≡ room_of self.old.reel }
+        ensures lanes { limit_of self.new.lanes ≡ limit_of self.old.lanes }
         ensures events { self.new.events ≤ self.old.events + length piece.now }
     {
         let mut at = 0;
@@ -322,6 +387,7 @@ impl<A: Allocator + Copy> Recording<A> {
         ensures window { self.new.window ≡ self.old.window }
         ensures limit { self.new.strip.limit ≡ self.old.strip.limit }
         ensures reel { room_of self.new.reel ≡ room_of self.old.reel }
+        ensures lanes { limit_of self.new.lanes ≡ limit_of self.old.lanes }
     {
         if let Some(line) = self.reader.last() {
             self.line(line);
@@ -336,6 +402,7 @@ impl<A: Allocator + Copy> Recording<A> {
         ensures window { self.new.window ≡ self.old.window }
         ensures limit { self.new.strip.limit ≡ self.old.strip.limit }
         ensures reel { room_of self.new.reel ≡ room_of self.old.reel }
+        ensures lanes { limit_of self.new.lanes ≡ limit_of self.old.lanes }
         ensures events { self.new.events ≤ self.old.events + 1 }
     {
         match line {
@@ -353,6 +420,7 @@ impl<A: Allocator + Copy> Recording<A> {
         ensures window { self.new.window ≡ self.old.window }
         ensures limit { self.new.strip.limit ≡ self.old.strip.limit }
         ensures reel { room_of self.new.reel ≡ room_of self.old.reel }
+        ensures lanes { limit_of self.new.lanes ≡ limit_of self.old.lanes }
         ensures events { self.new.events ≡ self.old.events + 1 }
     {
         let before = self.judge.sweeps();
@@ -389,6 +457,12 @@ impl<A: Allocator + Copy> Recording<A> {
             self.judge.configuration(),
             take,
         );
+        keep_layers(
+            &mut self.lanes,
+            self.window,
+            self.ended,
+            self.judge.configuration(),
+        );
     }
 
     /// The columns, and how many moments each shows.
@@ -403,6 +477,25 @@ impl<A: Allocator + Copy> Recording<A> {
         ensures { option_map (λ reel. reel.now) result ≡ self.now.reel }
     {
         self.reel.as_ref()
+    }
+
+    /// What has settled at the last moment of each full column, if that is asked for.
+    pub fn lanes(&self) -> Option<&Lanes<A>>
+        ensures { option_map (λ lanes. lanes.now) result ≡ self.now.lanes }
+    {
+        self.lanes.as_ref()
+    }
+
+    /// What has settled at the end, if the window holds that moment.
+    pub fn settled_at_end(&self) -> Option<Layers>
+        ensures none { is_some result ≡ is_held self.now.window self.now.ended }
+        ensures layers { IfSome result (AreLayersOf (world_of self.now.judge.configuration)) }
+    {
+        if self.window.holds(self.ended) {
+            Some(Layers::of(self.judge.configuration()))
+        } else {
+            None
+        }
     }
 
     /// The nodes and links at the end.

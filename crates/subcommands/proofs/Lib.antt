@@ -6,3 +6,4 @@ pub mod Runs
 mod RowsTexts
 mod RowsFiles
 pub mod Listed
+mod RowsPlots

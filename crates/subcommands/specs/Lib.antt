@@ -9,6 +9,7 @@ pub mod Worst
 pub mod BoundData
 pub mod MeasuredData
 pub mod MeasuredCsv
+pub mod MeasuredPlot
 pub use Rattle.command_parts.specs as command_parts
 pub use Rattle.slow_runs.specs.experiments as experiments
 pub mod Hints

@@ -31,6 +31,7 @@ pub mod layers_text;
 pub mod measure;
 pub mod measure_csv;
 pub mod measure_json;
+pub mod measure_plot;
 pub mod network;
 pub mod schedule;
 pub mod scramble;

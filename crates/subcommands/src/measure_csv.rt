@@ -52,7 +52,7 @@ fn plan_csv<R: Eprint + Clock + Threads + Sync>(
 }
 
 /// Whether a run had as many sweeps as the sharper bound says, and served by then.
-fn has_settled(run: &Settling, bound: u32) -> bool
+pub(crate) fn has_settled(run: &Settling, bound: u32) -> bool
     ensures { result ≡ has_settled run.now bound }
 {
     run.seen >= u64::from(bound) && run.served <= u64::from(bound)

@@ -8,7 +8,7 @@ use Rattle.svg_drawing.specs.declared.canvas.Stroke.{Stroke}
 use Rattle.svg_drawing.specs.declared.element.Attribute.{Attribute}
 use Rattle.svg_drawing.specs.declared.element.Drawing.{Drawing}
 use Rattle.svg_drawing.specs.declared.element.Element.{Element as CodeElement}
-use Rattle.svg_drawing.specs.declared.colours.Colour.TheVariants.{Pale, Red, Ink}
+use Rattle.svg_drawing.specs.declared.colours.Colour.TheVariants.{Pale, Red, Ink, Sky, Vermilion}
 use Rattle.svg_drawing.specs.declared.canvas.Anchor.TheVariants.{Start, Middle, End}
 use Rattle.svg_drawing.specs.Colours.{colour_code}
 use Rattle.svg_drawing.specs.Drawn.{anchor_code, circle_shown, drawn, form_shown, given_of, heading_shown, line_shown, note_shown, numbered, path_shown, pen_of, rect_shown, shown_of, whole}
@@ -25,6 +25,12 @@ red = refl
 
 red_not-pale : colour_code Red ≢ colour_code Pale
 red_not-pale = grind arith
+
+vermilion : colour_code Vermilion ≡ codes "#d55e00"
+vermilion = refl
+
+sky_not-vermilion : colour_code Sky ≢ colour_code Vermilion
+sky_not-vermilion = grind arith
 
 -- a length that 32 bits do not hold is the greatest that they hold
 longest : px 4294967296 ≡ 4294967295

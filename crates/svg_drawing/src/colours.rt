@@ -22,6 +22,15 @@ pub enum Colour {
     Faint,
     /// The background.
     Paper,
+    /// The links, the first of the four layers of the proof. The colours of these four are of the
+    /// palette that Okabe and Ito made so that the colour-blind tell them apart.
+    Sky,
+    /// The tree, the second layer.
+    Green,
+    /// The token ring, the third layer.
+    Purple,
+    /// The loans and the service, the fourth layer.
+    Vermilion,
 }
 
 impl Colour {
@@ -38,6 +47,10 @@ impl Colour {
             Colour::Blue => "#0b5394",
             Colour::Faint => "#b4bac0",
             Colour::Paper => "#ffffff",
+            Colour::Sky => "#56b4e9",
+            Colour::Green => "#009e73",
+            Colour::Purple => "#cc79a7",
+            Colour::Vermilion => "#d55e00",
         }
     }
 }

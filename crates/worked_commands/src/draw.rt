@@ -28,6 +28,7 @@ impl std::io::Read for Broken {
 const WANTED: Wanted = Wanted {
     columns: 1,
     window: Window::ALL,
+    layers: false,
 };
 
 /// How a drawing ended: the number of refused lines, or the fault.

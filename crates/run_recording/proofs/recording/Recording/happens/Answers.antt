@@ -18,7 +18,7 @@ returns-clause-records g c =
     let accepted = accepted_is c.step.result _ c.step.ensures.ok c.step.ensures.err ∙ sym c.is_ok-accepted.ensures.value in
     let damaged = c.is_damage-damaged.ensures (world_of c.self.inside.judge.configuration) accepted ∙ ap (λ w. is_damage w e) now.seen.judging.now_is in
     let there = ap world_of c.configuration.ensures in
-    let sight = c.follow.ensures (world_of c.self.inside.judge.configuration) c.self.invariant.1.is (there ∙ c.step.ensures.world)
+    let sight = c.follow.ensures (world_of c.self.inside.judge.configuration) c.self.invariant.2.is (there ∙ c.step.ensures.world)
     ∙ ap sight_of (there ∙ seen.judging.now_is) in
     let net = c.net.ensures ∙ ap (λ k. (world_of k).net) c.configuration-2.ensures ∙ ap (λ w. w.net) seen.judging.now_is in
     let moment_is =
@@ -27,12 +27,14 @@ returns-clause-records g c =
     let empty = c.is_empty.ensures ∙ ap (λ xs. length xs == 0) c.columns.ensures in
     let place = ap world_of c.configuration-3.ensures ∙ seen.judging.now_is in
     let kept = c.keep_still.ensures.shows world now.stills sight place now.reeled in
+    let end = ap world_of c.configuration-4.ensures ∙ seen.judging.now_is in
+    let worlds = c.keep_layers.ensures.keeps h.worlds now.laned in
     recorded_more start es e _ _ before after c.moment_of-moment.result _ now seen (c.sweeps-before.ensures.sweeps start es now.seen)
     (c.sweeps-sweeps.ensures.sweeps start (es ++ e ∷ []) seen) moment_is refl c.saturating_add-self-inside.ensures
-    (c.keep.ensures.shows now.moments now.shown) refl empty c.now_where-self-inside.ensures (rw damaged at kept)
+    (c.keep.ensures.shows now.moments now.shown) refl empty c.now_where-self-inside.ensures (rw damaged at kept) (rw end at worlds)
 
 pub invariant_of-self : goal.invariant_of-self
 invariant_of-self g c =
     let there = ap world_of c.configuration.ensures in
-    let seen = c.follow.ensures (world_of c.self.inside.judge.configuration) c.self.invariant.1.is (there ∙ c.step.ensures.world) in
-    (omega (arith, c.keep.ensures.moments, c.self.invariant.0), record { is = seen ∙ ap sight_of there })
+    let seen = c.follow.ensures (world_of c.self.inside.judge.configuration) c.self.invariant.2.is (there ∙ c.step.ensures.world) in
+    (omega (arith, c.keep.ensures.moments, c.self.invariant.0), omega (arith, c.keep_layers.ensures.moments, c.self.invariant.1), record { is = seen ∙ ap sight_of there })

@@ -10,22 +10,26 @@ returns-clause-recorded g c =
     let w = world_of c.args.world in
     let sight : c.of-sight.result ≡ sight_of w = c.of-sight.ensures ∙ ap (λ k. sight_of (world_of k)) (c.configuration.ensures ∙ c.new-judge.ensures.configuration) in
     let net = c.net.ensures ∙ ap (λ k. (world_of k).net) (c.configuration-2.ensures ∙ c.new-judge.ensures.configuration) in
+    let place = ap world_of (c.configuration-3.ensures ∙ c.new-judge.ensures.configuration) in
+    let there = ap world_of (c.configuration-4.ensures ∙ c.new-judge.ensures.configuration) in
     let moment_is = c.moment_of-start.ensures w sight net in
     begun w _ c.moment_of-start.result c.new-judge.ensures.judging refl refl refl refl moment_is (c.keep.ensures.shows [] c.requires.strip)
-    (c.keep_still.ensures.shows w [] sight (ap world_of (c.configuration-3.ensures ∙ c.new-judge.ensures.configuration)) c.requires.reel)
+    (c.keep_still.ensures.shows w [] sight place c.requires.reel) (rw there at (c.keep_layers.ensures.keeps [] c.requires.lanes))
 
 pub returns-clause-reading : goal.returns-clause-reading
 returns-clause-reading g c =
     let w = world_of c.args.world in
     let sight : c.of-sight.result ≡ sight_of w = c.of-sight.ensures ∙ ap (λ k. sight_of (world_of k)) (c.configuration.ensures ∙ c.new-judge.ensures.configuration) in
     let net = c.net.ensures ∙ ap (λ k. (world_of k).net) (c.configuration-2.ensures ∙ c.new-judge.ensures.configuration) in
+    let place = ap world_of (c.configuration-3.ensures ∙ c.new-judge.ensures.configuration) in
+    let there = ap world_of (c.configuration-4.ensures ∙ c.new-judge.ensures.configuration) in
     let moment_is = c.moment_of-start.ensures w sight net in
     record {
       stands = c.new.ensures;
       recorded = begun w _ c.moment_of-start.result c.new-judge.ensures.judging refl refl refl refl moment_is (c.keep.ensures.shows [] c.requires.strip)
-          (c.keep_still.ensures.shows w [] sight (ap world_of (c.configuration-3.ensures ∙ c.new-judge.ensures.configuration)) c.requires.reel);
+          (c.keep_still.ensures.shows w [] sight place c.requires.reel) (rw there at (c.keep_layers.ensures.keeps [] c.requires.lanes));
     }
 
 pub invariant_of-result : goal.invariant_of-result
 invariant_of-result g c =
-    (grind (arith, common_steps), record { is = c.of-sight.ensures ∙ ap (λ k. sight_of (world_of k)) c.configuration.ensures })
+    (grind (arith, common_steps), grind (arith, common_steps), record { is = c.of-sight.ensures ∙ ap (λ k. sight_of (world_of k)) c.configuration.ensures })

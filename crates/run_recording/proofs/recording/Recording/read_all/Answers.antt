@@ -7,7 +7,7 @@ use Rattle.run_recording.proofs.recording.Recording.read_all.Goals as goal
 pub returns-then-count-eq0-clause-text : goal.returns-then-count-eq0-clause-text
 returns-then-count-eq0-clause-text g c =
     λ start bytes said h.
-    let so_far = c.loop-count.invariant.6 start bytes said h in
+    let so_far = c.loop-count.invariant.7 start bytes said h in
     let n = longest_text - c.loop-count.left in
     let room : 0 < length c.read.new.buffer = grind (arith, common_steps) in
     let gives = rw c.if-count-eq0.true at c.in-Ok.ensures.reads.1 in
@@ -28,8 +28,9 @@ loop-count-preserved g c =
       grind (arith, common_steps),
       grind (arith, common_steps),
       grind (arith, common_steps),
+      grind (arith, common_steps),
       λ start bytes said h.
-          let so_far = c.loop-count.invariant.6 start bytes said h in
+          let so_far = c.loop-count.invariant.7 start bytes said h in
           let gives = c.in-Ok.ensures.reads.1 in
           let read = rw next at (c.reading_in_pieces.ensures.more bytes n count _ _ c.read.new.buffer (so_far.0, so_far.1) gives) in
           let bytes_are = c.reading_in_pieces.ensures.next bytes n count c.min.result _ _ c.read.new.buffer (so_far.0, so_far.1) gives few ∙ ap (λ k. take k bytes) all in

@@ -20,9 +20,10 @@ loop-at-preserved g c =
       grind (arith, common_steps),
       grind (arith, common_steps),
       grind (arith, common_steps),
+      grind (arith, common_steps),
       λ start bytes h.
           let so_far = bytes ++ take at piece in
-          let now = rw (← c.self.view_is) at c.loop-at.invariant.5 start bytes h in
+          let now = rw (← c.self.view_is) at c.loop-at.invariant.6 start bytes h in
           let ends : ended_lines (so_far ++ more) ≡ ended_lines so_far ++ c.in-Some.line ∷ [] =
           c.take-taken.ensures.line so_far now.stands ∙ ap (λ line. ended_lines so_far ++ option_to_list line) c.in-Some.is in
           let longer : take (at + used) piece ≡ take at piece ++ more =
@@ -41,7 +42,7 @@ returns-in_default-clause-text g c =
     let used = c.take-taken.result.used in
     let more = take used (take (length piece - at) (drop at piece)) in
     let so_far = bytes ++ take at piece in
-    let now = rw (← c.self.view_is) at c.loop-at.invariant.5 start bytes h in
+    let now = rw (← c.self.view_is) at c.loop-at.invariant.6 start bytes h in
     let ends : ended_lines (so_far ++ more) ≡ ended_lines so_far =
     c.take-taken.ensures.line so_far now.stands ∙ ap (λ line. ended_lines so_far ++ option_to_list line) c.in_default.is ∙ append-nil (ended_lines so_far) in
     let rest : piece ≡ take at piece ++ more = grind (arith, common_steps) in
@@ -54,4 +55,4 @@ returns-clause-text g c =
     let piece = c.args.piece.now in
     let end : c.loop-at.at ≡ length piece = grind (arith, common_steps) in
     let all : take c.loop-at.at piece ≡ piece = grind (arith, common_steps) in
-    rw all at c.loop-at.invariant.5 start bytes h
+    rw all at c.loop-at.invariant.6 start bytes h

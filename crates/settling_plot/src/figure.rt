@@ -1,0 +1,106 @@
+//! What is plotted.
+ghost use Rattle.std.specs.Prelude.{◌≡◌};
+ghost use Rattle.svg_drawing.specs.Drawn.{pen_of};
+ghost use Rattle.settling_plot.specs.Figures.{layer_words, layer_pen, row_of, last_bound};
+
+use svg_drawing::{Colour, Px, Stroke};
+
+/// When a layer stood for good, run by run.
+#[derive(Drop)]
+pub struct Distribution {
+    /// After how many sweeps it stood for good, in each run that counts.
+    pub sweeps: Vec<u64>,
+    /// After how many sweeps at most it stands in every run, as is proved.
+    pub bound: u32,
+}
+
+/// When each of the four layers stood for good in many runs.
+#[derive(Drop)]
+pub struct Figure {
+    /// How many nodes the network has.
+    pub nodes: u16,
+    /// How many runs there were. A run that does not count for a layer is missing in its curve.
+    pub runs: u32,
+    /// The first run's seed.
+    pub seed: u32,
+    /// When every link was stable.
+    pub links: Distribution,
+    /// When the tree was reached.
+    pub tree: Distribution,
+    /// When the token ring was good.
+    pub ring: Distribution,
+    /// When the network served.
+    pub served: Distribution,
+}
+
+impl Figure {
+    /// The greatest of the four bounds.
+    pub(crate) fn last_bound(&self) -> u32
+        ensures { result ≡ last_bound self.now }
+    {
+        let lower = self.links.bound.max(self.tree.bound);
+        lower.max(self.ring.bound.max(self.served.bound))
+    }
+}
+
+/// A layer of the proof.
+#[derive(Clone, Copy, Debug, PartialEq, Eq)]
+pub enum Layer {
+    /// Every link is stable.
+    Links,
+    /// The tree is reached.
+    Tree,
+    /// The token ring is good.
+    Ring,
+    /// The network serves.
+    Served,
+}
+
+impl Layer {
+    /// What the legend calls it.
+    pub(crate) fn words(self) -> &'static str
+        ensures { result.now ≡ layer_words self }
+    {
+        match self {
+            Layer::Links => "links stable",
+            Layer::Tree => "tree reached",
+            Layer::Ring => "token ring good",
+            Layer::Served => "network serves",
+        }
+    }
+
+    /// How its curve is drawn: in a colour, and with dashes, of its own.
+    pub(crate) fn stroke(self) -> Stroke
+        ensures { pen_of result ≡ layer_pen self }
+    {
+        match self {
+            Layer::Links => stroke(Colour::Sky, "none"),
+            Layer::Tree => stroke(Colour::Green, "9 3"),
+            Layer::Ring => stroke(Colour::Purple, "5 2"),
+            Layer::Served => stroke(Colour::Vermilion, "2 2"),
+        }
+    }
+
+    /// Its place among the four, from below.
+    pub(crate) fn row(self) -> usize
+        ensures { result ≡ row_of self }
+    {
+        match self {
+            Layer::Links => 0,
+            Layer::Tree => 1,
+            Layer::Ring => 2,
+            Layer::Served => 3,
+        }
+    }
+}
+
+/// The line of a curve.
+fn stroke(colour: Colour, dashes: &'static str) -> Stroke
+    ensures { pen_of result ≡ record { colour = colour; width = 2; dashes = dashes.now } }
+{
+    Stroke {
+        colour,
+        width: Px(2),
+        dashes,
+    }
+}
