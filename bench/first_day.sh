@@ -228,6 +228,7 @@ sleep 1
 ends 2 'tokentree: no command follows --: leave -- out to hold the lock until standard input ends; try: tokentree help lock' \
     lock waits 1 --
 locks 125 /etc/passwd 1 -- true
+[ "$(cat said)" = 'tokentree: there is no folder /etc/passwd' ] || wrong "lock /etc/passwd says $(cat said)"
 locks 125 waits 9 -- true
 grep -q '^tokentree: nobody listens at waits/desk-9.sock' said || wrong "lock waits 9 says $(cat said)"
 ends 1 'tokentree: node 9 never ran in waits, which has neither a socket nor a state of it' status waits 9
