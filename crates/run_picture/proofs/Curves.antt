@@ -25,14 +25,14 @@ steps_more page node place (c ∷ counts) count =
     ∙ sym (append_assoc (step_in page node place c) (steps_from page node (suc place) counts) (step_in page node (place + length (c ∷ counts)) count))
 
 -- what is seen in the first columns, and in one more
-first_more : (f : Column → ℕ) (columns : List Column) (place : ℕ) (d : Column) → place < length columns
+pub first_more : {X : Type 0} (f : X → ℕ) (columns : List X) (place : ℕ) (d : X) → place < length columns
     → take (suc place) (map f columns) ≡ take place (map f columns) ++ f (slice_index_or columns place d) ∷ []
 first_more f [] place d within = grind (arith, common_steps)
 first_more f (c ∷ columns) zero d within = refl
 first_more f (c ∷ columns) (suc place) d within = ap (λ xs. f c ∷ xs) (first_more f columns place d (omega (arith, within)))
 
 -- as much is seen as there are columns
-map_length : (f : Column → ℕ) (columns : List Column) → length (map f columns) ≡ length columns
+pub map_length : {X : Type 0} (f : X → ℕ) (columns : List X) → length (map f columns) ≡ length columns
 map_length f [] = refl
 map_length f (c ∷ columns) = ap suc (map_length f columns)
 
@@ -48,7 +48,7 @@ curve_more page node f columns place d within =
     ∙ ap (λ k. steps_from page node 0 (take place (map f columns)) ++ step_in page node k (f (slice_index_or columns place d))) here
 
 -- where as many are taken as there are, all are
-pub all_counts : (f : Column → ℕ) (columns : List Column) (place : ℕ) → length columns ≡ place → take place (map f columns) ≡ map f columns
+pub all_counts : {X : Type 0} (f : X → ℕ) (columns : List X) (place : ℕ) → length columns ≡ place → take place (map f columns) ≡ map f columns
 all_counts f [] place all = grind (arith, common_steps)
 all_counts f (c ∷ columns) zero all = grind (arith, common_steps)
 all_counts f (c ∷ columns) (suc place) all = ap (λ xs. f c ∷ xs) (all_counts f columns place (omega (arith, all)))

@@ -10,6 +10,7 @@ pub mod Sweeps
 pub mod Axis
 pub mod Parts
 pub mod Lanes
+pub mod Settled
 mod Rows
 mod RowsPicture
 mod RowsShown

@@ -22,6 +22,14 @@ three_parts (Ok value) old one two new a b c is_one is_two added =
     added ∙ ap (λ xs. xs ++ c) (is_two ∙ ap (λ xs. xs ++ b) is_one) ∙ append_assoc (old ++ a) b c ∙ append_assoc old a (b ++ c)
 three_parts (Err fault) old one two new a b c is_one is_two added = added
 
+-- four parts
+pub four_parts : {T E : Type 0} (result : Result T E) (old one two three new a b c d : List Shown) → one ≡ old ++ a → two ≡ one ++ b → three ≡ two ++ c
+    → OnOk result (new ≡ three ++ d) → OnOk result (new ≡ old ++ (a ++ (b ++ (c ++ d))))
+four_parts (Ok value) old one two three new a b c d is_one is_two is_three added =
+    added ∙ ap (λ xs. xs ++ d) (is_three ∙ ap (λ xs. xs ++ c) (is_two ∙ ap (λ xs. xs ++ b) is_one))
+    ∙ append_assoc ((old ++ a) ++ b) c d ∙ append_assoc (old ++ a) b (c ++ d) ∙ append_assoc old a (b ++ (c ++ d))
+four_parts (Err fault) old one two three new a b c d is_one is_two is_three added = added
+
 -- five parts in either grouping, of which two are one element each
 grouped : (old a d e : List Shown) (b c : Shown)
     → ((((old ++ a) ++ (b ∷ [])) ++ (c ∷ [])) ++ d) ++ e ≡ old ++ (a ++ (b ∷ (c ∷ (d ++ e))))

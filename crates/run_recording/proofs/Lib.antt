@@ -1,3 +1,4 @@
+pub mod Seconds
 pub mod Ends
 pub mod Marks
 pub mod Columns

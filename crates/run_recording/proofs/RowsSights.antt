@@ -4,6 +4,7 @@ use Rattle.std.proofs.Common.{◌≡◌, ◌≢◌, ◌==◌, ◌&&◌, if◌the
 use Rattle.std.proofs.lemmas.Grind.{common_steps}
 use Rattle.world.specs.judge.node_core.lock_desk.Desk.{no_desk}
 use Rattle.world.specs.run_model.World.{World}
+use Rattle.world.specs.run_model.link_model.declared.item.Item.TheVariants.{Noise}
 use Rattle.world.specs.run_model.Start.{default_world}
 use Rattle.world.specs.run_model.Step.{with_desk}
 use Rattle.run_recording.proofs.RowsTwo.{two_nodes, calm}
@@ -84,9 +85,9 @@ differs_not-root h = absurd (grind (arith, ap (λ s. s.desk.lent) (h.nodes 1 (om
 
 -- ---- what is under way
 
--- two frames are under way from the root to its child
+-- two items are under way from the root to its child
 abbrev sent : World
-sent = record calm { link = λ u v. if (u == 0) && (v == 1) then None ∷ None ∷ [] else [] }
+sent = record calm { link = λ u v. if (u == 0) && (v == 1) then Noise ∷ Noise ∷ [] else [] }
 
 under_way-two : sent_between sent 0 1 ≡ 2
 under_way-two = refl

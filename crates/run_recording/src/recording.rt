@@ -1,6 +1,6 @@
 //! What is kept of a run for its picture.
 ghost use Rattle.std.specs.Prelude.{◌≡◌, ◌+◌, ◌^◌, ◌<◌, ◌≤◌, ℕ, List, [], ◌∷◌, ◌++◌, Some, IfOk};
-ghost use Rattle.std.specs.Prelude.{length, option_map, if◌then◌else◌};
+ghost use Rattle.std.specs.Prelude.{length, is_some, option_map, if◌then◌else◌, IfSome};
 ghost use Rattle.world.specs.judge.configuration.ConfigurationView.{world_of};
 ghost use Rattle.run_recording.specs.Filmed.{room_of, IsReeled};
 ghost use Rattle.world.specs.judge.Judging.{counted_up_to};

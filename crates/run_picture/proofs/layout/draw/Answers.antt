@@ -2,8 +2,8 @@ use Rattle.std.proofs.Common.{◌≡◌, ◌∙◌, ◌++◌, ap, subst, length}
 use Rattle.run_picture.specs.Added.{Adds}
 use Rattle.svg_drawing.specs.Drawn.{drawn}
 use Rattle.run_picture.specs.Lanes.{AreLanes}
-use Rattle.run_picture.specs.Page.{page_of}
-use Rattle.run_picture.specs.Picture.{page_attributes}
+use Rattle.run_picture.specs.Page.{page_of, page_width}
+use Rattle.run_picture.specs.Picture.{attributes_of, page_attributes}
 use Rattle.run_picture.specs.Tree.{tree_shown}
 use Rattle.run_picture.proofs.Picture.{drawn_run}
 use Rattle.run_picture.proofs.layout.draw.Goals as goal
@@ -23,7 +23,9 @@ returns c =
     subst (λ o. Adds (AreLanes page columns 0 o) (drawn c.draw_tree.new.canvas) (drawn c.draw_lanes.new.canvas)) c.as_slice-2.ensures.value
     c.in_ok-draw_lanes.ensures in
     record {
-      attributes = c.in_ok-page_attributes.ensures ∙ ap page_attributes (c.new-page.ensures ∙ ap (λ cs. page_of net (length cs)) is_columns);
+      attributes = c.in_ok-page_attributes.ensures ∙ ap (λ w. attributes_of w c.height.result.0) c.width.ensures
+          ∙ ap (λ h. attributes_of (page_width page) h) c.height.ensures
+          ∙ ap page_attributes (c.new-page.ensures ∙ ap (λ cs. page_of net (length cs)) is_columns);
       elements = drawn_run net r page order columns c.width-width.result c.before-before.result (drawn c.new-canvas.result)
           (drawn c.draw_head.new.canvas) (drawn c.draw_legend.new.canvas) (drawn c.draw_tree.new.canvas) (drawn c.draw_lanes.new.canvas)
           (drawn c.draw_levels.new.canvas) (drawn c.draw_curves.new.canvas) (drawn c.draw_axis.new.canvas) (drawn c.draw_ruler.new.canvas)

@@ -28,7 +28,7 @@ returns-clause-records g c =
     let place = ap world_of c.configuration-3.ensures ∙ seen.judging.now_is in
     let kept = c.keep_still.ensures.shows world now.stills sight place now.reeled in
     let end = ap world_of c.configuration-4.ensures ∙ seen.judging.now_is in
-    let worlds = c.keep_layers.ensures.keeps h.worlds now.laned in
+    let worlds = c.keep_layers.ensures.keeps now.worlds now.laned in
     recorded_more start es e _ _ before after c.moment_of-moment.result _ now seen (c.sweeps-before.ensures.sweeps start es now.seen)
     (c.sweeps-sweeps.ensures.sweeps start (es ++ e ∷ []) seen) moment_is refl c.saturating_add-self-inside.ensures
     (c.keep.ensures.shows now.moments now.shown) refl empty c.now_where-self-inside.ensures (rw damaged at kept) (rw end at worlds)
