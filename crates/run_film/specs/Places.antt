@@ -1,5 +1,5 @@
 -- Where the nodes stand, and lines between them.
-use Rattle.std.specs.Prelude.{◌≡◌, ℕ, ◌+◌, ◌-◌, ◌*◌, ◌/◌, ◌≤◌, ◌<◌, ◌⊎◌, Bool, ◌||◌, nat_lt, IsTrue, if◌then◌else◌, List, ◌++◌, codes, decimal, slice_index_or}
+use Rattle.std.specs.Prelude.{◌≡◌, ℕ, ◌+◌, ◌-◌, ◌*◌, ◌/◌, ◌≤◌, ◌<◌, ◌⊎◌, Bool, ◌||◌, not, nat_lt, IsTrue, if◌then◌else◌, List, ◌++◌, codes, decimal, slice_index_or}
 use Rattle.topology.specs.Network.{Network}
 use Rattle.topology.specs.Tree.{distance_of}
 use Rattle.svg_drawing.specs.Lengths.{px}
@@ -53,7 +53,19 @@ IsBetween a b x = (x ≡ quarter a b) ⊎ (x ≡ corner a b)
 abbrev pub past_middle : ℕ → ℕ → ℕ
 past_middle a b = px (px (a * 3) + px (b * 5)) / 2 / 2 / 2
 
+-- there is room for words between two neighbours in a row; there is none for a number
+abbrev pub is_wide : Stage → Bool
+is_wide stage = not (nat_lt stage.stride.0 112)
+
+abbrev pub is_narrow : Stage → Bool
+is_narrow stage = nat_lt stage.stride.0 64
+
 -- ---- words beside nodes
+
+-- half of the width of the widest words of a ticket, `lends to 65535`, or `to 65535` if there is no room for that,
+-- with 7 for a letter
+abbrev pub half_width : Stage → ℕ
+half_width stage = if is_wide stage then 49 else 28
 
 -- Words of this half of a width, whose line begins 10 above this place and ends 3 below it, keep clear of a
 -- node with its signs, which reaches 21 to each side.

@@ -1,5 +1,5 @@
 //! The line from a node to another, so that it goes through no third one.
-ghost use Rattle.std.specs.Prelude.{◌≡◌, ◌+◌, ◌/◌, IfOk, string_bytes};
+ghost use Rattle.std.specs.Prelude.{◌≡◌, ◌+◌, ◌-◌, ◌/◌, IfOk, max, string_bytes};
 ghost use Rattle.svg_drawing.specs.Lengths.{px};
 ghost use Rattle.run_film.specs.Places.{place_in, IsWay, IsWayFrom, IsWayFromMiddle};
 ghost use Rattle.run_film.specs.Places.{corner, past_middle, quarter, IsBetween};
@@ -28,7 +28,9 @@ struct Bent {
 }
 
 /// How far two lengths are apart.
-fn apart(a: Px, b: Px) -> Px {
+pub fn apart(a: Px, b: Px) -> Px
+    ensures { result.0 ≡ max (a.0 - b.0) (b.0 - a.0) }
+{
     Px((a - b).0.max((b - a).0))
 }
 
@@ -222,43 +224,33 @@ pub fn last_quarter(alloc: Global, stage: &Stage, v: u16, w: u16) -> Result<Stri
     format!(in alloc; "M{x} {y}L{end} {low}")
 }
 
-/// Adds places along the line between two nodes, close to one another.
-pub fn put_places(
-    places: &mut Vec<Point>,
-    stage: &Stage,
-    v: u16,
-    w: u16,
-) -> Result<(), AllocError> {
-    let (from, to) = (stage.at(v), stage.at(w));
-    match bend_of(stage, from, to) {
-        None => put_straight(places, from, to),
-        Some(bent) => {
-            put_straight(places, from, bent.near)?;
-            put_straight(places, bent.near, bent.far)?;
-            put_straight(places, bent.far, to)
-        }
-    }
+/// The line between two nodes, as the straight parts that it nearly is.
+#[derive(Clone, Copy)]
+pub struct Line {
+    /// Where it begins.
+    pub start: Point,
+    /// Its corner near that place; the same if it is straight.
+    pub near: Point,
+    /// Its corner near its end; the same if it is straight.
+    pub far: Point,
+    /// Where it ends.
+    pub end: Point,
 }
 
-/// Into how many parts a straight line is divided at most.
-const PARTS: usize = 512;
-
-/// Adds places along the straight line between two places, about 8 apart.
-fn put_straight(places: &mut Vec<Point>, from: Point, to: Point) -> Result<(), AllocError> {
-    let long = apart(from.x, to.x) + apart(from.y, to.y);
-    let parts = ((long.0 / 8) as usize + 1).min(PARTS);
-    for part in 0..parts + 1 {
-        places.push(Point {
-            x: divided(from.x, to.x, part, parts),
-            y: divided(from.y, to.y, part, parts),
-        })?;
+/// The line between two nodes.
+pub fn line_of(stage: &Stage, v: u16, w: u16) -> Line
+    ensures start { result.start ≡ place_in stage.now v }
+    ensures end { result.end ≡ place_in stage.now w }
+{
+    let (start, end) = (stage.at(v), stage.at(w));
+    let (near, far) = match bend_of(stage, start, end) {
+        None => (start, end),
+        Some(bent) => (bent.near, bent.far),
+    };
+    Line {
+        start,
+        near,
+        far,
+        end,
     }
-    Ok(())
-}
-
-/// So many parts of the way from a length to another.
-fn divided(a: Px, b: Px, part: usize, parts: usize) -> Px {
-    let left = parts.saturating_sub(part);
-    let sum = a * left + b * part;
-    Px((u64::from(sum.0) / (parts as u64).max(1)) as u32)
 }

@@ -10,7 +10,7 @@ ghost use Rattle.run_film.specs.Tracks.{track_shown};
 
 use crate::pace::Shown;
 use crate::stage::Stage;
-use crate::tickets::Tickets;
+use crate::tickets::ticket_place;
 use crate::track::Track;
 use crate::waiting::put_all_waiting;
 use crate::words::words;
@@ -135,12 +135,11 @@ pub fn put_nodes(
     ensures nodes { OnOk result (ShowsNodes (map grouped_of groups.new.items) (film_of shown.entry) net.now) }
     ensures keeps { OnOk result (Keeps (map grouped_of groups.old.items) (map grouped_of groups.new.items)) }
 {
-    let tickets = Tickets::of(alloc, net, stage, shown)?;
     for v in 0..net.nodes() {
         put_track(alloc, groups, shown, Track::Parent(v), ORIGIN)?;
     }
     for v in 0..net.nodes() {
-        put_node(alloc, groups, net, stage, shown, &tickets, v)?;
+        put_node(alloc, groups, net, stage, shown, v)?;
     }
     Ok(())
 }
@@ -152,14 +151,13 @@ fn put_node(
     net: &Net,
     stage: &Stage,
     shown: Shown<'_>,
-    tickets: &Tickets,
     v: u16,
 ) -> Result<(), AllocError>
     ensures { OnOk result (AddsNode (map grouped_of groups.old.items)
         (map grouped_of groups.new.items) (film_of shown.entry) v) }
 {
     let at = stage.at(v);
-    let beside = tickets.place(net, stage, v);
+    let beside = ticket_place(net, stage, v);
     put_track(alloc, groups, shown, Track::Mark(v), at)?;
     put_track(alloc, groups, shown, Track::Distance(v), at)?;
     put_track(alloc, groups, shown, Track::Ticket(v), beside)?;

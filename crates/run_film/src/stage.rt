@@ -1,7 +1,7 @@
 //! Where the nodes stand.
 ghost use Rattle.std.specs.Prelude.{◌≡◌, ◌<◌, ◌≤◌, ◌+◌, ◌*◌, ℕ, slice_index_or};
 ghost use Rattle.topology.specs.Tree.{distance_of};
-ghost use Rattle.run_film.specs.Places.{place_in, root_place, IsStage};
+ghost use Rattle.run_film.specs.Places.{is_narrow, is_wide, place_in, root_place, IsStage};
 
 use svg_drawing::{Point, Px};
 use topology::Net;
@@ -119,12 +119,16 @@ impl Stage {
     }
 
     /// Whether there is room for words between two neighbours in a row.
-    pub fn is_wide(&self) -> bool {
+    pub fn is_wide(&self) -> bool
+        ensures { result ≡ is_wide self.now }
+    {
         self.stride.0 >= WIDE
     }
 
     /// Whether there is no room for a number between two neighbours in a row.
-    pub fn is_narrow(&self) -> bool {
+    pub fn is_narrow(&self) -> bool
+        ensures { result ≡ is_narrow self.now }
+    {
         self.stride.0 < NARROW
     }
 

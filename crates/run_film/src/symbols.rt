@@ -15,13 +15,15 @@ use crate::frames::put_frame_symbols;
 use crate::pace::Shown;
 use crate::shapes::{circle, form, outline, symbol};
 use crate::stage::Stage;
-use crate::tickets::{ticket_text, tickets_in};
 use crate::track::{is_named, look_of};
 use crate::words::words;
 use run_recording::Still;
 use std::alloc::{AllocError, Global};
 use svg_drawing::{Element, Group, Point, Px};
 use topology::Net;
+
+/// The most tickets that have a symbol.
+const MOST_TICKETS: usize = 256;
 
 /// The place of what is drawn round its own middle.
 const MIDDLE: Point = Point { x: Px(0), y: Px(0) };
@@ -369,11 +371,43 @@ fn put_tickets(
     stage: &Stage,
     shown: Shown<'_>,
 ) -> Result<(), AllocError> {
-    for ticket in tickets_in(alloc, net, shown)?.as_slice() {
+    let mut tickets: Vec<u16> = Vec::new(alloc);
+    note_tickets(&mut tickets, net, shown.opening())?;
+    for still in shown.later() {
+        note_tickets(&mut tickets, net, still)?;
+    }
+    for ticket in tickets.as_slice() {
         let name = format!(in alloc; "t{ticket}")?;
         groups.push(symbol_of(alloc, name.as_str(), ticket_text(alloc, stage, *ticket)?)?)?;
     }
     Ok(())
+}
+
+/// Notes the tickets that nodes lend to in a still, each once.
+fn note_tickets(tickets: &mut Vec<u16>, net: &Net, still: &Still) -> Result<(), AllocError> {
+    for v in 0..net.nodes() {
+        if let Some(ticket) = look_of(still, v).lent {
+            let is_new = tickets.iter().all(|other| *other != ticket);
+            if is_new && tickets.len() < MOST_TICKETS {
+                tickets.push(ticket)?;
+            }
+        }
+    }
+    Ok(())
+}
+
+/// A ticket, whose words stand to both sides of its place.
+fn ticket_text(alloc: Global, stage: &Stage, ticket: u16) -> Result<Element, AllocError> {
+    let words = if stage.is_wide() {
+        format!(in alloc; "lends to {ticket}")?
+    } else {
+        format!(in alloc; "to {ticket}")?
+    };
+    Element::new(alloc, "text")
+        .with(alloc, "text-anchor", "middle")?
+        .with(alloc, "class", "ink")?
+        .with(alloc, "fill", "#22262a")?
+        .saying(words.as_str())
 }
 
 /// The text of each number of sweeps that some still has.

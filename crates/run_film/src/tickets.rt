@@ -1,140 +1,63 @@
-//! The tickets to which nodes lend: their words, and a place for them that is clear of nodes and lines.
+//! Where the words of a ticket stand beside the node that lends to it: clear of nodes and lines.
 ghost use Rattle.std.specs.Prelude.{◌≡◌, ◌<◌, ℕ, IsTrue};
-ghost use Rattle.run_film.specs.Places.{is_clear_of, place_in, IsBelow, IsClearOfNodes, IsStage};
+ghost use Rattle.run_film.specs.Places.{half_width, is_clear_of, place_in, IsBelow, IsClearOfNodes, IsStage};
 
-use crate::curve::{REACH, put_places};
-use crate::pace::Shown;
+use crate::curve::{Line, REACH, apart, line_of};
 use crate::stage::Stage;
-use crate::track::look_of;
-use run_recording::{NO_EDGE, Still};
-use std::alloc::{AllocError, Global};
-use svg_drawing::{Element, Point, Px};
+use svg_drawing::{Point, Px};
 use topology::Net;
 
-/// The most tickets that have a symbol.
-const MOST_TICKETS: usize = 256;
+/// Into how many parts a straight line is divided at most.
+const PARTS: u32 = 512;
 
-/// How wide a letter or a digit is at most, on the average: fonts differ.
-const LETTER: Px = Px(7);
-
-/// The tickets that nodes lend to in some still, each once, the first so many.
-pub fn tickets_in(alloc: Global, net: &Net, shown: Shown<'_>) -> Result<Vec<u16>, AllocError> {
-    let mut tickets: Vec<u16> = Vec::new(alloc);
-    note_tickets(&mut tickets, net, shown.opening())?;
-    for still in shown.later() {
-        note_tickets(&mut tickets, net, still)?;
-    }
-    Ok(tickets)
+/// Half of the width of the widest words of a ticket: 14 letters of 7, or 8 if nodes stand close to one another.
+fn half_width(stage: &Stage) -> Px
+    ensures { result.0 ≡ half_width stage.now }
+{
+    if stage.is_wide() { Px(49) } else { Px(28) }
 }
 
-/// Notes the tickets that nodes lend to in a still, each once.
-fn note_tickets(tickets: &mut Vec<u16>, net: &Net, still: &Still) -> Result<(), AllocError> {
-    for v in 0..net.nodes() {
-        if let Some(ticket) = look_of(still, v).lent {
-            let is_new = tickets.iter().all(|other| *other != ticket);
-            if is_new && tickets.len() < MOST_TICKETS {
-                tickets.push(ticket)?;
-            }
+/// Where the ticket of a node stands: at the first of its places that is clear of all nodes and of the network's
+/// lines, or else below the node.
+pub fn ticket_place(net: &Net, stage: &Stage, v: u16) -> Point
+    ensures clear { IsStage net.now stage.now → v < net.now.nodes
+        → IsClearOfNodes net.now stage.now result (half_width stage.now) }
+{
+    let half = half_width(stage);
+    for place in possible_places(stage, half, v) {
+        if is_clear_of_nodes(net, stage, place, half) && is_clear_of_lines(net, stage, place, half)
+        {
+            return place;
         }
     }
-    Ok(())
+    below(stage, v)
 }
 
-/// The greatest of these tickets; 0 if there is none.
-fn greatest(tickets: &[u16]) -> u16 {
-    let mut most = 0;
-    for ticket in tickets {
-        most = most.max(*ticket);
-    }
-    most
-}
-
-/// The words of a ticket beside a node.
-fn ticket_words(alloc: Global, stage: &Stage, ticket: u16) -> Result<String, AllocError> {
-    if stage.is_wide() {
-        format!(in alloc; "lends to {ticket}")
-    } else {
-        format!(in alloc; "to {ticket}")
-    }
-}
-
-/// A ticket, whose words stand to both sides of its place.
-pub fn ticket_text(alloc: Global, stage: &Stage, ticket: u16) -> Result<Element, AllocError> {
-    let words = ticket_words(alloc, stage, ticket)?;
-    Element::new(alloc, "text")
-        .with(alloc, "text-anchor", "middle")?
-        .with(alloc, "class", "ink")?
-        .with(alloc, "fill", "#22262a")?
-        .saying(words.as_str())
-}
-
-/// Where tickets stand.
-#[derive(Drop)]
-pub struct Tickets {
-    /// Places along each line that some still has.
-    lines: Vec<Point>,
-    /// Half of the width of the widest of the words.
-    half: Px,
-}
-
-impl Tickets {
-    /// The tickets of a film.
-    pub fn of(
-        alloc: Global,
-        net: &Net,
-        stage: &Stage,
-        shown: Shown<'_>,
-    ) -> Result<Tickets, AllocError> {
-        let tickets = tickets_in(alloc, net, shown)?;
-        let widest = ticket_words(alloc, stage, greatest(tickets.as_slice()))?;
-        Ok(Tickets {
-            lines: lines_of(alloc, net, stage, shown)?,
-            half: (LETTER * widest.len()).half(),
-        })
-    }
-
-    /// Where the ticket of a node stands: at the first of its places that is clear of all nodes and lines, or
-    /// else below the node.
-    pub fn place(&self, net: &Net, stage: &Stage, v: u16) -> Point
-        ensures clear { IsStage net.now stage.now → v < net.now.nodes
-            → IsClearOfNodes net.now stage.now result self.now.half.0 }
-    {
-        for place in self.places(stage, v) {
-            if is_clear_of_nodes(net, stage, place, self.half)
-                && is_clear_of_lines(self.lines.as_slice(), place, self.half)
-            {
-                return place;
-            }
-        }
-        below(stage, v)
-    }
-
-    /// The places for the ticket of a node: beside it, and below it.
-    fn places(&self, stage: &Stage, v: u16) -> [Point; 5] {
-        let at = stage.at(v);
-        let low = below(stage, v).y;
-        let level = at.y + Px(7);
-        let (wide, near) = (self.half + Px(24), self.half + Px(6));
-        [
-            Point {
-                x: at.x + wide,
-                y: level,
-            },
-            Point {
-                x: at.x - wide,
-                y: level,
-            },
-            Point { x: at.x, y: low },
-            Point {
-                x: at.x + near,
-                y: low,
-            },
-            Point {
-                x: at.x - near,
-                y: low,
-            },
-        ]
-    }
+/// The places for the ticket of a node: beside it, and below it.
+fn possible_places(stage: &Stage, half: Px, v: u16) -> [Point; 5] {
+    let at = stage.at(v);
+    let low = below(stage, v).y;
+    let level = at.y + Px(7);
+    let (wide, near) = (half + Px(24), half + Px(6));
+    [
+        Point {
+            x: at.x + wide,
+            y: level,
+        },
+        Point {
+            x: at.x - wide,
+            y: level,
+        },
+        Point { x: at.x, y: low },
+        Point {
+            x: at.x + near,
+            y: low,
+        },
+        Point {
+            x: at.x - near,
+            y: low,
+        },
+    ]
 }
 
 /// The place below a node, and below its number if that stands there.
@@ -171,49 +94,58 @@ fn is_clear_of(node: Point, at: Point, half: Px) -> bool
     high + 31 < low || low + 24 < high || left + reach < right || right + reach < left
 }
 
-/// Whether they keep clear of these places along lines.
-fn is_clear_of_lines(lines: &[Point], at: Point, half: Px) -> bool {
-    lines.iter().all(|line| !covers(at, half, *line))
+/// Whether they keep clear of the line of each edge.
+fn is_clear_of_lines(net: &Net, stage: &Stage, at: Point, half: Px) -> bool {
+    net.edges()
+        .iter()
+        .all(|edge| is_clear_of_line(&line_of(stage, edge.0, edge.1), at, half))
 }
 
-/// Whether words at a place cover another, or nearly do.
-fn covers(at: Point, half: Px, line: Point) -> bool {
-    let reach = half + Px(4);
-    line.y.0 <= (at.y + Px(7)).0
-        && at.y.0 <= (line.y + Px(14)).0
-        && line.x.0 <= (at.x + reach).0
-        && at.x.0 <= (line.x + reach).0
+/// Whether they keep clear of a line.
+fn is_clear_of_line(line: &Line, at: Point, half: Px) -> bool {
+    let words = Words { at, half };
+    words.are_clear_of_part(line.start, line.near)
+        && words.are_clear_of_part(line.near, line.far)
+        && words.are_clear_of_part(line.far, line.end)
 }
 
-/// Places along each line that some still has.
-fn lines_of(
-    alloc: Global,
-    net: &Net,
-    stage: &Stage,
-    shown: Shown<'_>,
-) -> Result<Vec<Point>, AllocError> {
-    let mut edges: Vec<(u16, u16)> = Vec::new(alloc);
-    note_edges(&mut edges, shown.opening())?;
-    for still in shown.later() {
-        note_edges(&mut edges, still)?;
-    }
-    let mut lines = Vec::new(alloc);
-    for edge in edges.as_slice() {
-        let (v, w) = *edge;
-        put_places(&mut lines, stage, v, w)?;
-    }
-    Ok(lines)
+/// Words at a place, with half of their width.
+#[derive(Clone, Copy)]
+struct Words {
+    at: Point,
+    half: Px,
 }
 
-/// Notes the edges of a still, each once.
-fn note_edges(edges: &mut Vec<(u16, u16)>, still: &Still) -> Result<(), AllocError> {
-    for edge in still.edges.iter() {
-        let is_known = edges
-            .iter()
-            .any(|other| other.0 == edge.0 && other.1 == edge.1);
-        if !is_known && !(edge.0 == NO_EDGE.0 && edge.1 == NO_EDGE.1) {
-            edges.push(*edge)?;
-        }
+impl Words {
+    /// Whether they keep clear of the places along the straight line between two places, about 8 apart.
+    fn are_clear_of_part(self, from: Point, to: Point) -> bool {
+        let long = (apart(from.x, to.x) + apart(from.y, to.y)).0;
+        let parts = (long / 8 + 1).min(PARTS);
+        (0..parts + 1).all(
+            |part: u32| -> bool {
+                self.are_clear_of_point(
+                    Point {
+                        x: divided(from.x, to.x, part, parts),
+                        y: divided(from.y, to.y, part, parts),
+                    },
+                )
+            },
+        )
     }
-    Ok(())
+
+    /// Whether they cover no place of a line, and none near to them.
+    fn are_clear_of_point(self, line: Point) -> bool {
+        let (at, reach) = (self.at, self.half + Px(4));
+        (at.y + Px(7)).0 < line.y.0
+            || (line.y + Px(14)).0 < at.y.0
+            || (at.x + reach).0 < line.x.0
+            || (line.x + reach).0 < at.x.0
+    }
+}
+
+/// So many parts of the way from a length to another.
+fn divided(a: Px, b: Px, part: u32, parts: u32) -> Px {
+    let left = u64::from(a.0) * u64::from(parts.saturating_sub(part));
+    let sum = left + u64::from(b.0) * u64::from(part);
+    Px((sum / u64::from(parts.max(1))) as u32)
 }
