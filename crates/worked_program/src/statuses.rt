@@ -10,7 +10,7 @@ use subcommands::bound;
 use test_parts::{as_expected, is_expected};
 
 /// A command line, and its status.
-const ROWS: [(&str, u8); 99] = [
+const ROWS: [(&str, u8); 102] = [
     ("tokentree bound two.toml", 0),
     ("tokentree bound -- two.toml", 0),
     ("tokentree bound --sharp two.toml", 0),
