@@ -1,7 +1,10 @@
 //! The file of a plot of measured runs. No clause says what a file holds.
 use crate::nets::TWO_NODES;
 use std::process::ExitCode;
+use std::rt::Files;
 use std::test::Fail;
+use std::thread::Threads;
+use std::time::Clock;
 use std::{fs, str};
 use subcommands::measure::Plan;
 use subcommands::{Scheduler, measure_plot};
@@ -33,18 +36,23 @@ fn first_missing(text: &str, parts: &[&str]) -> Option<usize> {
 }
 
 /// The same in a file that is a text.
-fn first_missing_in(rt: &HostRuntime, path: &str) -> Result<Option<usize>, Fail> {
+fn first_missing_in<R: Files + AllocGlobal>(rt: &R, path: &str) -> Result<Option<usize>, Fail> {
     let bytes = fs::read(rt, path)?;
     Ok(first_missing(str::from_utf8(bytes.as_slice())?, &PARTS))
 }
 
 /// How the command ends that plots the runs of two nodes at a path.
-fn plot(rt: &HostRuntime, path: &str) -> Option<ExitCode> {
+fn plot<R: Files + Print + Eprint + Clock + AllocGlobal + Threads + Sync>(
+    rt: &R,
+    path: &str,
+) -> Option<ExitCode> {
     measure_plot::run(rt, "plot.toml", PLAN, path).ok()
 }
 
 /// Plots the runs. Returns how that ends, and the place of the first missing part.
-fn plotted(rt: &HostRuntime) -> Result<(Option<ExitCode>, Option<usize>), Fail> {
+fn plotted<R: Files + Print + Eprint + Clock + AllocGlobal + Threads + Sync>(
+    rt: &R,
+) -> Result<(Option<ExitCode>, Option<usize>), Fail> {
     fs::write(rt, "plot.toml", TWO_NODES)?;
     let status = plot(rt, "plot.svg");
     let missing = first_missing_in(rt, "plot.svg")?;
