@@ -1,6 +1,5 @@
 -- A list without harms is without damage, in whatever world it happens.
-use Rattle.std.proofs.Common.{◌≡◌, Bool, true, false, List, [], ◌∷◌, arith, refl}
-use Rattle.std.specs.Prelude.{◌||◌}
+use Rattle.std.proofs.Common.{◌≡◌, false, List, [], ◌∷◌, arith, refl}
 use Rattle.std.specs.List.{list_any}
 use Rattle.run_model.specs.World.{World}
 use Rattle.run_model.specs.Step.{step}

@@ -1,10 +1,9 @@
 -- Small examples of lists that are judged, and some that look like them and are none.
-use Rattle.std.proofs.Common.{◌≡◌, ◌≢◌, ◌≤◌, ℕ, true, false, suc, zero, [], ◌∷◌, Option, Some, None, refl, arith}
+use Rattle.std.proofs.Common.{◌≡◌, ◌≢◌, ℕ, true, [], ◌∷◌, Option, Some, None, refl, arith}
 use Rattle.std.proofs.lemmas.Grind.{common_steps}
-use Rattle.topology.specs.Eccentricity.{sharp_of}
 use Rattle.run_model.specs.declared.event.Event.TheVariants.{Damage, Tick}
 use Rattle.run_model.specs.declared.event.Harm.TheVariants.{Empty}
-use Rattle.run_model.proofs.RowsTwo.{two_nodes, calm}
+use Rattle.run_model.proofs.RowsTwo.{two_nodes}
 use Rattle.run_model.proofs.RowsServing.{two_tokens, two_tokens-do_not_serve}
 use Rattle.experiments.specs.Delays.{is_harm, IsDelayOf, IsReplayed}
 use Rattle.experiments.specs.Recovery.{counted_from, FailedLast}

@@ -1,19 +1,14 @@
 -- Small examples of what is seen of the layers, and some that look like them and are none.
-use Rattle.std.proofs.Common.{◌≡◌, ◌≢◌, ℕ, ◌<◌, false, true, [], ◌∷◌, Option, Some, None, IsTrue, refl, inl, inr, sym, arith}
+use Rattle.std.proofs.Common.{ℕ, true, [], Option, Some, None, refl, inl, inr, sym, arith}
 use Rattle.std.proofs.lemmas.Grind.{common_steps}
-use Rattle.topology.specs.Eccentricity.{eccentricity_of, sharp_of}
-use Rattle.run_model.specs.World.{World}
-use Rattle.run_model.specs.Count.{IsSweepCount}
 use Rattle.run_model.specs.Headline.{IsServing}
-use Rattle.run_model.specs.Links.{AreLinksStable}
-use Rattle.run_model.specs.Tree.{IsTreeReached}
 use Rattle.run_model.specs.declared.event.Event.TheVariants.{Tick}
 use Rattle.run_model.proofs.RowsTwo.{two_nodes, calm, calm-links_stable, calm-tree_reached}
-use Rattle.run_model.proofs.RowsServing.{calm-serves, two_tokens, two_tokens-do_not_serve}
+use Rattle.run_model.proofs.RowsServing.{calm-serves, two_tokens}
 use Rattle.layers.specs.convergence.Legitimate.{IsLegitimate}
 use Rattle.layers.specs.convergence.Ring.{IsTokenRingGood}
 use Rattle.experiments.specs.Layered.{HoldsFrom, IsSettlingOf, IsSettlingShown, IsSettlingWithin}
-use Rattle.experiments.specs.Recovery.{AreAnyLayersFirst, AreAnyLayersSeen, AreLayersNow, AreLayersSeen, AnyLayersGoOn, FailsLast, unseen}
+use Rattle.experiments.specs.Recovery.{AreAnyLayersFirst, AreAnyLayersSeen, AreLayersNow, AreLayersSeen, AnyLayersGoOn, unseen}
 use Rattle.experiments.specs.declared.layered_run.Settling.{Settling}
 use Rattle.experiments.specs.declared.layers_seen.LayersSeen.{LayersSeen}
 use Rattle.experiments.specs.declared.measured_run.Scheduler.TheVariants as scheduler

@@ -15,6 +15,8 @@ use Rattle.configuration.specs.ConfigurationView.{world_of}
 use Rattle.judge.specs.JudgeView.{JudgeView}
 use Rattle.schedules.specs.Random.{draw_step}
 use Rattle.experiments.specs.Recovery.{IsWatched}
+use Rattle.schedules.specs.Slow.{slow_round}
+use Rattle.schedules.specs.declared.slow.Slow.{Slow}
 use Rattle.experiments.specs.Scheduled.{plain, plain_steps, stretch_of, lent_at, leave_of, leave_at, leaves, stretches}
 use Rattle.experiments.specs.Watched.{GoesOn, GoesOnBy, goes-both}
 use Rattle.experiments.specs.declared.watch.LastFailures.{LastFailures}
@@ -103,6 +105,16 @@ by-leave v lent a c p r is on start before watched =
     subst (λ l. IsWatched start (before ++ leave_of v l) c r) same (on start before watched)
 
 -- ---- stretches
+
+-- equal schedulers have equal stretches
+pub by-scheduler : (s t : Scheduler) (net : Network) (n : ℕ) (g : Lcg) (a b : JudgeView) (p q : LastFailures) → s ≡ t
+    → GoesOn a p (stretch_of t net n g).0 b q → GoesOn a p (stretch_of s net n g).0 b q
+by-scheduler s t net n g a b p q is goes = subst (λ x. GoesOn a p (stretch_of x net n g).0 b q) (sym is) goes
+
+-- and equal slow ones equal rounds
+pub by-slow_round : (drawn slow : Slow) (net : Network) (share n : ℕ) (a b : JudgeView) (p q : LastFailures) → drawn ≡ slow
+    → GoesOn a p (slow_round net drawn share n) b q → GoesOn a p (slow_round net slow share n) b q
+by-slow_round drawn slow net share n a b p q is goes = subst (λ x. GoesOn a p (slow_round net x share n) b q) is goes
 
 pub by-stretch : (scheduler : Scheduler) (net : Network) (first now next : Lcg) (n : ℕ) (a b c d : JudgeView) (p q r s : LastFailures)
     → GoesOnBy (λ w. (stretches scheduler net w first n).0) a p b q → ((w : World) → now ≡ (stretches scheduler net w first n).1)

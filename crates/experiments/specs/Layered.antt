@@ -1,6 +1,5 @@
 -- When each layer of the proof stood for good in a measured run.
 use Rattle.std.specs.Prelude.{◌≡◌, ◌≤◌, ℕ, ◌+◌, ◌-◌, ◌*◌, List, length, Option}
-use Rattle.rand_pcg.specs.Lcg.{Lcg}
 use Rattle.topology.specs.Network.{Network}
 use Rattle.topology.specs.Eccentricity.{eccentricity_of, sharp_of}
 use Rattle.run_model.specs.World.{World}

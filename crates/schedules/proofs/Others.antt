@@ -1,5 +1,5 @@
 -- A round without the slow one's part, given to a sink part by part.
-use Rattle.std.proofs.Common.{◌≡◌, sym, subst, List, ◌++◌, filter}
+use Rattle.std.proofs.Common.{◌≡◌, sym, subst, List, ◌++◌}
 use Rattle.std.proofs.lemmas.List.Elements.{filter-append}
 use Rattle.std.specs.Prelude.{not}
 use Rattle.configuration.specs.run_model.declared.event.Event.{Event}

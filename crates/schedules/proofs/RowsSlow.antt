@@ -1,5 +1,5 @@
 -- Rows: rounds of two nodes of which one, or a link between them, is slow. The shares were worked out by hand.
-use Rattle.std.proofs.Common.{◌≡◌, ◌≢◌, ℕ, true, false, [], ◌∷◌, ◌++◌, refl, arith}
+use Rattle.std.proofs.Common.{◌≡◌, ◌≢◌, true, false, [], ◌∷◌, ◌++◌, refl, arith}
 use Rattle.configuration.specs.run_model.Start.{default_world}
 use Rattle.configuration.specs.run_model.Sweep.{has_full_tick, is_renewed}
 use Rattle.configuration.specs.run_model.declared.event.Event.TheVariants.{Send, Take, Tick}

@@ -1,12 +1,11 @@
 -- Small examples of places, counts and curves, and some that look like them and are none.
-use Rattle.std.proofs.Common.{◌≡◌, ◌≢◌, ◌+◌, ◌*◌, ℕ, List, [], ◌∷◌, ◌++◌, codes, decimal, refl, arith}
+use Rattle.std.proofs.Common.{◌≡◌, ◌≢◌, ◌*◌, [], ◌∷◌, ◌++◌, codes, decimal, refl, arith}
 use Rattle.std.proofs.lemmas.Grind.{common_steps}
 use Rattle.svg_drawing.specs.declared.colours.Colour.TheVariants.{Green}
 use Rattle.svg_drawing.specs.Drawn.{whole}
-use Rattle.settling_plot.specs.declared.axis.Axis.{Axis}
 use Rattle.settling_plot.specs.declared.curves.Scale.{Scale}
 use Rattle.settling_plot.specs.declared.figure.Layer.{Layer}
-use Rattle.settling_plot.specs.declared.figure.Layer.TheVariants.{Links, Tree, Ring, Served}
+use Rattle.settling_plot.specs.declared.figure.Layer.TheVariants.{Links, Tree, Served}
 use Rattle.settling_plot.specs.Axes.{axis_to, height_of, place_of, powers_below, right_of, x_of}
 use Rattle.settling_plot.specs.Curves.{corner_in}
 use Rattle.settling_plot.specs.Figures.{layer_pen}

@@ -21,6 +21,8 @@ mod nets;
 #[cfg(test)]
 mod network;
 #[cfg(test)]
+mod plot;
+#[cfg(test)]
 mod schedule;
 #[cfg(test)]
 mod scramble;

@@ -10,7 +10,7 @@ use subcommands::bound;
 use test_parts::{as_expected, is_expected};
 
 /// A command line, and its status.
-const ROWS: [(&str, u8); 99] = [
+const ROWS: [(&str, u8); 102] = [
     ("tokentree bound two.toml", 0),
     ("tokentree bound -- two.toml", 0),
     ("tokentree bound --sharp two.toml", 0),
@@ -99,8 +99,14 @@ const ROWS: [(&str, u8); 99] = [
     ("tokentree measure two.toml --runs 3", 0),
     ("tokentree measure two.toml --runs 1 --random --table", 0),
     ("tokentree measure two.toml --runs 2 --csv", 0),
-    ("tokentree measure two.toml --runs 2 --csv --plot two.svg", 0),
-    ("tokentree measure two.toml --runs 2 --csv --plot no/two.svg", 1),
+    (
+        "tokentree measure two.toml --runs 2 --csv --plot /dev/null",
+        0,
+    ),
+    (
+        "tokentree measure two.toml --runs 2 --csv --plot no/two.svg",
+        1,
+    ),
     ("tokentree measure two.toml --runs 2 --plot two.svg", 2),
     ("tokentree measure two.toml --csv --table", 2),
     ("tokentree measure two.toml --json --csv", 2),

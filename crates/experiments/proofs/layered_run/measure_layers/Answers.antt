@@ -1,5 +1,4 @@
 use Rattle.std.proofs.Common.{◌≡◌, sym, subst, true, Option, Some, rules, refl}
-use Rattle.rand_pcg.specs.Lcg.{Lcg}
 use Rattle.configuration.specs.ConfigurationView.{world_of}
 use Rattle.experiments.specs.Layered.{IsSettlingShown}
 use Rattle.experiments.specs.Recovery.{AreAnyLayersSeen}
