@@ -1,14 +1,14 @@
 -- Runners that came back, and the world that is made of them.
-use Rattle.std.proofs.Common.{◌≡◌, ◌⊎◌, inl, inr, ℕ, zero, suc, ◌+◌, ◌*◌, ◌<◌, ◌≤◌, ◌==◌, ◌&&◌, Bool, true, false, if◌then◌else◌, nat_lt, IsTrue, Option, Some, None, List, [], ◌∷◌, length, map, ap, refl, sym, subst, ◌∙◌, rules, arith, slice_index_or, slice_get, All}
+use Rattle.std.proofs.Common.{◌≡◌, ◌⊎◌, inl, inr, ℕ, zero, suc, ◌+◌, ◌*◌, ◌/◌, ◌<◌, ◌≤◌, ◌==◌, ◌&&◌, Bool, true, false, if◌then◌else◌, nat_lt, IsTrue, Option, Some, None, List, [], ◌∷◌, length, map, ap, refl, sym, subst, ◌∙◌, rules, arith, slice_index_or, slice_get, All}
 use Rattle.std.proofs.lemmas.Grind.{common_steps}
 use Rattle.std.specs.List.{AllZip}
-use Rattle.std.proofs.lemmas.Bool.{false≢true}
-use Rattle.std.proofs.lemmas.Option.{none-some, same_Some, slice_get_within, get_or_from_slice_get}
+use Rattle.std.proofs.lemmas.Bool.{cases_Bool, false≢true, le-ltb}
+use Rattle.std.proofs.lemmas.Option.{none-some, same_Some, slice_get_within, slice_get_cases, get_or_from_slice_get}
 use Rattle.std.proofs.lemmas.Slice.Zip.{AllZip-long}
 use Rattle.std.specs.declared.alloc.Global.{Global}
+use Rattle.std.specs.declared.vec.Vec.{Vec}
+use Rattle.thread_net.specs.declared.seats.Seats.{Seats}
 use Rattle.topology.specs.Network.{Network, are_joined, neighbours_of}
-use Rattle.topology.specs.Laws.{JoinedAreNodes}
-use Rattle.topology.specs.Ranges.{ranges_of}
 use Rattle.link_model.specs.declared.item.Item.{Item}
 use Rattle.node_core.specs.Site.{site_of}
 use Rattle.node_core.specs.State.{LocalState, default_node}
@@ -44,113 +44,76 @@ use Rattle.thread_net.specs.Fault.{IsPartRun}
 use Rattle.thread_net.specs.Done.{HasDone, HaveDone, IsStart, IsGatherable}
 use Rattle.thread_net.specs.ThreadRun.{IsThreadRun}
 use Rattle.thread_net.proofs.Maps.{map-long}
-use Rattle.thread_net.proofs.Gathering.{is-run, last, settleable, get-mapped}
+use Rattle.thread_net.proofs.Gathering.{is-run, last, settleable, get-mapped, none-mapped}
 use Rattle.thread_net.proofs.Starting.{below-long}
 
 -- ---- a world and its start
 
 pub start-of : (view : ConfigurationView) → IsWorldInRange (world_of view) → IsStart (world_of view)
-start-of view range = record {
-  range = range;
-  beyond = λ v le. past v view.links.net.nodes le (state_of (node_at view.nodes v)) (default_node (ranges_of view.links.net));
-}
-  where
-    past : (v n : ℕ) → n ≤ v → (a b : LocalState) → (if nat_lt v n then a else b) ≡ b
-    past v n le a b = let test : nat_lt v n ≡ false = grind (arith, common_steps, le) in ap (λ t. if t then a else b) test
+start-of view range = record { range = range; beyond = λ v le. rw (le-ltb v view.links.net.nodes le) refl }
 
 pub may-run : {A : Type 0} (w : World) (turns : ℕ) (rs : List (Runner A)) → AreAtStart w turns rs → All (MayRun turns) rs
 may-run w turns rs start k d within =
-    let one = start.each k d (let c = start.count in omega (arith, c, within)) in
+    let one = start.each k d (let c = start.count in omega arith) in
     let none = ap length one.said.journal in
-    let room = one.room in
-    (one.ready, omega (arith, none, room))
+    (one.ready, omega arith)
 
 get-some : {X : Type 0} (xs : List X) (k : ℕ) → k < length xs → (x : X) × (slice_get xs k ≡ Some x)
-get-some [] k within = absurd (omega (arith, within))
-get-some (x ∷ xs) zero within = (x, refl)
-get-some (x ∷ xs) (suc k) within = get-some xs k (omega (arith, within))
+get-some xs k within = elim (slice_get_cases xs k).1 [
+  | inl (x, inside, is, at) ↦ (x, is)
+  | inr (past, is) ↦ absurd (omega arith)
+]
 
 -- ---- one runner that came back
 
-port-ids-are : (w : World) (turns v : ℕ) (r : Runner Global) → IsAtStart w turns v r → port_ids r ≡ neighbours_of w.net v
-port-ids-are w turns v r start = start.ready.ports ∙ ap (λ s. s.neighbours) start.said.site
-
--- a node has at most 64 neighbours
-few-ports : (w : World) (turns v : ℕ) (r : Runner Global) → IsWorldInRange w → IsAtStart w turns v r → length r.ports.items ≤ 64
-few-ports w turns v r range start =
-    let a = map-long (λ p. p.neighbour) r.ports.items in
-    let b = ap length (port-ids-are w turns v r start) in
-    let c = below-long w.net v w.net.nodes in
-    let most = range.network.limits.most in
-    omega (arith, a, b, c, most)
-
-done-as : (w : World) (turns v : ℕ) (r now : Runner Global) (ran : Bool) → IsWorldInRange w → IsAtStart w turns v r → Keeps turns r now ran → HasDone w v (if ran then turns else 0) now
-done-as w turns v r now true range start (deeds, does, rounds, few, first) = record {
-  notes = deeds;
-  said = does.said w v [] start.said;
-  rounds = subst (λ us. AreRounds us turns deeds) (port-ids-are w turns v r start) rounds;
-  first = λ some. first some start.clock (few-ports w turns v r range start) w v start.said range.capacity;
-}
-done-as w turns v r now false range start same = record { notes = []; said = subst (IsNoted w v []) (sym same) start.said; rounds = refl; first = λ some. absurd (omega (arith, some)) }
-
-ids-as : (w : World) (turns v : ℕ) (r now : Runner Global) (ran : Bool) → IsAtStart w turns v r → Keeps turns r now ran → port_ids now ≡ neighbours_of w.net v
-ids-as w turns v r now true start (deeds, does, rounds, few, first) = does.ready.ports ∙ (ap (λ s. s.neighbours) does.site ∙ (sym start.ready.ports ∙ port-ids-are w turns v r start))
-ids-as w turns v r now false start same = ap port_ids same ∙ port-ids-are w turns v r start
+-- it did all its turns from the start, or is as it was
+record IsBack (w : World) (turns v : ℕ) (r now : Runner Global) (ran : Bool) : Type 0 where
+  done : HasDone w v (if ran then turns else 0) now
+  ids : port_ids now ≡ neighbours_of w.net v
+  ports : AreSamePorts r.ports.items now.ports.items
+  entries : length now.journal.entries.items ≤ turns * (1 + 3 * degree_of r.node)
 
 all-same : (ps : List (Port Global)) → AreSamePorts ps ps
-all-same ps = (refl, λ k d within. same-port (slice_index_or ps k d))
-  where
-    same-port : (p : Port Global) → IsSamePort p p
-    same-port p = search rules
+all-same ps = (refl, λ k d within. search rules)
 
-ports-as : (turns : ℕ) (r now : Runner Global) (ran : Bool) → Keeps turns r now ran → AreSamePorts r.ports.items now.ports.items
-ports-as turns r now true (deeds, does, rounds, few, first) = does.ports
-ports-as turns r now false same = subst (λ n. AreSamePorts r.ports.items n.ports.items) (sym same) (all-same r.ports.items)
-
-entries-as : (w : World) (turns v : ℕ) (r now : Runner Global) (ran : Bool) → IsAtStart w turns v r → Keeps turns r now ran
-    → length now.journal.entries.items ≤ turns * (1 + 3 * degree_of r.node)
-entries-as w turns v r now true start (deeds, does, rounds, few, first) =
+is-back : (w : World) (turns v : ℕ) (r now : Runner Global) (ran : Bool) → IsWorldInRange w → IsAtStart w turns v r → Keeps turns r now ran → IsBack w turns v r now ran
+is-back w turns v r now true range start (deeds, does, rounds, few, first) =
     let none = ap length start.said.journal in
-    let count = does.entries in
-    let same : round_room r ≡ 1 + 3 * degree_of r.node = ap (λ k. 1 + 3 * k) (sym (map-long (λ p. p.neighbour) r.ports.items) ∙ ap length start.ready.ports) in
-    let most = subst (λ k. length deeds ≤ turns * k) same few in
-    omega (arith, none, count, most)
-entries-as w turns v r now false start same =
-    let none = ap length start.said.journal in
-    let count = ap (λ n. length n.journal.entries.items) same in
-    omega (arith, none, count)
+    let long = map-long (λ p. p.neighbour) r.ports.items in
+    let ids : port_ids r ≡ neighbours_of w.net v = start.ready.ports ∙ ap (λ s. s.neighbours) start.said.site in
+    let count = ap length ids in
+    let below = below-long w.net v in
+    let most = range.network.limits.most in
+    let room : round_room r ≡ 1 + 3 * degree_of r.node = ap (λ k. 1 + 3 * k) (sym long ∙ ap length start.ready.ports) in
+    let made = subst (λ k. length deeds ≤ turns * k) room few in
+    let entries = does.entries in
+    record {
+      done = record {
+        notes = deeds;
+        said = does.said w v [] start.said;
+        rounds = subst (λ us. AreRounds us turns deeds) ids rounds;
+        first = λ some. first some start.clock (omega arith) w v start.said range.capacity;
+      };
+      ids = does.ready.ports ∙ (ap (λ s. s.neighbours) does.site ∙ (sym start.ready.ports ∙ ids));
+      ports = does.ports;
+      entries = omega arith;
+    }
+is-back w turns v r now false range start same = rw same (record {
+      done = record { notes = []; said = start.said; rounds = refl; first = λ some. absurd (omega arith) };
+      ids = start.ready.ports ∙ ap (λ s. s.neighbours) start.said.site;
+      ports = all-same r.ports.items;
+      entries = let none = ap length start.said.journal in omega arith;
+    })
 
 -- ---- all that came back
 
-zip-get : (turns : ℕ) (rs : List (Runner Global)) (os : List Outcome) (v : ℕ) (o : Outcome) → AllZip (IsOutcomeOf turns) rs os → slice_get os v ≡ Some o
-    → (r : Runner Global) × (slice_get rs v ≡ Some r) × IsOutcomeOf turns r o
-zip-get turns rs [] v o all is = absurd (none-some o is)
-zip-get turns [] (x ∷ os) v o all is = elim all [ ]
-zip-get turns (r ∷ rs) (x ∷ os) zero o all is = (r, refl, subst (IsOutcomeOf turns r) (same_Some x o is) all.0)
-zip-get turns (r ∷ rs) (x ∷ os) (suc v) o all is = zip-get turns rs os v o all.1 is
-
-come-back : (os : List Outcome) (v : ℕ) (r : Runner Global) → slice_get (runners_in os) v ≡ Some r → (o : Outcome) × (slice_get os v ≡ Some o) × (o.runner ≡ r)
-come-back [] v r is = absurd (none-some r is)
-come-back (o ∷ os) zero r is = (o, refl, same_Some o.runner r is)
-come-back (o ∷ os) (suc v) r is = come-back os v r is
-
-turns-at : (turns v : ℕ) (os : List Outcome) (o : Outcome) → slice_get os v ≡ Some o → turns_of turns os v ≡ (if o.ran then turns else 0)
-turns-at turns v [] o is = absurd (none-some o is)
-turns-at turns zero (x ∷ os) o is = ap (λ y. if y.ran then turns else 0) (same_Some x o is)
-turns-at turns (suc v) (x ∷ os) o is = turns-at turns v os o is
-
-same-rows : (turns : ℕ) (rs : List (Runner Global)) (os : List Outcome) → AllZip (IsOutcomeOf turns) rs os → (x : ℕ) → AreSamePorts (row (rows_of rs) x) (row (rows_of (runners_in os)) x)
-same-rows turns [] [] all x = all-same []
-same-rows turns [] (o ∷ os) all x = elim all [ ]
-same-rows turns (r ∷ rs) [] all x = elim all [ ]
-same-rows turns (r ∷ rs) (o ∷ os) all zero = ports-as turns r o.runner o.ran all.0
-same-rows turns (r ∷ rs) (o ∷ os) all (suc x) = same-rows turns rs os all.1 x
-
-ends-stay : {A : Type 0} (o o' : Outgoing A) (i i' : Incoming A) → SameOutgoing o o' → SameIncoming i i' → AreEnds o i → AreEnds o' i'
-ends-stay o o' i i' x y ends = (
-  (y.0.0.0 ∙ (ends.0.0 ∙ sym x.0.0.0), y.0.0.1 ∙ (ends.0.1 ∙ sym x.0.0.1), y.0.0.2 ∙ (ends.0.2 ∙ sym x.0.0.2), y.0.0.3 ∙ (ends.0.3 ∙ sym x.0.0.3)),
-  (x.1.0.0 ∙ (ends.1.0 ∙ sym y.1.0.0), x.1.0.1 ∙ (ends.1.1 ∙ sym y.1.0.1), x.1.0.2 ∙ (ends.1.2 ∙ sym y.1.0.2), x.1.0.3 ∙ (ends.1.3 ∙ sym y.1.0.3)),
-)
+-- a runner that came back was handed out, and ran or did not
+came : (turns : ℕ) (rs : List (Runner Global)) (os : List Outcome) (v : ℕ) (now : Runner Global) → AllZip (IsOutcomeOf turns) rs os → slice_get (runners_in os) v ≡ Some now
+    → (r : Runner Global) × (ran : Bool) × (slice_get rs v ≡ Some r) × Keeps turns r now ran × (turns_of turns os v ≡ (if ran then turns else 0))
+came turns rs [] v now all is = absurd (none-some now is)
+came turns [] (o ∷ os) v now all is = elim all [ ]
+came turns (r ∷ rs) (o ∷ os) zero now all is = (r, o.ran, refl, subst (λ n. Keeps turns r n o.ran) (same_Some o.runner now is) all.0, refl)
+came turns (r ∷ rs) (o ∷ os) (suc v) now all is = came turns rs os v now all.1 is
 
 -- the same port is found, or none
 abbrev IsSameFound : {A : Type 0} → Option (Port A) → Option (Port A) → Type 0
@@ -161,163 +124,125 @@ IsSameFound None None = Unit {0}
 
 same-found : {A : Type 0} (ps qs : List (Port A)) (v : ℕ) → AreSamePorts ps qs → IsSameFound (port_to ps v) (port_to qs v)
 same-found [] [] v same = tt
-same-found [] (q ∷ qs) v same = absurd (let l = same.0 in omega (arith, l))
-same-found (p ∷ ps) [] v same = absurd (let l = same.0 in omega (arith, l))
+same-found [] (q ∷ qs) v same = absurd (let l = same.0 in omega arith)
+same-found (p ∷ ps) [] v same = absurd (let l = same.0 in omega arith)
 same-found (p ∷ ps) (q ∷ qs) v same =
     let one : IsSamePort p q = same.1 0 p (omega arith) in
-    let rest = same-found ps qs v ((let l = same.0 in omega (arith, l)), λ k d there. same.1 (suc k) d (omega (arith, there))) in
-    subst (λ n. IsSameFound (port_to (p ∷ ps) v) (if n == v then Some q else port_to qs v)) (sym one.0) (go (p.neighbour == v) one rest)
-  where
-    go : (b : Bool) → IsSamePort p q → IsSameFound (port_to ps v) (port_to qs v) → IsSameFound (if b then Some p else port_to ps v) (if b then Some q else port_to qs v)
-    go true one rest = one
-    go false one rest = rest
+    let rest = same-found ps qs v ((let l = same.0 in omega arith), λ k d there. same.1 (suc k) d (omega arith)) in
+    grind (arith, common_steps, one, rest)
 
 cabled-stays : {A : Type 0} (a c b d : Option (Port A)) → IsSameFound a c → IsSameFound b d → IsCabledOn a b → IsCabledOn c d
-cabled-stays None None b d x y is = tt
-cabled-stays None (Some r) b d x y is = elim x [ ]
-cabled-stays (Some p) None b d x y is = elim x [ ]
-cabled-stays (Some p) (Some r) None None x y is = tt
-cabled-stays (Some p) (Some r) None (Some s) x y is = elim y [ ]
-cabled-stays (Some p) (Some r) (Some q) None x y is = elim y [ ]
-cabled-stays (Some p) (Some r) (Some q) (Some s) x y is =
-    (ends-stay p.outgoing r.outgoing q.incoming s.incoming x.1 y.2 is.0, ends-stay q.outgoing s.outgoing p.incoming r.incoming y.1 x.2 is.1)
+cabled-stays a c b d x y is = grind (arith, common_steps, x, y, is)
 
 module _ (w : World) (turns : ℕ) (rs : List (Runner Global)) (os : List Outcome) (range : IsWorldInRange w) (start : AreAtStart w turns rs) (all : AllZip (IsOutcomeOf turns) rs os) where
-  at : (v : ℕ) (r : Runner Global) → slice_get rs v ≡ Some r → IsAtStart w turns v r
-  at v r is = let l = slice_get_within rs v r is in let c = start.count in subst (IsAtStart w turns v) (get_or_from_slice_get rs v r r is) (start.each v r (omega (arith, l, c)))
-
   pub came-count : length (runners_in os) ≡ w.net.nodes
-  came-count = let a = map-long (λ o. o.runner) os in let b = AllZip-long (IsOutcomeOf turns) rs os all in let c = start.count in omega (arith, a, b, c)
+  came-count = let a = map-long (λ o. o.runner) os in let b = AllZip-long (IsOutcomeOf turns) rs os all in let c = start.count in omega arith
 
-  pub have-done : HaveDone w (turns_of turns os) (runners_in os)
-  have-done = record {
+  back-at : (v : ℕ) (now : Runner Global) → slice_get (runners_in os) v ≡ Some now
+      → (r : Runner Global) × (ran : Bool) × (slice_get rs v ≡ Some r) × IsBack w turns v r now ran × (turns_of turns os v ≡ (if ran then turns else 0))
+  back-at v now is =
+      let it = came turns rs os v now all is in
+      let within = slice_get_within rs v it.0 it.2 in
+      let one = start.each v it.0 (let c = start.count in omega arith) in
+      (it.0, it.1, it.2, is-back w turns v it.0 now it.1 range (rw (get_or_from_slice_get rs v it.0 it.0 it.2) at one) it.3, it.4)
+
+  same-rows : (x : ℕ) → AreSamePorts (row (rows_of rs) x) (row (rows_of (runners_in os)) x)
+  same-rows x = elim (slice_get_cases (runners_in os) x).1 [
+    | inl (now, within, is, at) ↦
+        let it = back-at x now is in
+        rw (get-mapped (λ r. r.ports.items) rs x it.0 [] it.2, get-mapped (λ r. r.ports.items) (runners_in os) x now [] is) it.3.ports
+    | inr (past, is) ↦ let a = came-count in let b = start.count in rw (none-mapped (λ r. r.ports.items) rs x [] (omega arith), none-mapped (λ r. r.ports.items) (runners_in os) x [] past) (all-same [])
+  ]
+
+  pub have-done : (did : ℕ → ℕ) → ((v : ℕ) → v < length os → turns_of turns os v ≡ did v) → HaveDone w did (runners_in os)
+  have-done did same = record {
     count = came-count;
     each = λ v now is.
-        let c = come-back os v now is in
-        let z = zip-get turns rs os v c.0 all c.1 in
-        let one = done-as w turns v z.0 c.0.runner c.0.ran range (at v z.0 z.1) z.2 in
-        subst (HasDone w v (turns_of turns os v)) c.2 (subst (λ t. HasDone w v t c.0.runner) (sym (turns-at turns v os c.0 c.1)) one);
+        let it = back-at v now is in
+        let within = slice_get_within (runners_in os) v now is in
+        let long = map-long (λ o. o.runner) os in
+        subst (λ t. HasDone w v t now) (sym it.4 ∙ same v (omega arith)) it.3.done;
     ids = λ x xn.
-        let g = get-some (runners_in os) x (let c = came-count in omega (arith, c, xn)) in
-        let c = come-back os x g.0 g.1 in
-        let z = zip-get turns rs os x c.0 all c.1 in
-        ap ids_in (get-mapped (λ r. r.ports.items) (runners_in os) x g.0 [] g.1) ∙ (ap port_ids (sym c.2) ∙ ids-as w turns x z.0 c.0.runner c.0.ran (at x z.0 z.1) z.2);
+        let now = get-some (runners_in os) x (let c = came-count in omega arith) in
+        ap ids_in (get-mapped (λ r. r.ports.items) (runners_in os) x now.0 [] now.1) ∙ (back-at x now.0 now.1).3.ids;
     cabled = λ u v.
-        let found : (x y : ℕ) → IsSameFound (port_to (row (rows_of rs) x) y) (port_to (row (rows_of (runners_in os)) x) y) =
-        λ x y. same-found (row (rows_of rs) x) (row (rows_of (runners_in os)) x) y (same-rows turns rs os all x) in
         cabled-stays (port_to (row (rows_of rs) u) v) (port_to (row (rows_of (runners_in os)) u) v) (port_to (row (rows_of rs) v) u) (port_to (row (rows_of (runners_in os)) v) u)
-        (found u v) (found v u) (start.cabled u v);
+        (same-found _ _ v (same-rows u)) (same-found _ _ u (same-rows v)) (start.cabled u v);
   }
 
 -- the entries of some nodes fit if there is room for all of theirs
-fit-from : (w : World) (turns k : ℕ) (rs : List (Runner Global)) (os : List Outcome) → ((v : ℕ) (r : Runner Global) → slice_get rs v ≡ Some r → IsAtStart w turns (k + v) r)
+fit-from : (w : World) (turns k : ℕ) (rs : List (Runner Global)) (os : List Outcome) → IsWorldInRange w → ((v : ℕ) (r : Runner Global) → slice_get rs v ≡ Some r → IsAtStart w turns (k + v) r)
     → AllZip (IsOutcomeOf turns) rs os → entry_count (entries_of_all (runners_in os)) ≤ total_room turns (nodes_of rs)
-fit-from w turns k [] [] at all = omega arith
-fit-from w turns k [] (o ∷ os) at all = elim all [ ]
-fit-from w turns k (r ∷ rs) [] at all = elim all [ ]
-fit-from w turns k (r ∷ rs) (o ∷ os) at all =
-    let one = entries-as w turns (k + 0) r o.runner o.ran (at 0 r refl) all.0 in
-    let later = fit-from w turns (k + 1) rs os (λ v q is. subst (λ n. IsAtStart w turns n q) (omega arith) (at (suc v) q is)) all.1 in
+fit-from w turns k [] [] range at all = omega arith
+fit-from w turns k [] (o ∷ os) range at all = elim all [ ]
+fit-from w turns k (r ∷ rs) [] range at all = elim all [ ]
+fit-from w turns k (r ∷ rs) (o ∷ os) range at all =
+    let one = (is-back w turns (k + 0) r o.runner o.ran range (at 0 r refl) all.0).entries in
+    let later = fit-from w turns (k + 1) rs os range (λ v q is. subst (λ n. IsAtStart w turns n q) (omega arith) (at (suc v) q is)) all.1 in
     omega (arith, one, later)
 
 pub entries-fit : (w : World) (turns : ℕ) (rs : List (Runner Global)) (os : List Outcome) → IsWorldInRange w → AreAtStart w turns rs → AllZip (IsOutcomeOf turns) rs os
     → entry_count (entries_of_all (runners_in os)) ≤ total_room turns (nodes_of rs)
-entries-fit w turns rs os range start all = fit-from w turns 0 rs os (λ v r is. subst (λ n. IsAtStart w turns n r) (omega arith) (at w turns rs os range start all v r is)) all
+entries-fit w turns rs os range start all = fit-from w turns 0 rs os range (λ v r is. subst (λ n. IsAtStart w turns n r) (omega arith) (at v r is)) all
+  where
+    at : (v : ℕ) (r : Runner Global) → slice_get rs v ≡ Some r → IsAtStart w turns v r
+    at v r is = let within = slice_get_within rs v r is in let c = start.count in rw (get_or_from_slice_get rs v r r is) at (start.each v r (omega arith))
 
 -- ---- who ran
 
 pub all-turns : (turns : ℕ) (os : List Outcome) → have_run os ≡ true → (v : ℕ) → v < length os → turns_of turns os v ≡ turns
 all-turns turns [] ran v within = absurd (omega (arith, within))
-all-turns turns (o ∷ os) ran zero within = let one : o.ran ≡ true = grind (arith, common_steps, ran) in ap (λ b. if b then turns else 0) one
-all-turns turns (o ∷ os) ran (suc v) within = all-turns turns os (let later : have_run os ≡ true = grind (arith, common_steps, ran) in later) v (omega (arith, within))
+all-turns turns (o ∷ os) ran zero within = grind (arith, common_steps, ran)
+all-turns turns (o ∷ os) ran (suc v) within = all-turns turns os (grind (arith, common_steps, ran)) v (omega arith)
 
 pub some-idle : (turns : ℕ) (os : List Outcome) → have_run os ≡ false → (v : ℕ) × (v < length os) × (turns_of turns os v ≡ 0)
 some-idle turns [] ran = absurd (false≢true (sym ran))
-some-idle turns (o ∷ os) ran = cases o.ran refl (some-idle turns os)
-  where
-    cases : (b : Bool) → o.ran ≡ b → (have_run os ≡ false → (v : ℕ) × (v < length os) × (turns_of turns os v ≡ 0)) → (v : ℕ) × (v < length (o ∷ os)) × (turns_of turns (o ∷ os) v ≡ 0)
-    cases false is later = (0, omega arith, ap (λ b. if b then turns else 0) is)
-    cases true is later =
-        let rest : have_run os ≡ false = ap (λ b. b && have_run os) (sym is) ∙ ran in
-        let found = later rest in
-        let l = found.1 in
-        (suc found.0, omega (arith, l), found.2)
+some-idle turns (o ∷ os) ran = elim (cases_Bool o.ran) [
+  | inl did ↦ let found = some-idle turns os (rw did at ran) in let l = found.1 in (suc found.0, omega arith, found.2)
+  | inr idle ↦ (0, omega arith, rw idle refl)
+]
 
 pub each-turns : (turns : ℕ) (os : List Outcome) (v : ℕ) → (turns_of turns os v ≡ turns) ⊎ (turns_of turns os v ≡ 0)
 each-turns turns [] v = inr refl
-each-turns turns (o ∷ os) zero = cases o.ran
-  where
-    cases : (b : Bool) → ((if b then turns else 0) ≡ turns) ⊎ ((if b then turns else 0) ≡ 0)
-    cases true = inl refl
-    cases false = inr refl
+each-turns turns (o ∷ os) zero = elim (cases_Bool o.ran) [ inl did ↦ inl (rw did refl) | inr idle ↦ inr (rw idle refl) ]
 each-turns turns (o ∷ os) (suc v) = each-turns turns os v
-
-pub run-as : (some other : ℕ → ℕ) (w last : World) (events : List Event) → ((v : ℕ) → v < w.net.nodes → some v ≡ other v) → IsThreadRun some w events last → IsThreadRun other w events last
-run-as some other w last events same run = record {
-  leads = run.leads;
-  through = run.through;
-  account = run.account;
-  journal = run.journal;
-  woven = run.woven;
-  rising = run.rising;
-  said = run.said;
-  matched = run.matched;
-  rounds = λ v vn. subst (λ t. AreRounds (neighbours_of w.net v) t (run.account v)) (same v vn) (run.rounds v vn);
-  ticks = λ v vn. run.ticks v vn ∙ same v vn;
-  first = λ v vn more. run.first v vn (let e = same v vn in omega (arith, e, more));
-}
 
 -- ---- the world that is made of them
 
-world-parts : (n n' : Network) (s s' : ℕ) (f f' : ℕ → LocalState) (g g' : ℕ → ℕ → List Item) → n ≡ n' → s ≡ s' → f ≡ f' → g ≡ g'
-    → ◌≡◌ {A = World} (record { net = n; spares = s; node = f; link = g }) (record { net = n'; spares = s'; node = f'; link = g' })
-world-parts n n' s s' f f' g g' a b c d =
-    ap {B = World} (λ x. record { net = x; spares = s; node = f; link = g }) a
-    ∙ (ap {B = World} (λ x. record { net = n'; spares = x; node = f; link = g }) b
-    ∙ (ap {B = World} (λ x. record { net = n'; spares = s'; node = x; link = g }) c ∙ ap {B = World} (λ x. record { net = n'; spares = s'; node = f'; link = x }) d))
+module _ {A : Type 0} {rs : List (Runner A)} {links : LinksView} {room : StretchView} {seats : Seats A} {out : Vec Event A} (w : World) (turns : ℕ → ℕ) (it : IsGatherable w turns rs links room seats out) where
+  pub gathered : (now : LinksView) (nodes : List NodeView) (rows : List (List (Port A))) (entries : List (List Entry)) (events : List Event)
+      → nodes ≡ nodes_of rs → rows ≡ rows_of rs → entries ≡ entries_of_all rs
+      → now.net ≡ links.net → now.spares ≡ links.spares
+      → ((u v : ℕ) → IsTrue (are_joined links.net.edges u v) → IsFlushedBetween rows u v)
+      → (AreSettleable links.net rows → under_way now ≡ settled links.net rows (under_way links))
+      → IsWoven (journal_of entries) events → WovenIsRun → EachRoundTicks → RangesStay
+      → IsThreadRun turns w events (world_of (record { nodes = nodes; links = now }))
+  gathered now nodes rows entries events nodes-are rows-are entries-are net spare flushed settles woven law rounds ranges =
+      let flat : (u v : ℕ) → IsTrue (are_joined w.net.edges u v) → IsFlushedBetween (rows_of rs) u v = λ u v joined. rw rows-are at (flushed u v (rw it.over.0 at joined)) in
+      let weave = rw entries-are at woven in
+      let run = is-run w turns rs it.done it.start flat events weave law rounds in
+      let able : AreSettleable links.net rows = rw rows-are (rw it.over.0 at (settleable w turns rs it.done it.start flat events weave law ranges)) in
+      let link : settled w.net (rows_of rs) w.link ≡ under_way now = rw (it.over.0, it.over.1, ← rows-are) (sym (settles able)) in
+      let node : states_of w.net (nodes_of rs) ≡ states_of now.net nodes = rw (it.over.0, net, nodes-are) refl in
+      let spares : w.spares ≡ spare_pairs now = it.spares ∙ ap (λ s. length s / 2) (sym spare) in
+      let network : w.net ≡ now.net = it.over.0 ∙ sym net in
+      let same : last w turns rs it.done it.start ≡ world_of (record { nodes = nodes; links = now }) = cc in
+      subst (IsThreadRun turns w events) same run
 
-pub gathered : {A : Type 0} (w : World) (turns : ℕ → ℕ) (rs : List (Runner A)) (links now : LinksView) (nodes : List NodeView) (rows : List (List (Port A))) (entries : List (List Entry)) (events : List Event)
-    → HaveDone w turns rs → IsStart w → IsOver w links → w.spares ≡ spare_pairs links
-    → nodes ≡ nodes_of rs → rows ≡ rows_of rs → entries ≡ entries_of_all rs
-    → now.net ≡ links.net → now.spares ≡ links.spares
-    → ((u v : ℕ) → IsTrue (are_joined links.net.edges u v) → IsFlushedBetween rows u v)
-    → (AreSettleable links.net rows → under_way now ≡ settled links.net rows (under_way links))
-    → IsWoven (journal_of entries) events → WovenIsRun → EachRoundTicks → RangesStay → JoinedAreNodes
-    → IsThreadRun turns w events (world_of (record { nodes = nodes; links = now }))
-gathered w turns rs links now nodes rows entries events done start over spares nodes-are rows-are entries-are net spare flushed settles woven law rounds ranges joined =
-    let flat : (u v : ℕ) → IsTrue (are_joined w.net.edges u v) → IsFlushedBetween (rows_of rs) u v = λ u v joint. subst (λ r. IsFlushedBetween r u v) rows-are (flushed u v (ap (λ n. are_joined n.edges u v) (sym over.0) ∙ joint)) in
-    let weave = subst (λ e. IsWoven (journal_of e) events) entries-are woven in
-    let run = is-run w turns rs done start flat joined events weave law rounds in
-    let able = settleable w turns rs done start flat joined events weave law ranges in
-    let able' : AreSettleable links.net rows = subst (λ r. AreSettleable links.net r) (sym rows-are) (subst (λ n. AreSettleable n (rows_of rs)) over.0 able) in
-    let link : settled w.net (rows_of rs) w.link ≡ under_way now =
-    ap (λ n. settled n (rows_of rs) w.link) over.0 ∙ (ap (λ r. settled links.net r w.link) (sym rows-are) ∙ (ap (settled links.net rows) over.1 ∙ sym (settles able'))) in
-    let node : states_of w.net (nodes_of rs) ≡ states_of now.net nodes = ap (λ n. states_of n (nodes_of rs)) (over.0 ∙ sym net) ∙ ap (states_of now.net) (sym nodes-are) in
-    let spares-are : w.spares ≡ spare_pairs now = spares ∙ ap (λ s. spare_pairs (record links { spares = s })) (sym spare) in
-    subst (IsThreadRun turns w events)
-    (world-parts w.net now.net w.spares (spare_pairs now) (states_of w.net (nodes_of rs)) (states_of now.net nodes) (settled w.net (rows_of rs) w.link) (under_way now) (over.0 ∙ sym net) spares-are node link) run
-
--- the parts are one world's
-pub one-worlds : {A : Type 0} (w : World) (turns : ℕ → ℕ) (rs : List (Runner A)) (links now : LinksView) (nodes : List NodeView) (room : StretchView)
-    → HaveDone w turns rs → IsOver w links → nodes ≡ nodes_of rs → now.net ≡ links.net → HasRoomFor w.net room → AreOneWorlds nodes now room
-one-worlds w turns rs links now nodes room done over are net judged =
-    let same : now.net ≡ w.net = net ∙ sym over.0 in
-    record {
-      nodes_are = record {
-        all_nodes =
-            let a = ap length are in
-            let b = map-long (λ r. r.node) rs in
-            let c = done.count in
-            let d = ap (λ n. n.nodes) same in
-            omega (arith, a, b, c, d);
-        sites = λ v vn.
-            let vn' : v < w.net.nodes = (let d = ap (λ n. n.nodes) same in omega (arith, vn, d)) in
-            let g = get-some rs v (let c = done.count in omega (arith, c, vn')) in
-            let one = done.each v g.0 g.1 in
-            ap (λ ns. site_in (node_at ns v)) are ∙ (ap site_in (get-mapped (λ r. r.node) rs v g.0 no_node g.1) ∙ (one.said.site ∙ ap (λ n. site_of n v) (sym same)));
-      };
-      room_is = subst (λ n. HasRoomFor n room) (sym same) judged;
-    }
+  -- the parts are one world's
+  pub one-worlds : (now : LinksView) (nodes : List NodeView) → nodes ≡ nodes_of rs → now.net ≡ links.net → AreOneWorlds nodes now room
+  one-worlds now nodes are net =
+      let same : now.net ≡ w.net = net ∙ sym it.over.0 in
+      let count = ap (λ n. n.nodes) same in
+      record {
+        nodes_are = record {
+          all_nodes = let a = ap length are in let b = map-long (λ r. r.node) rs in let c = it.done.count in omega arith;
+          sites = λ v vn.
+              let g = get-some rs v (let c = it.done.count in omega arith) in
+              ap (λ ns. site_in (node_at ns v)) are ∙ (ap site_in (get-mapped (λ r. r.node) rs v g.0 no_node g.1) ∙ ((it.done.each v g.0 g.1).said.site ∙ ap (λ n. site_of n v) (sym same)));
+        };
+        room_is = subst (λ n. HasRoomFor n room) (sym same) it.judged;
+      }
 
 -- ---- the whole run
 
@@ -326,18 +251,20 @@ module _ (view : ConfigurationView) (first : World) (turns : ℕ) (p : Prepared 
   here : IsPrepared (world_of view) turns p
   here = subst (λ w. IsPrepared w turns p) same ready
 
-  count-is : length os ≡ view.links.net.nodes
-  count-is = let a = map-long (λ o. o.runner) os in let b = came-count (world_of view) turns p.runners.items os range here.runners all in omega (arith, a, b)
+  count : length (runners_in os) ≡ view.links.net.nodes
+  count = came-count (world_of view) turns p.runners.items os range here.runners all
 
-  pub gatherable : IsGatherable (world_of view) (turns_of turns os) back p.links p.room p.seats p.events
-  gatherable =
-      let count = came-count (world_of view) turns p.runners.items os range here.runners all in
+  long : length os ≡ view.links.net.nodes
+  long = let a = map-long (λ o. o.runner) os in let b = count in omega arith
+
+  pub gatherable : (did : ℕ → ℕ) → ((v : ℕ) → v < length os → turns_of turns os v ≡ did v) → IsGatherable (world_of view) did back p.links p.room p.seats p.events
+  gatherable did alike =
       let few = entries-fit (world_of view) turns p.runners.items os range here.runners all in
       let room = here.events in
       rw came
       (record {
         start = start-of view range;
-        done = have-done (world_of view) turns p.runners.items os range here.runners all;
+        done = have-done (world_of view) turns p.runners.items os range here.runners all did alike;
         over = here.links;
         spares = here.spares;
         judged = here.room;
@@ -346,16 +273,8 @@ module _ (view : ConfigurationView) (first : World) (turns : ℕ) (p : Prepared 
         fits = omega (arith, few, room);
       })
 
-  module _ (events : List Event) (last : World) (run : IsThreadRun (turns_of turns os) (world_of view) events last) where
-    pub whole : have_run os ≡ true → IsThreadRun (λ v. turns) (world_of view) events last
-    whole ran = run-as (turns_of turns os) (λ v. turns) (world_of view) last events (λ v vn. all-turns turns os ran v (let c = count-is in omega (arith, c, vn))) run
-
-    pub part : have_run os ≡ false → IsPartRun turns (world_of view) events last
-    part ran =
-        let idle = some-idle turns os ran in
-        record {
-          did = turns_of turns os;
-          each = each-turns turns os;
-          idle = (idle.0, (let l = idle.1 in let c = count-is in omega (arith, l, c)), idle.2);
-          run = run;
-        }
+  pub part : (events : List Event) (last : World) → IsThreadRun (turns_of turns os) (world_of view) events last → have_run os ≡ false → IsPartRun turns (world_of view) events last
+  part events last run ran =
+      let idle = some-idle turns os ran in
+      let c = long in
+      record { did = turns_of turns os; each = each-turns turns os; idle = (idle.0, omega (arith, idle.1), idle.2); run = run }

@@ -1,5 +1,6 @@
 -- The two ends of a link say together what the link did.
 use Rattle.std.proofs.Common.{◌≡◌, ◌⊎◌, inl, inr, ℕ, suc, ◌-◌, ◌<◌, ◌≤◌, List, [], ◌∷◌, ◌++◌, length, drop, filter, nat_le, true, false, ap, refl, sym, subst, ◌∙◌, arith, append_assoc}
+use Rattle.std.proofs.lemmas.Bool.{cases_lt}
 use Rattle.std.proofs.lemmas.Grind.{common_steps}
 use Rattle.std.proofs.lemmas.List.{map-append}
 use Rattle.std.proofs.Math.Seq.{drop-append_seam}
@@ -48,49 +49,34 @@ Rise (x ∷ xs) = AllByRecursion (λ y. x < y) xs × Rise xs
 
 none-back : (x : ℕ) (xs : List ℕ) → last_place < x → AllByRecursion (λ y. x < y) xs → filter (λ stamp. nat_le stamp last_place) xs ≡ []
 none-back x [] high all = refl
-none-back x (y ∷ ys) high all =
-    let h = all.0 in
-    let later = none-back x ys high all.1 in
-    let test : nat_le y last_place ≡ false = grind (arith, common_steps, h, high) in
-    rw test later
+none-back x (y ∷ ys) high all = let h = all.0 in let later = none-back x ys high all.1 in grind (arith, common_steps)
 
 -- the places that are given back are those of the first takes
 back-first : (xs : List ℕ) → Rise xs → (rest : List ℕ) × (filter (λ stamp. nat_le stamp last_place) xs ++ rest ≡ xs)
 back-first [] rise = ([], refl)
-back-first (x ∷ xs) rise =
-    let cases : (x ≤ last_place) ⊎ (last_place < x) = grind arith in
-    elim cases [
-      | inl low ↦
-          let later = back-first xs rise.1 in
-          let test : nat_le x last_place ≡ true = grind (arith, common_steps, low) in
-          (later.0, rw test (ap (λ zs. x ∷ zs) later.1))
-      | inr high ↦
-          let none = none-back x xs high rise.0 in
-          let test : nat_le x last_place ≡ false = grind (arith, common_steps, high) in
-          (x ∷ xs, rw test (ap (λ zs. zs ++ (x ∷ xs)) none))
-    ]
+back-first (x ∷ xs) rise = elim (cases_lt last_place x) [
+  | inl high ↦ let none = none-back x xs high rise.0 in (x ∷ xs, grind (arith, common_steps))
+  | inr low ↦ let later = back-first xs rise.1 in let same = later.1 in (later.0, grind (arith, common_steps))
+]
 
 module _ {A : Type 0} (capacity : ℕ) (old : List Item) (sends takes : List Stamped) (o : Outgoing A) (i : Incoming A)
     (sender : IsSender capacity old sends o) (receiver : IsReceiver capacity (length old) takes i) (flushed : IsFlushed o i) (rise : Rise (stamps takes)) where
-  went : received i.frames ++ flushed.0.0 ≡ opening old ++ sends
-  went = flushed.0.1 ∙ sender.sent
-
-  left-is : left_on o i ≡ items flushed.0.0
-  left-is = ap items (ap (drop (length (received i.frames))) (sym flushed.0.1) ∙ drop-append_seam (received i.frames) flushed.0.0)
-
   pub link-matched : IsLinkMatched capacity old sends takes (left_on o i)
-  link-matched = record {
-    kept =
-        ap (λ xs. xs ++ items sends) (sym (items-opening old))
-        ∙ (sym (map-append (λ x. x.item) (opening old) sends)
-        ∙ (ap items (sym went)
-        ∙ (map-append (λ x. x.item) (received i.frames) flushed.0.0
-        ∙ (ap (λ xs. xs ++ items flushed.0.0) (sym (taken-items takes (received i.frames) receiver.taken)) ∙ ap (λ xs. items takes ++ xs) (sym left-is)))));
-    taken_later = above-drop old takes sends (subst (λ xs. AreAbove (stamps takes) (stamps xs)) went (above-taken takes (received i.frames) flushed.0.0 receiver.taken));
-    sent_later =
-        let back = back-first (stamps takes) rise in
-        let all : received o.places ++ (flushed.1.0 ++ back.0) ≡ stamps takes =
-        sym (append_assoc (received o.places) flushed.1.0 back.0) ∙ (ap (λ xs. xs ++ back.0) (flushed.1.1 ∙ receiver.returned) ∙ back.1) in
-        subst (λ xs. AreAbove (drop (capacity - length old) (stamps sends)) xs) all
-        (above-longer (drop (capacity - length old) (stamps sends)) (received o.places) (flushed.1.0 ++ back.0) sender.later);
-  }
+  link-matched =
+      let came = received i.frames in
+      let went : came ++ flushed.0.0 ≡ opening old ++ sends = flushed.0.1 ∙ sender.sent in
+      let left : left_on o i ≡ items flushed.0.0 = ap items (ap (drop (length came)) (sym flushed.0.1) ∙ drop-append_seam came flushed.0.0) in
+      let back = back-first (stamps takes) rise in
+      let all : received o.places ++ (flushed.1.0 ++ back.0) ≡ stamps takes =
+      sym (append_assoc (received o.places) flushed.1.0 back.0) ∙ (ap (λ xs. xs ++ back.0) (flushed.1.1 ∙ receiver.returned) ∙ back.1) in
+      record {
+        kept =
+            let before = map-append (λ x. x.item) (opening old) sends in
+            let after = map-append (λ x. x.item) came flushed.0.0 in
+            let both = ap items went in
+            let first = items-opening old in
+            let taken = taken-items takes came receiver.taken in
+            cc;
+        taken_later = above-drop old takes sends (rw went at (above-taken takes came flushed.0.0 receiver.taken));
+        sent_later = rw all at (above-longer (drop (capacity - length old) (stamps sends)) (received o.places) (flushed.1.0 ++ back.0) sender.later);
+      }

@@ -1,10 +1,10 @@
 -- A node's own events in a woven list are those of its account.
-use Rattle.std.proofs.Common.{◌≡◌, ℕ, ◌==◌, Bool, true, false, if◌then◌else◌, List, [], ◌∷◌, map, ap, refl, sym, subst, ◌∙◌, arith}
+use Rattle.std.proofs.Common.{◌≡◌, ℕ, ◌==◌, true, List, [], ◌∷◌, map, ap, refl, sym, subst, ◌∙◌, arith}
 use Rattle.std.proofs.lemmas.Grind.{common_steps}
 use Rattle.std.specs.List.{AllByRecursion}
 use Rattle.run_model.specs.declared.event.Event.{Event}
 use Rattle.weaving.specs.declared.journal.Entry.{Entry}
-use Rattle.weaving.specs.Account.{Note, Ticked, Sent, Took, entry_of}
+use Rattle.weaving.specs.Account.{Note, entry_of}
 use Rattle.weaving.specs.Matched.{AreOf}
 use Rattle.weaving.specs.Woven.{Placed, entries_of, IsWoven}
 use Rattle.node_runner.specs.FirstTurn.{count_of, deeds_of, is_deed_of, is_tick_of}
@@ -15,41 +15,28 @@ abbrev IsOwn : ℕ → Entry → Type 0
 IsOwn u e = is_deed_of u e.event ≡ true
 
 deed-own : (u : ℕ) (d : Note) → IsOwn u (entry_of u d)
-deed-own u (Ticked t) = grind (arith, common_steps)
-deed-own u (Sent x s) = grind (arith, common_steps)
-deed-own u (Took x s) = grind (arith, common_steps)
+deed-own u d = grind (arith, common_steps)
 
 account-own : (u : ℕ) (ds : List Note) → AllByRecursion (IsOwn u) (map (entry_of u) ds)
 account-own u [] = tt
 account-own u (d ∷ ds) = (deed-own u d, account-own u ds)
 
 after-first : (v : ℕ) (p : Placed) (ps : List Placed) → AllByRecursion (IsOwn v) (entries_of v (p ∷ ps)) → AllByRecursion (IsOwn v) (entries_of v ps)
-after-first v p ps all = go (p.node == v) all where
-  go : (b : Bool) → AllByRecursion (IsOwn v) (if b then p.entry ∷ entries_of v ps else entries_of v ps) → AllByRecursion (IsOwn v) (entries_of v ps)
-  go true both = both.1
-  go false rest = rest
+after-first v p ps all = grind (arith, common_steps, all)
 
 all-own : (ps : List Placed) → ((v : ℕ) → AllByRecursion (IsOwn v) (entries_of v ps)) → AllByRecursion (λ p. IsOwn p.node p.entry) ps
 all-own [] each = tt
 all-own (p ∷ ps) each =
     let here : entries_of p.node (p ∷ ps) ≡ p.entry ∷ entries_of p.node ps = grind (arith, common_steps) in
-    let both = subst (AllByRecursion (IsOwn p.node)) here (each p.node) in
-    (both.0, all-own ps (λ v. after-first v p ps (each v)))
+    ((rw here at (each p.node)).0, all-own ps (λ v. after-first v p ps (each v)))
 
 -- a deed of one node is no other's
 by-one : (u v : ℕ) (e : Event) → is_deed_of u e ≡ true → is_deed_of v e ≡ (u == v)
 by-one u v e own = grind (arith, common_steps, own)
 
-chosen : (b : Bool) (e : Entry) (es : List Entry) (xs : List Event) → xs ≡ map (λ x. x.event) es
-    → (if b then e.event ∷ xs else xs) ≡ map (λ x. x.event) (if b then e ∷ es else es)
-chosen true e es xs same = ap (λ ys. e.event ∷ ys) same
-chosen false e es xs same = same
-
 placed-own : (v : ℕ) (ps : List Placed) → AllByRecursion (λ p. IsOwn p.node p.entry) ps → deeds_of v (map (λ p. p.entry.event) ps) ≡ map (λ e. e.event) (entries_of v ps)
 placed-own v [] own = refl
-placed-own v (p ∷ ps) own =
-    let rest = deeds_of v (map (λ q. q.entry.event) ps) in
-    ap (λ b. if b then p.entry.event ∷ rest else rest) (by-one p.node v p.entry.event own.0) ∙ chosen (p.node == v) p.entry (entries_of v ps) rest (placed-own v ps own.1)
+placed-own v (p ∷ ps) own = let later = placed-own v ps own.1 in let one = by-one p.node v p.entry.event own.0 in grind (arith, common_steps, later, one)
 
 note-events : (v : ℕ) (ds : List Note) → map (λ e. e.event) (map (entry_of v) ds) ≡ events_of v ds
 note-events v [] = refl

@@ -1,6 +1,8 @@
 -- Rows: the ends of links between threads, what is left on them, and how much room there is.
 use Rattle.std.proofs.Common.{◌≡◌, ℕ, ◌<◌, ◌≤◌, Bool, true, false, IsTrue, Some, None, List, [], ◌∷◌, ◌++◌, drop, length, if◌then◌else◌, ◌&&◌, ap, refl, ◌∙◌, sym, subst, arith}
+use Rattle.std.proofs.lemmas.Bool.{true≢false}
 use Rattle.std.proofs.lemmas.Grind.{common_steps}
+use Rattle.std.proofs.lemmas.List.{length_push}
 use Rattle.rtrb.specs.Ring.{sent, received}
 use Rattle.link_model.specs.declared.item.Item.{Item}
 use Rattle.link_model.specs.declared.item.Item.TheVariants.{Noise}
@@ -15,8 +17,8 @@ use Rattle.node_runner.specs.declared.ports.Outgoing.{Outgoing}
 use Rattle.node_runner.specs.declared.ports.Incoming.{Incoming}
 use Rattle.node_runner.specs.declared.runner.Port.{Port}
 use Rattle.thread_net.specs.declared.threads.Outcome.{Outcome}
-use Rattle.thread_net.specs.Cables.{AreWithin, neighbours_below, reach, rows_reach, port_to, left_on, left_on_ports, IsCable, IsCabledOn, IsFlushed, IsFlushedOn}
-use Rattle.thread_net.specs.Settling.{is_past}
+use Rattle.thread_net.specs.Cables.{AreWithin, ends_at, port_to, row, left_on, left_on_ports, IsCable, IsCabledOn, IsCabledOnce, IsCableOn, IsOtherPair, IsFlushed, IsFlushedOn}
+use Rattle.thread_net.proofs.Pairs.{is_past}
 use Rattle.thread_net.specs.Prepared.{IsPrepared}
 use Rattle.thread_net.specs.Seats.{entry_room}
 use Rattle.thread_net.specs.declared.prepare.Prepared.{Prepared}
@@ -87,30 +89,41 @@ module _ {A : Type 0} (p q : Port A) (to_one : p.neighbour ≡ 1) (to_two : q.ne
   row-cabled_alone : IsCabledOn (Some p) None × IsCabledOn None (Some q)
   row-cabled_alone = (tt, tt)
 
+  -- where both are asked for, one alone is not enough
+  row-cable : IsCable p q → IsCableOn (Some p) (Some q)
+  row-cable cable = cable
+
+  not-alone : IsCableOn (Some p) None → ⊥
+  not-alone out = out
+
   not-cabled : (IsCable p q → ⊥) → IsCabledOn (Some p) (Some q) → ⊥
   not-cabled apart cabled = apart cabled
 
--- ---- which pairs have had their turn
+-- ---- pairs of nodes
 
-row-below : neighbours_below two_nodes 0 1 ≡ []
-row-below = refl
+-- those of 0 come before the pair of 1 and 3, and so does that of 1 and 2, whichever node comes first
+row-past : (is_past 1 3 0 3 ≡ true) × (is_past 1 3 3 0 ≡ true) × (is_past 1 3 1 2 ≡ true) × (is_past 1 3 2 1 ≡ true)
+row-past = (refl, refl, refl, refl)
 
-row-below-all : neighbours_below two_nodes 0 2 ≡ 1 ∷ []
-row-below-all = refl
-
--- if the pair of 1 and 3 of four nodes comes next, node 0 is through, 1 has had those below 3, 2 has had 0 and 1
-row-reach : (reach 4 1 3 0 ≡ 4) × (reach 4 1 3 1 ≡ 3) × (reach 4 1 3 2 ≡ 2) × (reach 4 1 3 3 ≡ 1)
-row-reach = (refl, refl, refl, refl)
-
--- from the pair of 1 and 3 on each has had its turn, whichever of its nodes comes first, and those before it have not
-row-past : (is_past (reach 4 1 3) 1 3 ≡ true) × (is_past (reach 4 1 3) 3 1 ≡ true) × (is_past (reach 4 1 3) 2 3 ≡ true)
-row-past = (refl, refl, refl)
-
-not-past : (is_past (reach 4 1 3) 1 2 ≡ false) × (is_past (reach 4 1 3) 0 3 ≡ false) × (is_past (reach 4 1 3) 3 0 ≡ false)
+not-past : (is_past 1 3 1 3 ≡ false) × (is_past 1 3 3 1 ≡ false) × (is_past 1 3 2 3 ≡ false)
 not-past = (refl, refl, refl)
 
-row-rows : (rows_reach 4 2 1 ≡ 4) × (rows_reach 4 2 3 ≡ 2)
-row-rows = (refl, refl)
+-- a pair the other way round is another
+row-other : IsOtherPair 3 1 1 3 × IsOtherPair 1 2 1 3
+row-other = (refl, refl)
+
+not-other : IsOtherPair 1 3 1 3 → ⊥
+not-other same = true≢false same
+
+row-ends : (ends_at {X = ℕ} 1 7 3 9 1 ≡ 7 ∷ []) × (ends_at {X = ℕ} 1 7 3 9 3 ≡ 9 ∷ []) × (ends_at {X = ℕ} 1 7 3 9 2 ≡ [])
+row-ends = (refl, refl, refl)
+
+-- a cable has two ends
+not-one_end : {A : Type 0} (l : LinksView) (rows more : List (List (Port A))) → row more 3 ≡ row rows 3 → IsCabledOnce l 1 3 rows more → ⊥
+not-one_end l rows more same it =
+    let count = ap length (sym same ∙ it.grown 3) in
+    let longer = length_push (row rows 3) it.far in
+    omega arith
 
 -- ---- room, and who ran
 

@@ -76,7 +76,6 @@ fn gather<A: Allocator + Copy>(
     ensures { Gathers runners.items links room seats events result.events.items
         (world_of result.world) }
 {
-    topology::laws::joined();
     weaving::laws::weave();
     node_runner::laws::rounds();
     run_model::laws::in_range();

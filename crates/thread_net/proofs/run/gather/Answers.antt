@@ -61,15 +61,12 @@ pub settle_all-requires-clause-cabled : goal.settle_all-requires-clause-cabled
 settle_all-requires-clause-cabled g c = subst AreCabled (sym c.unseat_all.ensures.rows) c.requires.2.done.cabled
 
 pub from_parts-requires : goal.from_parts-requires
-from_parts-requires g c =
-    let it = c.requires.2 in
-    one-worlds c.requires.0 c.requires.1 c.args.runners.items c.args.links c.settle_all.new.links c.unseat_all.new.seats.nodes.items c.args.room it.done it.over c.unseat_all.ensures.nodes c.settle_all.ensures.net
-    it.judged
+from_parts-requires g c = one-worlds c.requires.0 c.requires.1 c.requires.2 c.settle_all.new.links c.unseat_all.new.seats.nodes.items c.unseat_all.ensures.nodes c.settle_all.ensures.net
 
 pub returns : goal.returns
 returns g c = λ w turns it.
     let woven = subst (λ e. IsWoven (journal_of e) c.weave-2.new.out.items) (ap entries_in c.deref.ensures.value) c.weave-2.ensures.woven in
     subst (λ v. IsThreadRun turns w c.weave-2.new.out.items (world_of v)) (sym c.from_parts.ensures)
-    (gathered w turns c.args.runners.items c.args.links c.settle_all.new.links c.unseat_all.new.seats.nodes.items (rows_in c.unseat_all.new.seats.rows.items)
-    (entries_in c.unseat_all.new.seats.journals.items) c.weave-2.new.out.items it.done it.start it.over it.spares c.unseat_all.ensures.nodes c.unseat_all.ensures.rows c.unseat_all.ensures.journals
-    c.settle_all.ensures.net c.settle_all.ensures.spares c.settle_all.ensures.flushed c.settle_all.ensures.settled woven c.weave.ensures c.rounds.ensures c.in_range.ensures c.joined.ensures.nodes)
+    (gathered w turns it c.settle_all.new.links c.unseat_all.new.seats.nodes.items (rows_in c.unseat_all.new.seats.rows.items) (entries_in c.unseat_all.new.seats.journals.items) c.weave-2.new.out.items
+    c.unseat_all.ensures.nodes c.unseat_all.ensures.rows c.unseat_all.ensures.journals c.settle_all.ensures.net c.settle_all.ensures.spares c.settle_all.ensures.flushed c.settle_all.ensures.settled woven
+    c.weave.ensures c.rounds.ensures c.in_range.ensures)

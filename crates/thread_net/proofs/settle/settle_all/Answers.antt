@@ -1,83 +1,90 @@
-use Rattle.std.proofs.Common.{rules, arith, inl, refl, sym, subst, ◌≡◌, ◌∙◌, ◌+◌, ◌-◌}
-use Rattle.topology.specs.Network.{IsAcceptedNetwork}
+use Rattle.std.proofs.Common.{rules, arith, refl, sym, subst, ◌≡◌, ◌∙◌, ◌<◌, ◌+◌, true, false}
+use Rattle.topology.specs.Network.{are_joined, neighbours_of, IsAcceptedNetwork}
+use Rattle.std.specs.List.{Contains}
 use Rattle.configuration.specs.LinksView.{under_way}
-use Rattle.thread_net.specs.Cables.{reach, rows_reach}
-use Rattle.thread_net.specs.Settling.{IsSettlingFrom, AreRowsSettled}
+use Rattle.thread_net.specs.Cables.{ids_in, row, left_between, IsRoomFor}
 use Rattle.thread_net.specs.Tables.{rows_in}
-use Rattle.thread_net.proofs.Cabling.{row-reach, done-reach}
-use Rattle.thread_net.proofs.Settling.{settling-as, rows-begin, rows-done, rows-flushed}
+use Rattle.thread_net.proofs.Pairs.{is_past, begins, ends, skips}
+use Rattle.thread_net.proofs.Taking.{cable-between}
+use Rattle.thread_net.proofs.Settling.{IsSettling, settling-none, settling-as, settling-all, settling-more, still-cabled}
 use Rattle.thread_net.proofs.settle.settle_all.Goals as goal
+use Rattle.thread_net.proofs.settle.settle_all.Goals.{then-are_joined, else-are_joined}
 
-pub loop-done-init : goal.loop-done-init
-loop-done-init g c =
+pub loop-one-init : goal.loop-one-init
+loop-one-init g c =
+    let old = rows_in c.args.rows.now.items in
+    let was = under_way c.args.links.now in
+    (refl, refl, refl, settling-none c.args.links.now.net old old was was)
+
+pub loop-other-init : goal.loop-other-init
+loop-other-init g c =
+    let u = c.loop-one.one in
+    let accepted : IsAcceptedNetwork c.args.links.now.net = subst IsAcceptedNetwork c.net.ensures.net c.nodes-nodes.ensures.network in
+    let it = c.loop-one.invariant in
+    (it.0, it.1, it.2, settling-as c.args.links.now.net _ _ _ _ (is_past u 0) (is_past u (u + 1)) (begins c.args.links.now.net accepted u c.joined.ensures.not_to_itself) it.3)
+
+pub settle_edge-requires-clause-cable : goal.settle_edge-requires-clause-cable
+settle_edge-requires-clause-cable g c =
+    let net = c.args.links.now.net in
+    let old = rows_in c.args.rows.now.items in
+    let u = c.loop-one.one in
+    let v = c.loop-other.other in
+    let accepted : IsAcceptedNetwork net = subst IsAcceptedNetwork c.net.ensures.net c.nodes-nodes.ensures.network in
+    let order : u < v = search (rules, arith) in
+    let joined : are_joined net.edges u v ≡ true = search rules in
+    let back = sym (c.joined.ensures.back net.edges u v) ∙ joined in
+    let at = c.joined.ensures.nodes net u v accepted joined in
+    let to-v : Contains (ids_in (row old u)) v = subst (λ xs. Contains xs v) (sym (c.requires.ids u at.0)) ((c.neighbours.ensures.joined net u v).1 (at.1, joined)) in
+    let to-u : Contains (ids_in (row old v)) u = subst (λ xs. Contains xs u) (sym (c.requires.ids v at.1)) ((c.neighbours.ensures.joined net v u).1 (at.0, back)) in
+    still-cabled net old (rows_in c.loop-other.rows.items) _ _ u v order joined back c.loop-other.invariant.3 (cable-between old u v c.requires.cabled to-v to-u)
+
+pub loop-other-preserved : goal.loop-other-preserved
+loop-other-preserved g c =
     let net = c.args.links.now.net in
     let old = rows_in c.args.rows.now.items in
     let was = under_way c.args.links.now in
-    let accepted : IsAcceptedNetwork net = subst IsAcceptedNetwork c.net.ensures.net c.nodes-nodes.ensures.network in
-    let start : net.nodes ≡ net.nodes - 0 = omega arith in
-    (refl, refl, refl, subst (λ k. AreRowsSettled net k old old was was) start (rows-begin net accepted c.joined.ensures.nodes old was c.requires.ids c.requires.cabled))
+    let rows = rows_in c.loop-other.rows.items in
+    let link = under_way c.loop-other.links in
+    let u = c.loop-one.one in
+    let v = c.loop-other.other in
+    let order : u < v = search (rules, arith) in
+    let both = c.joined.ensures.back net.edges u v in
+    let it = c.loop-other.invariant in
+    elim c.if-are_joined.branch [
+      | then-are_joined w ↦
+          let joined : are_joined net.edges u v ≡ true = search rules in
+          let e = w.settle_edge.ensures in
+          rw (w.links-is, w.rows-is) (
+            e.net ∙ it.0,
+            e.spares ∙ it.1,
+            e.all ∙ it.2,
+            settling-more net old rows was link u v order joined (sym both ∙ joined) it.3 (rows_in w.settle_edge.new.rows.items) (under_way w.settle_edge.new.links) e.forth e.home
+                (λ a b. e.left (subst (λ n. IsRoomFor n (left_between rows u v)) (sym it.0) a) (subst (λ n. IsRoomFor n (left_between rows v u)) (sym it.0) b)) e.others,
+          )
+      | else-are_joined w ↦
+          let isnt : are_joined net.edges u v ≡ false = search rules in
+          rw (w.links-is, w.rows-is) (it.0, it.1, it.2, settling-as net old rows was link (is_past u v) (is_past u (v + 1)) (skips net.edges u v isnt (sym both ∙ isnt)) it.3)
+    ]
 
-pub settle_row-requires-clause-settling : goal.settle_row-requires-clause-settling
-settle_row-requires-clause-settling g c =
+pub loop-one-preserved : goal.loop-one-preserved
+loop-one-preserved g c =
     let net = c.args.links.now.net in
-    let n = net.nodes in
-    let old = rows_in c.args.rows.now.items in
-    let was = under_way c.args.links.now in
-    let u = c.nodes-nodes.result - 1 - c.loop-done.done in
-    let rows = rows_in c.loop-done.rows.items in
-    let link = under_way c.loop-done.links in
+    let u = c.loop-one.one in
     let accepted : IsAcceptedNetwork net = subst IsAcceptedNetwork c.net.ensures.net c.nodes-nodes.ensures.network in
-    let next : n - c.loop-done.done ≡ u + 1 = search (rules, arith) in
-    let here =
-    settling-as net accepted c.joined.ensures.nodes old rows was link (rows_reach n (u + 1)) (reach n u n) (λ x xn. inl (sym (done-reach n u x xn)))
-    (subst (λ k. AreRowsSettled net k old rows was link) next c.loop-done.invariant.3) in
-    (old, was, subst (λ m. IsSettlingFrom m u m.nodes old rows was link) (sym c.loop-done.invariant.0) here)
-
-pub loop-done-preserved : goal.loop-done-preserved
-loop-done-preserved g c =
-    let net = c.args.links.now.net in
-    let n = net.nodes in
-    let old = rows_in c.args.rows.now.items in
-    let was = under_way c.args.links.now in
-    let u = c.nodes-nodes.result - 1 - c.loop-done.done in
-    let rows = rows_in c.loop-done.rows.items in
-    let link = under_way c.loop-done.links in
-    let accepted : IsAcceptedNetwork net = subst IsAcceptedNetwork c.net.ensures.net c.nodes-nodes.ensures.network in
-    let next : n - c.loop-done.done ≡ u + 1 = search (rules, arith) in
-    let then-next : u ≡ n - (c.loop-done.done + 1) = search (rules, arith) in
-    let here =
-    settling-as net accepted c.joined.ensures.nodes old rows was link (rows_reach n (u + 1)) (reach n u n) (λ x xn. inl (sym (done-reach n u x xn)))
-    (subst (λ k. AreRowsSettled net k old rows was link) next c.loop-done.invariant.3) in
-    let there = c.settle_row.ensures.settled old was (subst (λ m. IsSettlingFrom m u m.nodes old rows was link) (sym c.loop-done.invariant.0) here) in
-    let now = rows_in c.settle_row.new.rows.items in
-    let link-now = under_way c.settle_row.new.links in
-    let left =
-    settling-as net accepted c.joined.ensures.nodes old now was link-now (reach n u (u + 1)) (rows_reach n u) (λ x xn. row-reach net u (c.joined.ensures.not_to_itself net u accepted) x)
-    (subst (λ m. IsSettlingFrom m u (u + 1) old now was link-now) c.loop-done.invariant.0 there) in (
-      c.settle_row.ensures.net ∙ c.loop-done.invariant.0,
-      c.settle_row.ensures.spares ∙ c.loop-done.invariant.1,
-      c.settle_row.ensures.all ∙ c.loop-done.invariant.2,
-      subst (λ k. AreRowsSettled net k old now was link-now) then-next left,
-    )
+    let end : c.loop-other.other ≡ net.nodes = search (rules, arith) in
+    let it = c.loop-other.invariant in
+    (it.0, it.1, it.2, settling-as net _ _ _ _ (is_past u net.nodes) (is_past (u + 1) 0) (ends net accepted u c.joined.ensures.nodes) (subst (λ k. IsSettling net (is_past u k) (rows_in c.args.rows.now.items) (rows_in c.loop-other.rows.items) (under_way c.args.links.now) (under_way c.loop-other.links)) end it.3))
 
 pub returns-clause-flushed : goal.returns-clause-flushed
 returns-clause-flushed g c =
     let net = c.args.links.now.net in
-    let old = rows_in c.args.rows.now.items in
-    let was = under_way c.args.links.now in
-    let rows = rows_in c.loop-done.rows.items in
-    let link = under_way c.loop-done.links in
     let accepted : IsAcceptedNetwork net = subst IsAcceptedNetwork c.net.ensures.net c.nodes-nodes.ensures.network in
-    let end : net.nodes - c.loop-done.done ≡ 0 = search (rules, arith) in
-    rows-flushed net accepted c.joined.ensures.nodes old rows was link (subst (λ k. AreRowsSettled net k old rows was link) end c.loop-done.invariant.3)
+    let end : c.loop-one.one ≡ net.nodes = search (rules, arith) in
+    (settling-all net _ _ _ _ net.nodes (λ i j joined. (c.joined.ensures.nodes net i j accepted joined).0) (subst (λ k. IsSettling net (is_past k 0) (rows_in c.args.rows.now.items) (rows_in c.loop-one.rows.items) (under_way c.args.links.now) (under_way c.loop-one.links)) end c.loop-one.invariant.3)).0
 
 pub returns-clause-settled : goal.returns-clause-settled
 returns-clause-settled g c =
     let net = c.args.links.now.net in
-    let old = rows_in c.args.rows.now.items in
-    let was = under_way c.args.links.now in
-    let rows = rows_in c.loop-done.rows.items in
-    let link = under_way c.loop-done.links in
     let accepted : IsAcceptedNetwork net = subst IsAcceptedNetwork c.net.ensures.net c.nodes-nodes.ensures.network in
-    let end : net.nodes - c.loop-done.done ≡ 0 = search (rules, arith) in
-    rows-done net accepted c.joined.ensures.nodes old rows was link (subst (λ k. AreRowsSettled net k old rows was link) end c.loop-done.invariant.3)
+    let end : c.loop-one.one ≡ net.nodes = search (rules, arith) in
+    (settling-all net _ _ _ _ net.nodes (λ i j joined. (c.joined.ensures.nodes net i j accepted joined).0) (subst (λ k. IsSettling net (is_past k 0) (rows_in c.args.rows.now.items) (rows_in c.loop-one.rows.items) (under_way c.args.links.now) (under_way c.loop-one.links)) end c.loop-one.invariant.3)).1

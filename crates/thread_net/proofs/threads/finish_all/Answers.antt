@@ -1,25 +1,22 @@
-use Rattle.std.proofs.Common.{rules, ◌∷◌, ◌≤◌, length, vec_len, drop}
-use Rattle.std.specs.List.{AllZip}
+use Rattle.std.proofs.Common.{rules, arith, ◌≡◌, []}
+use Rattle.std.proofs.lemmas.List.{nil_from_length}
 use Rattle.std.specs.Vec.Iter.{into_iter_items}
 use Rattle.thread_net.specs.Outcomes.{IsStartOf, IsOutcomeOf}
-use Rattle.thread_net.proofs.Zips.{step_on, all_done}
+use Rattle.thread_net.proofs.Zips.{one-done, all-done}
 use Rattle.thread_net.proofs.threads.finish_all.Goals as goal
 
+pub loop-one-init : goal.loop-one-init
+loop-one-init g c = (search (rules, arith), λ runners z. (runners, search rules, λ more all. rw c.requires.room.0 all))
+
 pub loop-one-preserved : goal.loop-one-preserved
-loop-one-preserved g c =
-    let n = vec_len c.loop-one.done in
-    let t = c.args.turns in (
-      search rules,
-      search rules,
-      λ runners z.
-          let was = c.loop-one.invariant.2 runners z in
-          let rest : AllZip (IsStartOf t) (drop n runners) (c.in-Some.one ∷ into_iter_items c.next.new.self) = search rules in
-          let both = step_on (IsStartOf t) (IsOutcomeOf t) n runners c.in-Some.one (into_iter_items c.next.new.self) c.finish.result c.loop-one.done.items c.finish.ensures was.0 rest in
-          search rules,
-    )
+loop-one-preserved g c = (
+  search (rules, arith),
+  λ runners z.
+      let was = rw c.in-Some.ensures.steps.0 at (c.loop-one.invariant.1 runners z) in
+      rw c.push_reserved.ensures.items (one-done (IsStartOf c.args.turns) (IsOutcomeOf c.args.turns) runners c.loop-one.done.items c.in-Some.one _ c.finish.result c.finish.ensures was),
+)
 
 pub returns : goal.returns
 returns g c = λ runners z.
-    let was = c.loop-one.invariant.2 runners z in
-    let enough : length c.args.started.items ≤ vec_len c.loop-one.done = search rules in
-    all_done (IsStartOf c.args.turns) (IsOutcomeOf c.args.turns) (vec_len c.loop-one.done) runners c.args.started.items c.loop-one.done.items z enough was.0
+    let nothing : into_iter_items c.loop-one.one-iterator ≡ [] = nil_from_length _ (search (rules, arith)) in
+    all-done (IsStartOf c.args.turns) (IsOutcomeOf c.args.turns) runners c.loop-one.done.items (rw nothing at (c.loop-one.invariant.1 runners z))
