@@ -1,7 +1,7 @@
 -- What the accounts of runners that are done say together.
-use Rattle.std.proofs.Common.{◌≡◌, inl, inr, ℕ, zero, suc, ◌-◌, ◌<◌, ◌≤◌, ◌==◌, Bool, true, false, if◌then◌else◌, nat_lt, IsTrue, Option, Some, None, List, [], ◌∷◌, length, map, drop, ap, refl, sym, subst, ◌∙◌, arith, append-nil, slice_index_or, slice_get, All}
+use Rattle.std.proofs.Common.{◌≡◌, inl, inr, ℕ, ◌-◌, ◌<◌, ◌≤◌, ◌==◌, Bool, true, false, if◌then◌else◌, IsTrue, Option, Some, None, List, [], ◌∷◌, length, map, ap, refl, sym, subst, ◌∙◌, arith, append-nil, slice_index_or, slice_get, All}
 use Rattle.std.proofs.lemmas.Grind.{common_steps}
-use Rattle.std.proofs.lemmas.List.{drop_all, get_or-map, get_or_past}
+use Rattle.std.proofs.lemmas.List.{drop_all, get_or-map, get_or_past, length-map}
 use Rattle.std.proofs.lemmas.List.Elements.{All-head, All-nil, All-tail}
 use Rattle.std.proofs.lemmas.Bool.{cases_Bool, le-ltb, lt-ltb}
 use Rattle.std.proofs.lemmas.Option.{none-some, same_Some, slice_get_within, slice_get_cases, get_or_from_slice_get}
@@ -14,11 +14,10 @@ use Rattle.run_model.specs.Run.{run}
 use Rattle.run_model.specs.Laws.{RangesStay}
 use Rattle.run_model.specs.declared.event.Event.{Event}
 use Rattle.configuration.specs.ConfigurationView.{no_node, states_of}
-use Rattle.weaving.specs.declared.journal.Stamped.{Stamped}
 use Rattle.weaving.specs.Account.{Note, entry_of, sent_to, taken_from, AreOverLinks, Leads}
 use Rattle.weaving.specs.Journals.{journal_of}
 use Rattle.weaving.specs.Laws.{GoesThrough, WovenIsRun}
-use Rattle.weaving.specs.Matched.{AreMatched, AreOf, IsLinkMatched, stamps}
+use Rattle.weaving.specs.Matched.{AreMatched, IsLinkMatched, stamps}
 use Rattle.weaving.specs.Woven.{AreRising, IsWoven}
 use Rattle.node_runner.specs.declared.runner.Port.{Port}
 use Rattle.node_runner.specs.declared.runner.Runner.{Runner}
@@ -32,8 +31,6 @@ use Rattle.thread_net.specs.ThreadRun.{IsThreadRun}
 use Rattle.node_runner.specs.FirstTurn.{IsFirstTurn, count_of, deeds_of, is_tick_of}
 use Rattle.node_runner.specs.Due.{events_of}
 use Rattle.node_runner.specs.Laws.{EachRoundTicks}
-use Rattle.thread_net.proofs.Maps.{map-long}
-use Rattle.thread_net.proofs.Taking.{leads-to}
 use Rattle.thread_net.proofs.OwnEvents.{own-deeds, own-ticks}
 use Rattle.thread_net.proofs.Matching.{Rise, link-matched}
 
@@ -43,7 +40,7 @@ pub get-mapped : {X Y : Type 0} (f : X → Y) (xs : List X) (k : ℕ) (x : X) (d
 get-mapped f xs k x d is = get_or-map f xs k x d (slice_get_within xs k x is) ∙ ap f (get_or_from_slice_get xs k x x is)
 
 pub none-mapped : {X Y : Type 0} (f : X → Y) (xs : List X) (k : ℕ) (d : Y) → length xs ≤ k → slice_index_or (map f xs) k d ≡ d
-none-mapped f xs k d past = let long = map-long f xs in get_or_past (map f xs) k d (omega arith)
+none-mapped f xs k d past = let long = length-map xs f in get_or_past (map f xs) k d (omega arith)
 
 -- ---- accounts
 
@@ -74,10 +71,10 @@ idle-link capacity old = record {
 }
 
 -- what holds of all ports holds of the one that leads to a node
-found : {A : Type 0} (Q : Port A → Type 0) (ps : List (Port A)) (v : ℕ) (p : Port A) → port_to ps v ≡ Some p → All Q ps → Q p
+found : {A : Type 0} (Q : Port A → Type 0) (ps : List (Port A)) (v : ℕ) (p : Port A) → port_to ps v ≡ Some p → All Q ps → Q p × (p.neighbour ≡ v)
 found Q [] v p is all = absurd (none-some p is)
 found Q (q ∷ ps) v p is all = elim (cases_Bool (q.neighbour == v)) [
-  | inl here ↦ subst Q (same_Some q p (rw here at is)) (All-head Q q ps all)
+  | inl here ↦ let same = same_Some q p (rw here at is) in (subst Q same (All-head Q q ps all), grind (arith, common_steps, here, same))
   | inr other ↦ found Q ps v p (rw other at is) (All-tail Q q ps all)
 ]
 
@@ -100,8 +97,8 @@ module _ {A : Type 0} (w : World) (turns : ℕ → ℕ) (rs : List (Runner A)) (
   pub known : (v : ℕ) → IsKnown w turns rs v
   known v = elim (slice_get_cases rs v).1 [
     | inl (r, within, is, at) ↦
-        let it = done.each v r is in
         let here : v < w.net.nodes = let c = done.count in omega arith in
+        let it = rw at at (done.each v r here) in
         record {
           account = it.notes;
           leads = rw (lt-ltb v w.net.nodes here, get-mapped (λ r. r.node) rs v r no_node is) it.said.leads;
@@ -141,8 +138,8 @@ module _ {A : Type 0} (w : World) (turns : ℕ → ℕ) (rs : List (Runner A)) (
       let sender = found (IsPortNoted w u (account u)) (row (rows_of rs) u) v p to-v (known u).ports in
       let receiver = found (IsPortNoted w v (account v)) (row (rows_of rs) v) u q to-u (known v).ports in
       link-matched w.net.capacity (w.link u v) (sent_to v (account u)) (taken_from u (account v)) p.outgoing q.incoming
-      (subst (λ n. IsSender w.net.capacity (w.link u n) (sent_to n (account u)) p.outgoing) (leads-to v (row (rows_of rs) u) p to-v) sender.0)
-      (subst (λ n. IsReceiver w.net.capacity (length (w.link n v)) (taken_from n (account v)) q.incoming) (leads-to u (row (rows_of rs) v) q to-u) receiver.1)
+      (subst (λ n. IsSender w.net.capacity (w.link u n) (sent_to n (account u)) p.outgoing) sender.1 sender.0.0)
+      (subst (λ n. IsReceiver w.net.capacity (length (w.link n v)) (taken_from n (account v)) q.incoming) receiver.1 receiver.0.1)
       is (taken-rise v u (account v) (known v).rising)
 
   module _ (flushed : (u v : ℕ) → IsTrue (are_joined w.net.edges u v) → IsFlushedBetween (rows_of rs) u v) where

@@ -1,8 +1,8 @@
 -- The two ends of a link say together what the link did.
-use Rattle.std.proofs.Common.{◌≡◌, ◌⊎◌, inl, inr, ℕ, suc, ◌-◌, ◌<◌, ◌≤◌, List, [], ◌∷◌, ◌++◌, length, drop, filter, nat_le, true, false, ap, refl, sym, subst, ◌∙◌, arith, append_assoc}
-use Rattle.std.proofs.lemmas.Bool.{cases_lt}
+use Rattle.std.proofs.Common.{◌≡◌, ℕ, ◌-◌, ◌<◌, List, [], ◌∷◌, ◌++◌, length, drop, filter, nat_le, ap, refl, sym, ◌∙◌, arith}
 use Rattle.std.proofs.lemmas.Grind.{common_steps}
-use Rattle.std.proofs.lemmas.List.{map-append}
+use Rattle.std.proofs.lemmas.List.{map-append, map-id}
+use Rattle.std.proofs.lemmas.Simd.{map-map}
 use Rattle.std.proofs.Math.Seq.{drop-append_seam}
 use Rattle.std.specs.List.{AllZip, AllByRecursion}
 use Rattle.rtrb.specs.Ring.{received}
@@ -12,12 +12,8 @@ use Rattle.weaving.specs.Matched.{AreAbove, stamps, items, IsLinkMatched}
 use Rattle.node_runner.specs.declared.ports.Outgoing.{Outgoing}
 use Rattle.node_runner.specs.declared.ports.Incoming.{Incoming}
 use Rattle.node_runner.specs.Stamps.{IsTakeOf, last_place}
-use Rattle.node_runner.specs.Ports.{opening, IsSender, IsReceiver}
+use Rattle.node_runner.specs.Ports.{opening, stamped, IsSender, IsReceiver}
 use Rattle.thread_net.specs.Cables.{IsFlushed, left_on}
-
-items-opening : (old : List Item) → items (opening old) ≡ old
-items-opening [] = refl
-items-opening (i ∷ old) = ap (λ zs. i ∷ zs) (items-opening old)
 
 taken-items : (takes came : List Stamped) → AllZip IsTakeOf takes came → items takes ≡ items came
 taken-items [] [] all = refl
@@ -52,12 +48,10 @@ none-back x [] high all = refl
 none-back x (y ∷ ys) high all = let h = all.0 in let later = none-back x ys high all.1 in grind (arith, common_steps)
 
 -- the places that are given back are those of the first takes
-back-first : (xs : List ℕ) → Rise xs → (rest : List ℕ) × (filter (λ stamp. nat_le stamp last_place) xs ++ rest ≡ xs)
-back-first [] rise = ([], refl)
-back-first (x ∷ xs) rise = elim (cases_lt last_place x) [
-  | inl high ↦ let none = none-back x xs high rise.0 in (x ∷ xs, grind (arith, common_steps))
-  | inr low ↦ let later = back-first xs rise.1 in let same = later.1 in (later.0, grind (arith, common_steps))
-]
+above-back : (zs xs : List ℕ) → Rise xs → AreAbove zs (filter (λ stamp. nat_le stamp last_place) xs) → AreAbove zs xs
+above-back [] xs rise above = tt
+above-back (z ∷ zs) [] rise above = elim above [ ]
+above-back (z ∷ zs) (x ∷ xs) rise above = let later = above-back zs xs rise.1 in let none = none-back x xs in grind (arith, common_steps, later, none, rise, above)
 
 module _ {A : Type 0} (capacity : ℕ) (old : List Item) (sends takes : List Stamped) (o : Outgoing A) (i : Incoming A)
     (sender : IsSender capacity old sends o) (receiver : IsReceiver capacity (length old) takes i) (flushed : IsFlushed o i) (rise : Rise (stamps takes)) where
@@ -66,17 +60,14 @@ module _ {A : Type 0} (capacity : ℕ) (old : List Item) (sends takes : List Sta
       let came = received i.frames in
       let went : came ++ flushed.0.0 ≡ opening old ++ sends = flushed.0.1 ∙ sender.sent in
       let left : left_on o i ≡ items flushed.0.0 = ap items (ap (drop (length came)) (sym flushed.0.1) ∙ drop-append_seam came flushed.0.0) in
-      let back = back-first (stamps takes) rise in
-      let all : received o.places ++ (flushed.1.0 ++ back.0) ≡ stamps takes =
-      sym (append_assoc (received o.places) flushed.1.0 back.0) ∙ (ap (λ xs. xs ++ back.0) (flushed.1.1 ∙ receiver.returned) ∙ back.1) in
       record {
         kept =
             let before = map-append (λ x. x.item) (opening old) sends in
             let after = map-append (λ x. x.item) came flushed.0.0 in
             let both = ap items went in
-            let first = items-opening old in
+            let first : items (opening old) ≡ old = map-map (λ x. x.item) (stamped 0) old ∙ map-id old in
             let taken = taken-items takes came receiver.taken in
             cc;
         taken_later = above-drop old takes sends (rw went at (above-taken takes came flushed.0.0 receiver.taken));
-        sent_later = rw all at (above-longer (drop (capacity - length old) (stamps sends)) (received o.places) (flushed.1.0 ++ back.0) sender.later);
+        sent_later = above-back _ (stamps takes) rise (rw (flushed.1.1 ∙ receiver.returned) at (above-longer (drop (capacity - length old) (stamps sends)) (received o.places) flushed.1.0 sender.later));
       }

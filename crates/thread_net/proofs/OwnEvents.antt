@@ -1,6 +1,7 @@
 -- A node's own events in a woven list are those of its account.
-use Rattle.std.proofs.Common.{◌≡◌, ℕ, ◌==◌, true, List, [], ◌∷◌, map, ap, refl, sym, subst, ◌∙◌, arith}
+use Rattle.std.proofs.Common.{◌≡◌, ℕ, ◌==◌, true, List, [], ◌∷◌, map, ap, refl, ◌∙◌, arith}
 use Rattle.std.proofs.lemmas.Grind.{common_steps}
+use Rattle.std.proofs.lemmas.Simd.{map-map}
 use Rattle.std.specs.List.{AllByRecursion}
 use Rattle.run_model.specs.declared.event.Event.{Event}
 use Rattle.weaving.specs.declared.journal.Entry.{Entry}
@@ -24,30 +25,25 @@ account-own u (d ∷ ds) = (deed-own u d, account-own u ds)
 after-first : (v : ℕ) (p : Placed) (ps : List Placed) → AllByRecursion (IsOwn v) (entries_of v (p ∷ ps)) → AllByRecursion (IsOwn v) (entries_of v ps)
 after-first v p ps all = grind (arith, common_steps, all)
 
-all-own : (ps : List Placed) → ((v : ℕ) → AllByRecursion (IsOwn v) (entries_of v ps)) → AllByRecursion (λ p. IsOwn p.node p.entry) ps
-all-own [] each = tt
-all-own (p ∷ ps) each =
-    let here : entries_of p.node (p ∷ ps) ≡ p.entry ∷ entries_of p.node ps = grind (arith, common_steps) in
-    ((rw here at (each p.node)).0, all-own ps (λ v. after-first v p ps (each v)))
-
 -- a deed of one node is no other's
 by-one : (u v : ℕ) (e : Event) → is_deed_of u e ≡ true → is_deed_of v e ≡ (u == v)
 by-one u v e own = grind (arith, common_steps, own)
 
-placed-own : (v : ℕ) (ps : List Placed) → AllByRecursion (λ p. IsOwn p.node p.entry) ps → deeds_of v (map (λ p. p.entry.event) ps) ≡ map (λ e. e.event) (entries_of v ps)
-placed-own v [] own = refl
-placed-own v (p ∷ ps) own = let later = placed-own v ps own.1 in let one = by-one p.node v p.entry.event own.0 in grind (arith, common_steps, later, one)
+first-own : (p : Placed) (ps : List Placed) → AllByRecursion (IsOwn p.node) (entries_of p.node (p ∷ ps)) → IsOwn p.node p.entry
+first-own p ps all = grind (arith, common_steps, all)
 
-note-events : (v : ℕ) (ds : List Note) → map (λ e. e.event) (map (entry_of v) ds) ≡ events_of v ds
-note-events v [] = refl
-note-events v (d ∷ ds) = ap (λ es. (entry_of v d).event ∷ es) (note-events v ds)
+placed-own : (v : ℕ) (ps : List Placed) → ((u : ℕ) → AllByRecursion (IsOwn u) (entries_of u ps)) → deeds_of v (map (λ p. p.entry.event) ps) ≡ map (λ e. e.event) (entries_of v ps)
+placed-own v [] each = refl
+placed-own v (p ∷ ps) each =
+    let later = placed-own v ps (λ u. after-first u p ps (each u)) in
+    let one = by-one p.node v p.entry.event (first-own p ps (each p.node)) in
+    grind (arith, common_steps, later, one)
 
 pub own-deeds : (account : ℕ → List Note) (journal : ℕ → List Entry) (events : List Event) (v : ℕ) → AreOf account journal → IsWoven journal events
     → deeds_of v events ≡ events_of v (account v)
 own-deeds account journal events v said woven =
-    let each : (u : ℕ) → AllByRecursion (IsOwn u) (entries_of u woven.placed) = λ u. subst (AllByRecursion (IsOwn u)) (sym (woven.complete u ∙ said u)) (account-own u (account u)) in
-    ap (deeds_of v) (sym woven.are_events)
-    ∙ (placed-own v woven.placed (all-own woven.placed each) ∙ (ap (map (λ e. e.event)) (woven.complete v ∙ said v) ∙ note-events v (account v)))
+    let each : (u : ℕ) → AllByRecursion (IsOwn u) (entries_of u woven.placed) = λ u. rw (woven.complete u, said u) (account-own u (account u)) in
+    rw (← woven.are_events) (placed-own v woven.placed each ∙ (ap (map (λ e. e.event)) (woven.complete v ∙ said v) ∙ map-map (λ e. e.event) (entry_of v) (account v)))
 
 -- a node's ticks are among its own events
 pub own-ticks : (v : ℕ) (es : List Event) → count_of (is_tick_of v) es ≡ count_of (is_tick_of v) (deeds_of v es)

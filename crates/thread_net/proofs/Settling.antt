@@ -1,74 +1,134 @@
--- One pair of links more is settled.
-use Rattle.std.proofs.Common.{◌≡◌, inl, inr, ℕ, ◌+◌, ◌<◌, ◌==◌, ◌&&◌, Bool, true, false, if◌then◌else◌, IsTrue, Option, Some, None, List, ap, refl, sym, subst, ◌∙◌, arith}
+-- Rings are links again: one pair of links more, and one item more of a ring.
+use Rattle.std.proofs.Common.{◌≡◌, ◌≢◌, ℕ, zero, suc, ◌<◌, ◌==◌, Bool, true, Some, None, List, [], ◌∷◌, length, refl, arith, slice_index_or, ◌+◌, if◌then◌else◌, nat_lt, IsTrue, ◌++◌, ap, ◌∙◌, drop, take, ◌⊎◌, inl, inr, ◌||◌, false}
+use Rattle.std.specs.List.{position, position_or_len, remove}
+use Rattle.std.proofs.lemmas.Bool.{ltb-true, lt-ltb}
 use Rattle.std.proofs.lemmas.Grind.{common_steps}
-use Rattle.std.proofs.lemmas.Bool.{both_ways}
-use Rattle.std.proofs.Math.Path.{fun_ext}
-use Rattle.topology.specs.Network.{Network, are_joined}
-use Rattle.link_model.specs.declared.item.Item.{Item}
-use Rattle.run_model.specs.World.{at_pair}
+use Rattle.std.proofs.lemmas.List.Quantifiers.{position-Some}
+use Rattle.std.proofs.lemmas.Option.{cond_some}
 use Rattle.node_runner.specs.declared.runner.Port.{Port}
-use Rattle.thread_net.specs.Cables.{IsOtherPair, row, port_to, left_between, settled, IsCableBetween, IsFlushedBetween, IsRoomFor, AreSettleable}
-use Rattle.thread_net.proofs.Pairs.{is_past, newly-past, past-here, still-open, all-past, none-past}
+use Rattle.thread_net.specs.Cables.{port_to, IsRoomFor, IsOtherPair, row, left_between, IsCableBetween, IsFlushedBetween, AreSettleable}
+use Rattle.std.proofs.Math.Path.{fun_ext}
+use Rattle.std.proofs.lemmas.List.{drop_more, length-take, length-drop, get_or-drop, take_more, get_or_default}
+use Rattle.topology.specs.Network.{Network, Edge, IsAcceptedNetwork, are_joined, has_double_edge, is_between, is_same_edge}
+use Rattle.topology.specs.Ranges.{ranges_of}
+use Rattle.link_model.specs.declared.item.Item.{Item}
+use Rattle.run_model.specs.World.{at_pair, item_fits}
+use Rattle.std.proofs.lemmas.List.Folds.{list_any_at, list_any_more}
 
--- The links of the pairs that are past have what was left in their rings. The ports and links of all
--- other pairs are as they were.
+module _ {A : Type 0} (v : ℕ) where
+  abbrev pub leads : Port A → Bool
+  leads p = p.neighbour == v
+
+  pub not-found : (ps : List (Port A)) → position leads ps ≡ None → port_to ps v ≡ None
+  not-found [] none = refl
+  not-found (p ∷ ps) none = let later = not-found ps in grind (arith, common_steps)
+
+  found : (ps : List (Port A)) (d : Port A) → position_or_len leads ps < length ps → port_to ps v ≡ Some (slice_index_or ps (position_or_len leads ps) d)
+  found [] d within = absurd (omega arith)
+  found (p ∷ ps) d within = let later = found ps d in grind (arith, common_steps)
+
+  without : (ps : List (Port A)) (k j : ℕ) (d : Port A) → k < length ps → leads (slice_index_or ps k d) ≡ true → j ≢ v → port_to (remove ps k) j ≡ port_to ps j
+  without [] k j d within at apart = absurd (omega arith)
+  without (p ∷ ps) zero j d within at apart = grind (arith, common_steps)
+  without (p ∷ ps) (suc k) j d within at apart = let later = without ps k j d (omega arith) at apart in grind (arith, common_steps)
+
+  -- it is found at its place, and all others are found without it
+  pub found-at : (ps : List (Port A)) (k : ℕ) (d : Port A) → position leads ps ≡ Some k
+      → (port_to ps v ≡ Some (slice_index_or ps k d)) × ((j : ℕ) → j ≢ v → port_to (remove ps k) j ≡ port_to ps j)
+  found-at ps k d is =
+      let f = cond_some _ _ _ is in
+      let at = position-Some leads ps k d is in
+      (rw (← f.1) (found ps d (ltb-true _ _ f.0)), λ j. without ps k j d at.0 at.1)
+
+put-twice : {X : Type 0} (f : ℕ → ℕ → X) (u v : ℕ) (x y : X) → at_pair (at_pair f u v x) u v y ≡ at_pair f u v y
+put-twice f u v x y = fun_ext (λ i. fun_ext (λ j. grind (arith, common_steps)))
+
+-- the next of all items that go there
+module _ (net : Network) (all rest : List Item) (k : ℕ) (i : Item) (next : i ∷ rest ≡ drop k all) where
+  within : k < length all
+  within = let long = ap length next in let left = length-drop k all in omega arith
+
+  here : slice_index_or all k i ≡ i
+  here = let at = get_or-drop k all 0 i in let first = ap (λ xs. slice_index_or xs 0 i) next in grind (arith, common_steps, at, first)
+
+  pub rest-is : rest ≡ drop (k + 1) all
+  rest-is = let more = drop_more all k i within in cc
+
+  pub item-fits : IsRoomFor net all → IsTrue (item_fits (ranges_of net) i)
+  item-fits room = rw here at (room.1 k i within)
+
+  pub drain-step : IsRoomFor net all → (f g now : ℕ → ℕ → List Item) (u v : ℕ) → g ≡ at_pair f u v (take k all)
+      → now ≡ (if nat_lt (length (g u v)) net.capacity then at_pair g u v (g u v ++ i ∷ []) else g) → now ≡ at_pair f u v (take (k + 1) all)
+  drain-step room f g now u v is put =
+      let there : g u v ≡ take k all = rw is (grind (arith, common_steps)) in
+      let few : length (take k all) < net.capacity = let most = room.0 in let long = length-take k all in let w = within in omega arith in
+      let more : take (k + 1) all ≡ take k all ++ i ∷ [] = take_more all k i within ∙ ap (λ x. take k all ++ x ∷ []) here in
+      rw more (rw (there, lt-ltb (length (take k all)) net.capacity few, is, put-twice) at put)
+
+-- an edge stands once
+pub first-time : (edges : List Edge) (k : ℕ) (e : Edge) → has_double_edge edges ≡ false → k < length edges → slice_index_or edges k e ≡ e → are_joined (take k edges) e.0 e.1 ≡ false
+first-time [] k e once within at = absurd (omega arith)
+first-time (f ∷ es) zero e once within at = refl
+first-time (f ∷ es) (suc k) e once within at =
+    let here = list_any_at (is_same_edge f) es k e in
+    let later = first-time es k e in
+    grind (arith, common_steps, here, later)
+
+-- the next edge of a network's
+module _ (net : Network) (accepted : IsAcceptedNetwork net) (es : List Edge) (same : es ≡ net.edges) (k : ℕ) (within : k < length net.edges) where
+  abbrev edge : Edge
+  edge = slice_index_or es k (0, 0)
+
+  pub apart-at : edge.0 ≢ edge.1
+  apart-at = rw same (accepted.limits.edges_in k (0, 0) within).no_loop
+
+  pub joined-at : are_joined net.edges edge.0 edge.1 ≡ true
+  joined-at = rw same (list_any_at (is_between (slice_index_or net.edges k (0, 0)).0 (slice_index_or net.edges k (0, 0)).1) net.edges k (0, 0) within (grind (arith, common_steps)))
+
+  pub first-at : are_joined (take k net.edges) edge.0 edge.1 ≡ false
+  first-at = rw same (first-time net.edges k (slice_index_or net.edges k (0, 0)) accepted.limits.no_double within (get_or_default net.edges k _ (0, 0) within))
+
+  pub more-at : (i j : ℕ) → are_joined (take (k + 1) net.edges) i j ≡ (are_joined (take k net.edges) i j || is_between i j edge)
+  more-at i j = rw same (list_any_more (is_between i j) net.edges k (0, 0) within)
+
+-- The links of the pairs that are past have what was left in their rings. The ports of all other
+-- pairs are as they were.
 pub record IsSettling {A : Type 0} (net : Network) (past : ℕ → ℕ → Bool) (old rows : List (List (Port A))) (was link : ℕ → ℕ → List Item) : Type 0 where
-  pub flushed : (i j : ℕ) → IsTrue (are_joined net.edges i j) → past i j ≡ true → IsFlushedBetween old i j
-  pub left : AreSettleable net old → (i j : ℕ) → link i j ≡ (if are_joined net.edges i j && past i j then left_between old i j else was i j)
-  pub same : (i j : ℕ) → IsTrue (are_joined net.edges i j) → past i j ≡ false → port_to (row rows i) j ≡ port_to (row old i) j
+  pub flushed : (i j : ℕ) → past i j ≡ true → IsFlushedBetween old i j
+  pub left : AreSettleable net old → (i j : ℕ) → link i j ≡ (if past i j then left_between old i j else was i j)
+  pub same : (i j : ℕ) → past i j ≡ false → port_to (row rows i) j ≡ port_to (row old i) j
 
--- the links of one pair more
-next-at : {X : Type 0} (left link was : ℕ → ℕ → X) (joined : ℕ → ℕ → Bool) (u v : ℕ) → u < v → joined u v ≡ true → joined v u ≡ true → (i j : ℕ)
-    → link i j ≡ (if joined i j && is_past u v i j then left i j else was i j)
-    → at_pair (at_pair link u v (left u v)) v u (left v u) i j ≡ (if joined i j && is_past u (v + 1) i j then left i j else was i j)
-next-at left link was joined u v order forth home i j ago = grind (arith, common_steps, order, forth, home, ago)
+-- one pair more
+module _ (past after : ℕ → ℕ → Bool) (u v : ℕ) (apart : u ≢ v) (grows : (i j : ℕ) → after i j ≡ (past i j || is_between i j (u, v))) where
+  newly-past : (i j : ℕ) → after i j ≡ true → (past i j ≡ true) ⊎ (((i ≡ u) × (j ≡ v)) ⊎ ((i ≡ v) × (j ≡ u)))
+  newly-past i j is = let all = grows i j in grind (arith, common_steps)
 
-module _ {A : Type 0} (net : Network) (old rows : List (List (Port A))) (was link : ℕ → ℕ → List Item) where
-  -- at first no pair is past
-  pub settling-none : IsSettling net (is_past 0 0) old old was was
-  settling-none = record {
-    flushed = λ i j joined past. absurd (both_ways (is_past 0 0 i j) (none-past i j) past);
-    left = λ able i j. let e = none-past i j in grind (arith, common_steps);
-    same = λ i j joined ahead. refl;
-  }
+  still-open : (i j : ℕ) → after i j ≡ false → IsOtherPair i j u v × IsOtherPair i j v u × (past i j ≡ false)
+  still-open i j is = let all = grows i j in (grind (arith, common_steps), grind (arith, common_steps), grind (arith, common_steps))
 
-  -- the same if no other pair of neighbours is past
-  pub settling-as : (f g : ℕ → ℕ → Bool) → ((i j : ℕ) → are_joined net.edges i j ≡ true → f i j ≡ g i j) → IsSettling net f old rows was link → IsSettling net g old rows was link
-  settling-as f g agree before = record {
-    flushed = λ i j joined past. before.flushed i j joined (agree i j joined ∙ past);
-    left = λ able i j. let e = agree i j in let ago = before.left able i j in grind (arith, common_steps);
-    same = λ i j joined ahead. before.same i j joined (agree i j joined ∙ ahead);
-  }
+  next-at : {X : Type 0} (left link was : ℕ → ℕ → X) (i j : ℕ) → link i j ≡ (if past i j then left i j else was i j)
+      → at_pair (at_pair link u v (left u v)) v u (left v u) i j ≡ (if after i j then left i j else was i j)
+  next-at left link was i j ago = let all = grows i j in grind (arith, common_steps, apart, ago)
 
-  -- at last all are
-  pub settling-all : (n : ℕ) → ((i j : ℕ) → IsTrue (are_joined net.edges i j) → i < n) → IsSettling net (is_past n 0) old rows was link
-      → ((i j : ℕ) → IsTrue (are_joined net.edges i j) → IsFlushedBetween old i j) × (AreSettleable net old → link ≡ settled net old was)
-  settling-all n nodes last = (
-    λ i j joined. last.flushed i j joined (all-past n i j (nodes i j joined)),
-    λ able. fun_ext (λ i. fun_ext (λ j. let e : IsTrue (are_joined net.edges i j) → is_past n 0 i j ≡ true = λ joined. all-past n i j (nodes i j joined) in let ago = last.left able i j in grind (arith, common_steps))),
-  )
-
-  module _ (u v : ℕ) (order : u < v) (joined : are_joined net.edges u v ≡ true) (back : are_joined net.edges v u ≡ true) (before : IsSettling net (is_past u v) old rows was link) where
-    at-u : port_to (row rows u) v ≡ port_to (row old u) v
-    at-u = before.same u v joined (past-here u v order).0
-
-    at-v : port_to (row rows v) u ≡ port_to (row old v) u
-    at-v = before.same v u back (past-here u v order).1
-
+  module _ {A : Type 0} (net : Network) (old rows : List (List (Port A))) (was link : ℕ → ℕ → List Item) (forth : past u v ≡ false) (home : past v u ≡ false) (before : IsSettling net past old rows was link) where
     pub still-cabled : IsCableBetween old u v → IsCableBetween rows u v
-    still-cabled cable = rw (at-u, at-v) cable
+    still-cabled cable = rw (before.same u v forth, before.same v u home) cable
 
-    pub settling-more : (now : List (List (Port A))) (next : ℕ → ℕ → List Item) → IsFlushedBetween rows u v → IsFlushedBetween rows v u
+    pub settling-more : (now : List (List (Port A))) (next : ℕ → ℕ → List Item) → are_joined net.edges u v ≡ true → are_joined net.edges v u ≡ true
+        → IsFlushedBetween rows u v → IsFlushedBetween rows v u
         → (IsRoomFor net (left_between rows u v) → IsRoomFor net (left_between rows v u) → next ≡ at_pair (at_pair link u v (left_between rows u v)) v u (left_between rows v u))
-        → ((i j : ℕ) → IsOtherPair i j u v → IsOtherPair i j v u → port_to (row now i) j ≡ port_to (row rows i) j) → IsSettling net (is_past u (v + 1)) old now was next
-    settling-more now next forth home left others = record {
-      flushed = λ i j joint past. elim (newly-past u v order i j past) [
-        | inl ago ↦ before.flushed i j joint ago
-        | inr (inl (is-u, is-v)) ↦ rw (is-u, is-v) (rw (at-u, at-v) at forth)
-        | inr (inr (is-v, is-u)) ↦ rw (is-v, is-u) (rw (at-v, at-u) at home)
-      ];
-      left = λ able i j.
-          let next-is : next ≡ at_pair (at_pair link u v (left_between old u v)) v u (left_between old v u) = rw (at-u, at-v) at left (able u v joined) (able v u back) in
-          rw next-is (next-at (left_between old) link was (are_joined net.edges) u v order joined back i j (before.left able i j));
-      same = λ i j joint ahead. let apart = still-open u v order i j ahead in others i j apart.0 apart.1 ∙ before.same i j joint apart.2;
-    }
+        → ((i j : ℕ) → IsOtherPair i j u v → IsOtherPair i j v u → port_to (row now i) j ≡ port_to (row rows i) j) → IsSettling net after old now was next
+    settling-more now next joined back there here left others =
+        let at-u = before.same u v forth in
+        let at-v = before.same v u home in
+        record {
+          flushed = λ i j is. elim (newly-past i j is) [
+            | inl ago ↦ before.flushed i j ago
+            | inr (inl (is-u, is-v)) ↦ rw (is-u, is-v) (rw (at-u, at-v) at there)
+            | inr (inr (is-v, is-u)) ↦ rw (is-v, is-u) (rw (at-v, at-u) at here)
+          ];
+          left = λ able i j.
+              let next-is = rw (at-u, at-v) at left (able u v joined) (able v u back) in
+              rw next-is (next-at (left_between old) link was i j (before.left able i j));
+          same = λ i j is. let away = still-open i j is in others i j away.0 away.1 ∙ before.same i j away.2;
+        }

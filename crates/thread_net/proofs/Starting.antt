@@ -1,35 +1,26 @@
 -- Runners that are furnished are at the start.
-use Rattle.std.proofs.Common.{◌≡◌, ℕ, zero, suc, ◌+◌, ◌*◌, ◌<◌, ◌≤◌, true, not, nat_lt, if◌then◌else◌, List, [], ◌∷◌, length, map, ap, refl, sym, subst, ◌∙◌, arith, slice_index_or, All, vec_capacity}
+use Rattle.std.proofs.Common.{◌≡◌, ℕ, ◌<◌, ◌≤◌, not, List, [], length, map, ap, refl, sym, subst, ◌∙◌, arith, slice_index_or, All}
 use Rattle.std.proofs.lemmas.Bool.{lt-ltb}
-use Rattle.std.proofs.lemmas.Grind.{common_steps}
 use Rattle.std.specs.List.{range_with_len}
-use Rattle.std.proofs.lemmas.List.{get_or-map}
+use Rattle.std.proofs.lemmas.Simd.{map-map}
+use Rattle.std.proofs.lemmas.List.{get_or-map, length-map}
+use Rattle.std.proofs.lemmas.List.Elements.{All-from_get_or}
 use Rattle.std.proofs.lemmas.List.Filters.{length-filter_both}
 use Rattle.std.proofs.lemmas.List.FromFn.{length-range_with_len}
 use Rattle.topology.specs.Network.{Network, are_joined, neighbours_of}
-use Rattle.topology.specs.Ranges.{ranges_of}
 use Rattle.node_core.specs.Site.{site_of}
-use Rattle.node_core.specs.State.{default_node}
 use Rattle.node_core.specs.View.{NodeView, site_in, state_of}
 use Rattle.run_model.specs.World.{World}
 use Rattle.configuration.specs.ConfigurationView.{AreNodesOf, no_node, node_at, world_of}
 use Rattle.configuration.specs.LinksView.{LinksView}
 use Rattle.node_runner.specs.declared.runner.Runner.{Runner}
-use Rattle.node_runner.specs.Runner.{IsPortNoted, port_ids}
+use Rattle.node_runner.specs.Runner.{port_ids}
 use Rattle.thread_net.specs.Cables.{AreFurnished, row, rows_of, seat_of, seats_of}
 use Rattle.thread_net.specs.Seats.{IsNew, HasRoom, AreAtStart, AreShort, IsAtStart, degree_of, nodes_of}
-use Rattle.thread_net.proofs.Maps.{map-long}
 
 module _ {A : Type 0} where
-  pub nodes-from : (rs : List (Runner A)) → nodes_of rs ≡ map (λ s. s.1) (seats_of rs)
-  nodes-from [] = refl
-  nodes-from (r ∷ rs) = ap (λ ns. r.node ∷ ns) (nodes-from rs)
-
-  pub same-nodes : (xs ys : List (Runner A)) → seats_of xs ≡ seats_of ys → nodes_of xs ≡ nodes_of ys
-  same-nodes xs ys same = nodes-from xs ∙ (ap (map (λ s. s.1)) same ∙ sym (nodes-from ys))
-
-  pub same-length : (xs ys : List (Runner A)) → seats_of xs ≡ seats_of ys → length xs ≡ length ys
-  same-length xs ys same = let a = map-long seat_of xs in let b = map-long seat_of ys in let c = ap length same in omega (arith, a, b, c)
+  pub nodes_from : (rs : List (Runner A)) → nodes_of rs ≡ map (λ s. s.1) (seats_of rs)
+  nodes_from rs = sym (map-map (λ s. s.1) seat_of rs)
 
 -- a node has no more neighbours than there are nodes
 pub below-long : (net : Network) (x : ℕ) → length (neighbours_of net x) ≤ net.nodes
@@ -39,13 +30,10 @@ below-long net x =
     omega arith
 
 pub short-nodes : (net : Network) (nodes : List NodeView) → net.nodes ≤ 64 → AreNodesOf net nodes → AreShort nodes
-short-nodes net nodes few are k d within =
-    let all = are.all_nodes in
-    let site = are.sites k (omega (arith, within, all)) in
-    let degree : degree_of (node_at nodes k) ≡ length (neighbours_of net k) = ap (λ s. length s.neighbours) site in
-    let l = below-long net k in
-    let same : slice_index_or nodes k d ≡ node_at nodes k = grind (arith, common_steps, within) in
-    subst (λ n. degree_of n ≤ 64) (sym same) (omega (arith, degree, l, few))
+short-nodes net nodes few are = All-from_get_or (λ n. degree_of n ≤ 64) nodes no_node (λ k within.
+    let site = are.sites k (let all = are.all_nodes in omega arith) in
+    let below = below-long net k in
+    subst (λ s. length s.neighbours ≤ 64) (sym site) (omega arith))
 
 module _ {A : Type 0} (nodes : List NodeView) (links : LinksView) (turns : ℕ) (rs : List (Runner A)) (are : AreNodesOf links.net nodes) (same : nodes_of rs ≡ nodes)
     (new : All IsNew (seats_of rs)) (rooms : All (HasRoom turns) (seats_of rs)) where
@@ -53,13 +41,13 @@ module _ {A : Type 0} (nodes : List NodeView) (links : LinksView) (turns : ℕ) 
   here = world_of (record { nodes = nodes; links = links })
 
   many : length rs ≡ links.net.nodes
-  many = let a = map-long (λ r. r.node) rs in let b = ap length same in let c = are.all_nodes in omega (arith, a, b, c)
+  many = let a = length-map rs (λ r. r.node) in let b = ap length same in let c = are.all_nodes in omega (arith, a, b, c)
 
   at-start : AreFurnished here (rows_of rs) → (v : ℕ) (d : Runner A) → v < links.net.nodes → IsAtStart here turns v (slice_index_or rs v d)
   at-start furnished v d vn =
       let r = slice_index_or rs v d in
       let there : v < length rs = let m = many in omega arith in
-      let seated : v < length (seats_of rs) = let m = map-long seat_of rs in omega arith in
+      let seated : v < length (seats_of rs) = let m = length-map rs seat_of in omega arith in
       let node : r.node ≡ node_at nodes v = sym (get_or-map (λ r. r.node) rs v d no_node there) ∙ ap (λ ns. slice_index_or ns v no_node) same in
       let site : site_in r.node ≡ site_of links.net v = ap site_in node ∙ are.sites v vn in
       let seat = get_or-map seat_of rs v d (seat_of d) there in
@@ -67,7 +55,7 @@ module _ {A : Type 0} (nodes : List NodeView) (links : LinksView) (turns : ℕ) 
       let room : HasRoom turns (seat_of r) = rw seat at (rooms v (seat_of d) seated) in
       let row-is : row (rows_of rs) v ≡ r.ports.items = get_or-map (λ r. r.ports.items) rs v d [] there in
       let ids : port_ids r ≡ (site_in r.node).neighbours = ap (map (λ p. p.neighbour)) (sym row-is) ∙ (furnished.ids v vn ∙ ap (λ s. s.neighbours) (sym site)) in
-      let long : length r.ports.items ≡ degree_of r.node = sym (map-long (λ p. p.neighbour) r.ports.items) ∙ ap length ids in
+      let long : length r.ports.items ≡ degree_of r.node = sym (length-map r.ports.items (λ p. p.neighbour)) ∙ ap length ids in
       let clock = is-new.clock in
       record {
         said = record {

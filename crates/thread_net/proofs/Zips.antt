@@ -1,5 +1,5 @@
 -- A list that is gone through while another grows.
-use Rattle.std.proofs.Common.{◌≡◌, ◌++◌, List, [], ◌∷◌, append_assoc, append-nil}
+use Rattle.std.proofs.Common.{◌++◌, List, [], ◌∷◌, append_assoc, append-nil}
 use Rattle.std.specs.List.{AllZip}
 
 module _ {X Y Z : Type 0} (S : X → Y → Type 0) (R : X → Z → Type 0) where

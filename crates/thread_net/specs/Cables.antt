@@ -60,12 +60,6 @@ abbrev pub port_to : {A : Type 0} → List (Port A) → ℕ → Option (Port A)
 port_to [] v = None
 port_to (p ∷ ps) v = if p.neighbour == v then Some p else port_to ps v
 
--- they are the ends of the same links, if both are there
-abbrev pub IsCabledOn : {A : Type 0} → Option (Port A) → Option (Port A) → Type 0
-IsCabledOn (Some p) (Some q) = IsCable p q
-IsCabledOn (Some p) None = Unit {0}
-IsCabledOn None q = Unit {0}
-
 -- both ports are there, and are the ends of the same links
 abbrev pub IsCableOn : {A : Type 0} → Option (Port A) → Option (Port A) → Type 0
 IsCableOn (Some p) (Some q) = IsCable p q
@@ -76,9 +70,9 @@ IsCableOn None q = ⊥
 abbrev pub IsCableBetween : {A : Type 0} → List (List (Port A)) → ℕ → ℕ → Type 0
 IsCableBetween rows u v = IsCableOn (port_to (row rows u) v) (port_to (row rows v) u)
 
--- if two nodes have ports to each other, these are the ends of the same links
-abbrev pub AreCabled : {A : Type 0} → List (List (Port A)) → Type 0
-AreCabled rows = (u v : ℕ) → IsCabledOn (port_to (row rows u) v) (port_to (row rows v) u)
+-- this holds of each two nodes that are joined
+abbrev pub AreCabled : {A : Type 0} → Network → List (List (Port A)) → Type 0
+AreCabled net rows = (u v : ℕ) → IsTrue (are_joined net.edges u v) → IsCableBetween rows u v
 
 -- the pair of i and j, in this order, is not that of u and v
 abbrev pub IsOtherPair : ℕ → ℕ → ℕ → ℕ → Type 0
@@ -100,11 +94,11 @@ pub record IsCabledOnce {A : Type 0} (l : LinksView) (u v : ℕ) (rows more : Li
   pub grown : (x : ℕ) → row more x ≡ row rows x ++ ends_at u near v far x
 
 -- Each node has a port to each of its neighbours, ascending, as a run from this world begins, and
--- ports that lead to each other are the ends of the same links.
+-- the ports of neighbours to each other are the ends of the same links.
 pub record AreFurnished {A : Type 0} (w : World) (rows : List (List (Port A))) : Type 0 where
   pub ids : (x : ℕ) → x < w.net.nodes → ids_in (row rows x) ≡ neighbours_of w.net x
   pub said : (x : ℕ) → x < w.net.nodes → All (IsPortNoted w x []) (row rows x)
-  pub cabled : AreCabled rows
+  pub cabled : AreCabled w.net rows
 
 -- what was sent at the one end and not yet taken at the other
 abbrev pub left_on : {A : Type 0} → Outgoing A → Incoming A → List Item

@@ -1,6 +1,6 @@
 //! The rings that join nodes: each link becomes two of them, with what was under way on it.
 ghost use Rattle.std.specs.Prelude.{◌≡◌, ◌+◌, ◌<◌, ◌≤◌, ℕ, List, [], ◌∷◌, ◌++◌, IsTrue, IfOk, OnOk};
-ghost use Rattle.std.specs.Prelude.{length, slice_index_or, slice_set};
+ghost use Rattle.std.specs.Prelude.{◌==◌, if◌then◌else◌, length};
 ghost use Rattle.topology.specs.Network.{are_joined};
 ghost use Rattle.run_model.specs.World.{World};
 ghost use Rattle.configuration.specs.LinksView.{LinksView, under_way};
@@ -111,8 +111,8 @@ fn plug<A: Allocator>(
     port: Port<A>,
 ) -> Result<(), AllocError>
     requires { node < length runners.old.items }
-    ensures rows { OnOk result (rows_of runners.new.items ≡ slice_set (rows_of runners.old.items)
-        node (row (rows_of runners.old.items) node ++ port ∷ [])) }
+    ensures rows { OnOk result ((x : ℕ) → row (rows_of runners.new.items) x
+        ≡ row (rows_of runners.old.items) x ++ (if x == node then port ∷ [] else [])) }
     ensures seats { seats_of runners.new.items ≡ seats_of runners.old.items }
     ensures all { length runners.new.items ≡ length runners.old.items }
 {
@@ -158,6 +158,7 @@ pub(crate) fn cable_all<A: Allocator + Copy>(
     ensures seats { seats_of runners.new.items ≡ seats_of runners.old.items }
 {
     topology::laws::joined();
+    topology::laws::neighbours();
     let nodes = links.net().nodes();
     for one in 0..nodes {
         for other in one + 1..nodes {

@@ -1,9 +1,11 @@
 //! A world's nodes run on threads, and what they did is a run.
 ghost use Rattle.std.specs.Prelude.{◌≡◌, ◌≤◌, [], IfOk, IfErr, vec_len, vec_capacity};
+ghost use Rattle.run_model.specs.World.{IsWorldInRange};
 ghost use Rattle.configuration.specs.ConfigurationView.{world_of};
 ghost use Rattle.thread_net.specs.Outcomes.{runners_in, have_run};
 ghost use Rattle.thread_net.specs.Done.{CanGather, Gathers};
 ghost use Rattle.thread_net.specs.ThreadRun.{IsThreadRun};
+ghost use Rattle.thread_net.specs.Prepared.{IsPrepared};
 ghost use Rattle.thread_net.specs.Fault.{IsFault};
 
 use crate::prepare::{Prepared, prepare};
@@ -103,7 +105,9 @@ pub fn prepare_world<A: Allocator + Copy>(
     world: World<A>,
     turns: u32,
 ) -> Result<Prepared<A>, World<A>>
-    ensures unchanged { IfErr result (λ back. world_of back ≡ world_of world) }
+    ensures range { IsWorldInRange (world_of world) }
+    ensures ready { IfOk result (IsPrepared (world_of world) turns) }
+    ensures unchanged { IfErr result (λ back. back ≡ world) }
 {
     world.assure_ranges();
     match prepare(alloc, world.into_parts(), turns) {
@@ -141,9 +145,8 @@ pub fn run_threads<R: Threads + Wait + Sync, G: Gate>(
     let Ok(mut back) = Vec::with_capacity(alloc, count) else {
         return Err(RunFault::Memory(world));
     };
-    world.assure_ranges();
-    match prepare(alloc, world.into_parts(), turns) {
-        Err(parts) => Err(RunFault::Memory(World::from_parts(parts))),
+    match prepare_world(alloc, world, turns) {
+        Err(back) => Err(RunFault::Memory(back)),
         Ok(prepared) => {
             let Prepared {
                 runners,

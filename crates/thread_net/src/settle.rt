@@ -1,12 +1,12 @@
 //! Rings are links again, with what is left in them.
-ghost use Rattle.std.specs.Prelude.{◌≡◌, ◌<◌, ◌==◌, ℕ, IsTrue, length};
+ghost use Rattle.std.specs.Prelude.{◌≡◌, ◌≢◌, ◌<◌, ◌==◌, ℕ, IsTrue, length};
 ghost use Rattle.std.specs.List.{position};
-ghost use Rattle.topology.specs.Network.{are_joined, neighbours_of};
+ghost use Rattle.topology.specs.Network.{are_joined};
 ghost use Rattle.topology.specs.Ranges.{ranges_of};
 ghost use Rattle.run_model.specs.World.{at_pair, item_fits};
 ghost use Rattle.configuration.specs.LinksView.{under_way};
 ghost use Rattle.thread_net.specs.Cables.{left_on, left_between, settled, AreSettleable};
-ghost use Rattle.thread_net.specs.Cables.{AreCabled, IsCableBetween, IsOtherPair, row, ids_in};
+ghost use Rattle.thread_net.specs.Cables.{AreCabled, IsCableBetween, IsOtherPair, row};
 ghost use Rattle.thread_net.specs.Cables.{AreEnds, IsFlushed, IsFlushedBetween, IsRoomFor, port_to};
 ghost use Rattle.thread_net.specs.Tables.{rows_in};
 
@@ -63,6 +63,17 @@ fn place_of_port<A: Allocator>(ports: &[Port<A>], to: u16) -> Option<usize>
     ports.iter().position(|port| port.neighbour == to)
 }
 
+/// Takes the first port that leads to a node, if there is one.
+fn take_from<A: Allocator>(ports: &mut Vec<Port<A>, A>, to: u16) -> Option<Port<A>>
+    ensures port { result ≡ port_to ports.old.items to }
+    ensures others { (j : ℕ) → j ≢ to → port_to ports.new.items j ≡ port_to ports.old.items j }
+{
+    match place_of_port(ports, to) {
+        Some(place) => Some(ports.remove(place)),
+        None => None,
+    }
+}
+
 /// Takes a node's port to another, if it has one.
 fn take_port<A: Allocator>(
     rows: &mut Vec<Vec<Port<A>, A>, A>,
@@ -76,9 +87,7 @@ fn take_port<A: Allocator>(
         ≡ port_to (row (rows_in rows.old.items) i) j }
     ensures all { length rows.new.items ≡ length rows.old.items }
 {
-    let ports = &mut rows[usize::from(node)];
-    let place = place_of_port(ports, to)?;
-    Some(ports.remove(place))
+    take_from(&mut rows[usize::from(node)], to)
 }
 
 /// Takes the ports of two nodes that lead to each other: their links have what is left.
@@ -88,8 +97,9 @@ fn settle_edge<A: Allocator + Copy>(
     one: u16,
     other: u16,
 )
-    requires order { one < other }
-    requires within { other < links.old.net.nodes }
+    requires apart { one ≢ other }
+    requires one_in { one < links.old.net.nodes }
+    requires other_in { other < links.old.net.nodes }
     requires all { length rows.old.items ≡ links.old.net.nodes }
     requires joined { IsTrue (are_joined links.old.net.edges one other) }
     requires cable { IsCableBetween (rows_in rows.old.items) one other }
@@ -126,9 +136,7 @@ pub(crate) fn settle_all<A: Allocator + Copy>(
     rows: &mut Vec<Vec<Port<A>, A>, A>,
 )
     requires all { length rows.old.items ≡ links.old.net.nodes }
-    requires ids { (x : ℕ) → x < links.old.net.nodes
-        → ids_in (row (rows_in rows.old.items) x) ≡ neighbours_of links.old.net x }
-    requires cabled { AreCabled (rows_in rows.old.items) }
+    requires cabled { AreCabled links.old.net (rows_in rows.old.items) }
     ensures net { links.new.net ≡ links.old.net }
     ensures spares { links.new.spares ≡ links.old.spares }
     ensures flushed { (u v : ℕ) → IsTrue (are_joined links.old.net.edges u v)
@@ -137,13 +145,9 @@ pub(crate) fn settle_all<A: Allocator + Copy>(
         ≡ settled links.old.net (rows_in rows.old.items) (under_way links.old) }
 {
     topology::laws::joined();
-    topology::laws::neighbours();
-    let nodes = links.net().nodes();
-    for one in 0..nodes {
-        for other in one + 1..nodes {
-            if links.are_joined(one, other) {
-                settle_edge(links, rows, one, other);
-            }
-        }
+    let _known_nodes = links.net().nodes();
+    for index in 0..links.net().edges().len() {
+        let (one, other) = links.net().edges()[index];
+        settle_edge(links, rows, one, other);
     }
 }

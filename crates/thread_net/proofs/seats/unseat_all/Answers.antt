@@ -1,5 +1,5 @@
-use Rattle.std.proofs.Common.{rules, arith, append_assoc, append-nil, ◌≡◌, []}
-use Rattle.std.proofs.lemmas.List.{map_push, nil_from_length}
+use Rattle.std.proofs.Common.{rules, arith, ap, sym, ◌∙◌, length, append_assoc, append-nil, ◌≡◌, []}
+use Rattle.std.proofs.lemmas.List.{length-map, map_push, nil_from_length}
 use Rattle.std.specs.Vec.Iter.{into_iter_items}
 use Rattle.thread_net.proofs.seats.unseat_all.Goals as goal
 
@@ -31,3 +31,9 @@ pub returns-clause-rows : goal.returns-clause-rows
 returns-clause-rows g c =
     let nothing : into_iter_items c.loop-runner.runner-iterator ≡ [] = nil_from_length _ (search (rules, arith)) in
     rw append-nil at (rw nothing at c.loop-runner.invariant.5)
+
+pub returns-clause-all_journals : goal.returns-clause-all_journals
+returns-clause-all_journals g c = sym (length-map _ (λ j. j.entries.items)) ∙ (ap length (returns-clause-journals g c) ∙ length-map c.args.runners.items (λ r. r.journal.entries.items))
+
+pub returns-clause-all_rows : goal.returns-clause-all_rows
+returns-clause-all_rows g c = sym (length-map _ (λ t. t.items)) ∙ (ap length (returns-clause-rows g c) ∙ length-map c.args.runners.items (λ r. r.ports.items))

@@ -1,4 +1,4 @@
-use Rattle.std.proofs.Common.{◌≡◌, ◌+◌, ◌++◌, length}
+use Rattle.std.proofs.Common.{◌≡◌, ◌+◌, length, drop, take}
 use Rattle.rtrb.specs.Ring.{known_items}
 use Rattle.run_model.specs.World.{at_pair}
 use Rattle.configuration.specs.LinksView.{under_way}
@@ -9,9 +9,8 @@ use Rattle.thread_net.proofs.settle.drain.Given as goal
 abbrev pub invariant-loop-item : goal.invariant-loop-item
 invariant-loop-item g l =
     let known = known_items l.initial.incoming.frames in
-    let now = under_way l.links l.from l.to in
     (l.links.net ≡ l.fn.links.net)
     × (l.links.spares ≡ l.fn.links.spares)
     × (length (known_items l.incoming.frames) + l._item ≡ length known)
-    × (IsRoomFor l.fn.links.net (items known)
-    → (now ++ items (known_items l.incoming.frames) ≡ items known) × (under_way l.links ≡ at_pair (under_way l.fn.links) l.from l.to now))
+    × (items (known_items l.incoming.frames) ≡ drop l._item (items known))
+    × (IsRoomFor l.fn.links.net (items known) → under_way l.links ≡ at_pair (under_way l.fn.links) l.from l.to (take l._item (items known)))
