@@ -5,7 +5,6 @@ pub mod Cabling
 pub mod Settling
 pub mod Seating
 pub mod Matching
-pub mod Gathering
 pub mod Starting
 pub mod Finishing
 mod Rows

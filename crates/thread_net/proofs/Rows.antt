@@ -1,5 +1,5 @@
 -- Rows: the ends of links, what is left on them, two nodes that did one turn each, and what is no such run.
-use Rattle.std.proofs.Common.{◌≡◌, ℕ, ◌<◌, ◌≤◌, true, false, IsTrue, Some, None, List, [], ◌∷◌, ◌++◌, drop, length, if◌then◌else◌, ◌&&◌, ap, refl, ◌∙◌, sym, arith, zero, suc, min, All, inl, inr}
+use Rattle.std.proofs.Common.{◌≡◌, ℕ, ◌<◌, ◌≤◌, true, false, IsTrue, Some, None, List, [], ◌∷◌, map, ◌++◌, drop, length, if◌then◌else◌, ◌&&◌, ap, refl, ◌∙◌, sym, arith, zero, suc, min, All, inl, inr}
 use Rattle.std.proofs.lemmas.Bool.{true≢false}
 use Rattle.std.proofs.lemmas.Grind.{common_steps}
 use Rattle.std.proofs.lemmas.List.{length_push}
@@ -11,7 +11,7 @@ use Rattle.configuration.specs.LinksView.{LinksView, under_way}
 use Rattle.run_model.proofs.RowsTwo.{two_nodes, each-link, each-node}
 use Rattle.run_model.specs.World.{World}
 use Rattle.weaving.specs.declared.journal.Stamped.{Stamped}
-use Rattle.weaving.specs.Matched.{items, AreMatched, AreOf, IsLinkMatched}
+use Rattle.weaving.specs.Matched.{items, AreMatched, IsLinkMatched}
 use Rattle.weaving.proofs.RowsRun.{after_tick, start}
 use Rattle.node_runner.specs.declared.ports.Outgoing.{Outgoing}
 use Rattle.node_runner.specs.declared.ports.Incoming.{Incoming}
@@ -182,9 +182,7 @@ account (suc zero) = Ticked 1 ∷ Sent 0 (first_frame 1 0) ∷ []
 account (suc (suc v)) = []
 
 abbrev journal : ℕ → List Entry
-journal zero = record { stamp = 1; event = Tick 0 } ∷ record { stamp = 2; event = Send 0 1 } ∷ []
-journal (suc zero) = record { stamp = 1; event = Tick 1 } ∷ record { stamp = 2; event = Send 1 0 } ∷ []
-journal (suc (suc v)) = []
+journal v = map (entry_of v) (account v)
 
 abbrev events : List Event
 events = Tick 0 ∷ Tick 1 ∷ Send 0 1 ∷ Send 1 0 ∷ []
@@ -196,11 +194,6 @@ abbrev in_order : List Placed
 in_order =
     record { node = 0; entry = record { stamp = 1; event = Tick 0 } } ∷ record { node = 1; entry = record { stamp = 1; event = Tick 1 } }
     ∷ record { node = 0; entry = record { stamp = 2; event = Send 0 1 } } ∷ record { node = 1; entry = record { stamp = 2; event = Send 1 0 } } ∷ []
-
-said : AreOf account journal
-said zero = refl
-said (suc zero) = refl
-said (suc (suc v)) = refl
 
 complete : (v : ℕ) → entries_of v in_order ≡ journal v
 complete zero = refl
@@ -276,7 +269,7 @@ one-turn_each = record {
   journal = journal;
   woven = woven;
   rising = rising;
-  said = said;
+  said = λ v. refl;
   matched = matched;
   rounds = each-node (λ v. AreRounds (neighbours_of two_nodes v) 1 (account v)) (one-round 0 1) (one-round 1 0);
   ticks = each-node (λ v. count_of (is_tick_of v) events ≡ 1) refl refl;

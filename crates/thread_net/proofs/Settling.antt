@@ -57,13 +57,13 @@ module _ (net : Network) (all rest : List Item) (k : ℕ) (i : Item) (next : i �
   pub item-fits : IsRoomFor net all → IsTrue (item_fits (ranges_of net) i)
   item-fits room = rw here at (room.1 k i within)
 
-  pub drain-step : IsRoomFor net all → (f g now : ℕ → ℕ → List Item) (u v : ℕ) → g ≡ at_pair f u v (take k all)
-      → now ≡ (if nat_lt (length (g u v)) net.capacity then at_pair g u v (g u v ++ i ∷ []) else g) → now ≡ at_pair f u v (take (k + 1) all)
-  drain-step room f g now u v is put =
+  pub drain-step : IsRoomFor net all → (f g now : ℕ → ℕ → List Item) (u v capacity : ℕ) → capacity ≡ net.capacity → g ≡ at_pair f u v (take k all)
+      → now ≡ (if nat_lt (length (g u v)) capacity then at_pair g u v (g u v ++ i ∷ []) else g) → now ≡ at_pair f u v (take (k + 1) all)
+  drain-step room f g now u v capacity same is put =
       let there : g u v ≡ take k all = rw is (grind (arith, common_steps)) in
-      let few : length (take k all) < net.capacity = let most = room.0 in let long = length-take k all in let w = within in omega arith in
+      let few : length (take k all) < capacity = let most = room.0 in let long = length-take k all in let w = within in omega arith in
       let more : take (k + 1) all ≡ take k all ++ i ∷ [] = take_more all k i within ∙ ap (λ x. take k all ++ x ∷ []) here in
-      rw more (rw (there, lt-ltb (length (take k all)) net.capacity few, is, put-twice) at put)
+      rw more (rw (there, lt-ltb (length (take k all)) capacity few, is, put-twice) at put)
 
 -- an edge stands once
 pub first-time : (edges : List Edge) (k : ℕ) (e : Edge) → has_double_edge edges ≡ false → k < length edges → slice_index_or edges k e ≡ e → are_joined (take k edges) e.0 e.1 ≡ false

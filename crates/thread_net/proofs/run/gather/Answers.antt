@@ -4,8 +4,7 @@ use Rattle.weaving.specs.Woven.{AreRising, IsWoven}
 use Rattle.configuration.specs.ConfigurationView.{world_of}
 use Rattle.thread_net.specs.ThreadRun.{IsThreadRun}
 use Rattle.thread_net.specs.Tables.{AreEmptySeats, rows_in}
-use Rattle.thread_net.proofs.Gathering.{all-rising}
-use Rattle.thread_net.proofs.Finishing.{gathered, one-worlds}
+use Rattle.thread_net.proofs.Finishing.{all-rising, gathered, one-worlds}
 use Rattle.thread_net.proofs.run.gather.Goals as goal
 
 pub unseat_all-requires : goal.unseat_all-requires

@@ -23,7 +23,7 @@ loop-item-preserved g c =
       λ room.
           let fits = item-fits net all _ k x.item next room in
           let same : c.fitting-item.result ≡ x.item = search rules in
-          drain-step net all _ k x.item next room _ _ _ c.args.from c.args.to (it.4 room) (rw (same, it.0) at c.put.ensures.put),
+          drain-step net all _ k x.item next room _ _ _ c.args.from c.args.to _ (ap (λ n. n.capacity) it.0) (it.4 room) (rw same at c.put.ensures.put),
     )
 
 pub returns-clause-flushed : goal.returns-clause-flushed
