@@ -30,7 +30,7 @@ use Rattle.run_model.specs.Run.{run}
 use Rattle.run_model.specs.declared.event.Event.{Event}
 use Rattle.run_model.specs.declared.event.Event.TheVariants.{Send, Tick}
 use Rattle.weaving.specs.declared.journal.Entry.{Entry}
-use Rattle.weaving.specs.Account.{Note, Ticked, Sent, sent_to, taken_from, Leads}
+use Rattle.weaving.specs.Account.{Note, entry_of, Ticked, Sent, sent_to, taken_from, Leads}
 use Rattle.weaving.specs.Woven.{AreRising, IsWoven, Placed, entries_of}
 use Rattle.node_runner.specs.Rounds.{AreRounds, IsRound}
 use Rattle.node_runner.specs.FirstTurn.{IsFirstTurn, count_of, deeds_of, is_tick_of, is_send_on, is_take_on, before_tick}

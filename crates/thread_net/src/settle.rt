@@ -112,8 +112,8 @@ fn settle_edge<A: Allocator + Copy>(
         → IsRoomFor links.old.net (left_between (rows_in rows.old.items) other one)
         → under_way links.new
         ≡ at_pair (at_pair (under_way links.old) one other
-            (left_between (rows_in rows.old.items) one other)) other one
-            (left_between (rows_in rows.old.items) other one) }
+        (left_between (rows_in rows.old.items) one other)) other one
+        (left_between (rows_in rows.old.items) other one) }
     // The ports of all other pairs stay.
     ensures others { (i j : ℕ) → IsOtherPair i j one other → IsOtherPair i j other one
         → port_to (row (rows_in rows.new.items) i) j

@@ -1,4 +1,4 @@
-use Rattle.std.proofs.Common.{rules, arith, sym, refl, subst, ◌≡◌, ◌∙◌}
+use Rattle.std.proofs.Common.{rules, sym, refl, subst, ◌≡◌, ◌∙◌}
 use Rattle.topology.specs.Network.{IsAcceptedNetwork}
 use Rattle.configuration.specs.ConfigurationView.{world_of}
 use Rattle.thread_net.specs.Seats.{AreShort}

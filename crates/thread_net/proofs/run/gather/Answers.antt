@@ -1,4 +1,4 @@
-use Rattle.std.proofs.Common.{rules, arith, ap, sym, subst, ◌≡◌, ◌∙◌, ◌≤◌, length, vec_len, vec_capacity}
+use Rattle.std.proofs.Common.{rules, ap, sym, subst, ◌≡◌, ◌∙◌, ◌≤◌, length, vec_len, vec_capacity}
 use Rattle.weaving.specs.Journals.{entries_in, entry_count, journal_of}
 use Rattle.weaving.specs.Woven.{AreRising, IsWoven}
 use Rattle.configuration.specs.ConfigurationView.{world_of}
