@@ -31,8 +31,7 @@ use Rattle.thread_net.specs.ThreadRun.{IsThreadRun}
 use Rattle.node_runner.specs.FirstTurn.{IsFirstTurn, count_of, deeds_of, is_tick_of}
 use Rattle.node_runner.specs.Due.{events_of}
 use Rattle.node_runner.specs.Laws.{EachRoundTicks}
-use Rattle.thread_net.proofs.OwnEvents.{own-deeds, own-ticks}
-use Rattle.thread_net.proofs.Matching.{Rise, link-matched}
+use Rattle.thread_net.proofs.Matching.{own-deeds, own-ticks, Rise, link-matched}
 use Rattle.std.proofs.lemmas.Slice.Zip.{AllZip-left, AllZip-long}
 use Rattle.std.specs.declared.alloc.Global.{Global}
 use Rattle.std.specs.declared.vec.Vec.{Vec}
@@ -105,8 +104,7 @@ pub record IsKnown {A : Type 0} (w : World) (turns : ℕ → ℕ) (rs : List (Ru
   pub journal : journal_of (entries_of_all rs) v ≡ map (entry_of v) account
   pub rising : AreRising (map (entry_of v) account)
   pub ports : All (IsPortNoted w v account) (row (rows_of rs) v)
-  pub rounds : v < w.net.nodes → AreRounds (neighbours_of w.net v) (turns v) account
-  pub first : v < w.net.nodes → 0 < turns v → IsFirstTurn w v (events_of v account)
+  pub did : v < w.net.nodes → AreRounds (neighbours_of w.net v) (turns v) account × (0 < turns v → IsFirstTurn w v (events_of v account))
 
 module _ {A : Type 0} (w : World) (turns : ℕ → ℕ) (rs : List (Runner A)) (done : HaveDone w turns rs) (start : IsStart w) where
   abbrev pub last : World
@@ -124,8 +122,7 @@ module _ {A : Type 0} (w : World) (turns : ℕ → ℕ) (rs : List (Runner A)) (
           journal = get-mapped (λ r. r.journal.entries.items) rs v r [] is ∙ it.said.journal;
           rising = it.said.rising;
           ports = rw (get-mapped (λ r. r.ports.items) rs v r [] is) it.said.ports;
-          rounds = λ lt. it.rounds;
-          first = λ lt. it.first;
+          did = λ lt. (it.rounds, it.first);
         }
     | inr (past, is) ↦
         let beyond : w.net.nodes ≤ v = let c = done.count in omega arith in
@@ -136,8 +133,7 @@ module _ {A : Type 0} (w : World) (turns : ℕ → ℕ) (rs : List (Runner A)) (
           journal = none-mapped (λ r. r.journal.entries.items) rs v [] past;
           rising = tt;
           ports = rw (none-mapped (λ r. r.ports.items) rs v [] past) (All-nil (IsPortNoted w v []));
-          rounds = λ lt. absurd (omega arith);
-          first = λ lt. absurd (omega arith);
+          did = λ lt. absurd (omega arith);
         }
   ]
 
@@ -192,9 +188,9 @@ module _ {A : Type 0} (w : World) (turns : ℕ → ℕ) (rs : List (Runner A)) (
         rising = all-rising;
         said = λ v. (known v).journal;
         matched = matched;
-        rounds = λ v. (known v).rounds;
-        ticks = λ v lt. own-ticks v events ∙ (ap (count_of (is_tick_of v)) (deeds v) ∙ rounds-tick v (neighbours_of w.net v) (turns v) (account v) ((known v).rounds lt));
-        first = λ v lt some. subst (IsFirstTurn w v) (sym (deeds v)) ((known v).first lt some);
+        rounds = λ v lt. ((known v).did lt).0;
+        ticks = λ v lt. own-ticks v events ∙ (ap (count_of (is_tick_of v)) (deeds v) ∙ rounds-tick v (neighbours_of w.net v) (turns v) (account v) ((known v).did lt).0);
+        first = λ v lt some. subst (IsFirstTurn w v) (sym (deeds v)) (((known v).did lt).1 some);
       }
 
       pub settleable : RangesStay → AreSettleable w.net (rows_of rs)

@@ -1,9 +1,6 @@
-pub mod OwnEvents
-pub mod Zips
 pub mod Maps
 pub mod Cabling
 pub mod Settling
-pub mod Seating
 pub mod Matching
 pub mod Starting
 pub mod Finishing

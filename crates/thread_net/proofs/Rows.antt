@@ -85,37 +85,22 @@ module _ {A : Type 0} (o : Outgoing A) (i : Incoming A) (went : sent o.frames �
 -- ---- ports
 
 module _ {A : Type 0} (p q : Port A) (to_one : p.neighbour ≡ 1) (to_two : q.neighbour ≡ 2) where
-  row-port : port_to (p ∷ q ∷ []) 2 ≡ Some q
-  row-port = grind (arith, common_steps, to_one, to_two)
-
-  row-no_port : port_to (p ∷ q ∷ []) 3 ≡ None
-  row-no_port = grind (arith, common_steps, to_one, to_two)
+  row-port : (port_to (p ∷ q ∷ []) 2 ≡ Some q) × (port_to (p ∷ q ∷ []) 3 ≡ None)
+  row-port = (grind (arith, common_steps, to_one, to_two), grind (arith, common_steps, to_one, to_two))
 
   -- if a port is missing nothing is left, and nothing is flushed
-  row-nothing : left_on_ports (Some p) None ≡ []
-  row-nothing = refl
-
-  not-one_port : IsFlushedOn (Some p) None → ⊥
-  not-one_port out = out
+  row-nothing : (left_on_ports (Some p) None ≡ []) × (IsFlushedOn (Some p) None → ⊥)
+  row-nothing = (refl, λ out. out)
 
   -- two ports to each other are the ends of the same links, and one alone is not enough
-  row-cable : IsCable p q → IsCableOn (Some p) (Some q)
-  row-cable cable = cable
-
-  not-alone : IsCableOn (Some p) None → ⊥
-  not-alone out = out
-
-  not-cabled : (IsCable p q → ⊥) → IsCableOn (Some p) (Some q) → ⊥
-  not-cabled apart cabled = apart cabled
+  row-cable : (IsCable p q → IsCableOn (Some p) (Some q)) × (IsCableOn (Some p) None → ⊥) × ((IsCable p q → ⊥) → IsCableOn (Some p) (Some q) → ⊥)
+  row-cable = (λ cable. cable, λ out. out, λ apart cabled. apart cabled)
 
 -- ---- pairs of nodes
 
 -- a pair the other way round is another
-row-other : IsOtherPair 3 1 1 3 × IsOtherPair 1 2 1 3
-row-other = (refl, refl)
-
-not-other : IsOtherPair 1 3 1 3 → ⊥
-not-other same = true≢false same
+row-other : IsOtherPair 3 1 1 3 × IsOtherPair 1 2 1 3 × (IsOtherPair 1 3 1 3 → ⊥)
+row-other = (refl, refl, λ same. true≢false same)
 
 row-ends : (ends_at {X = ℕ} 1 7 3 9 1 ≡ 7 ∷ []) × (ends_at {X = ℕ} 1 7 3 9 3 ≡ 9 ∷ []) × (ends_at {X = ℕ} 1 7 3 9 2 ≡ [])
 row-ends = (refl, refl, refl)

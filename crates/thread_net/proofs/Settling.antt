@@ -6,10 +6,11 @@ use Rattle.std.proofs.lemmas.Grind.{common_steps}
 use Rattle.std.proofs.lemmas.List.Quantifiers.{position-Some}
 use Rattle.std.proofs.lemmas.Option.{cond_some}
 use Rattle.node_runner.specs.declared.runner.Port.{Port}
-use Rattle.thread_net.specs.Cables.{port_to, IsRoomFor, IsOtherPair, row, left_between, IsCableBetween, IsFlushedBetween, AreSettleable}
+use Rattle.thread_net.specs.Cables.{port_to, IsRoomFor, IsOtherPair, row, left_between, IsCableBetween, IsFlushedBetween, AreSettleable, AreCabled}
 use Rattle.std.proofs.Math.Path.{fun_ext}
 use Rattle.std.proofs.lemmas.List.{drop_more, length-take, length-drop, get_or-drop, take_more, get_or_default}
 use Rattle.topology.specs.Network.{Network, Edge, IsAcceptedNetwork, are_joined, has_double_edge, is_between, is_same_edge}
+use Rattle.topology.specs.Laws.{JoinedBack}
 use Rattle.topology.specs.Ranges.{ranges_of}
 use Rattle.link_model.specs.declared.item.Item.{Item}
 use Rattle.run_model.specs.World.{at_pair, item_fits}
@@ -66,7 +67,7 @@ module _ (net : Network) (all rest : List Item) (k : ℕ) (i : Item) (next : i �
       rw more (rw (there, lt-ltb (length (take k all)) capacity few, is, put-twice) at put)
 
 -- an edge stands once
-pub first-time : (edges : List Edge) (k : ℕ) (e : Edge) → has_double_edge edges ≡ false → k < length edges → slice_index_or edges k e ≡ e → are_joined (take k edges) e.0 e.1 ≡ false
+first-time : (edges : List Edge) (k : ℕ) (e : Edge) → has_double_edge edges ≡ false → k < length edges → slice_index_or edges k e ≡ e → are_joined (take k edges) e.0 e.1 ≡ false
 first-time [] k e once within at = absurd (omega arith)
 first-time (f ∷ es) zero e once within at = refl
 first-time (f ∷ es) (suc k) e once within at =
@@ -74,22 +75,28 @@ first-time (f ∷ es) (suc k) e once within at =
     let later = first-time es k e in
     grind (arith, common_steps, here, later)
 
--- the next edge of a network's
-module _ (net : Network) (accepted : IsAcceptedNetwork net) (es : List Edge) (same : es ≡ net.edges) (k : ℕ) (within : k < length net.edges) where
-  abbrev edge : Edge
-  edge = slice_index_or es k (0, 0)
+-- The next edge of a network's joins two nodes. Their pair is not past before it, and no other pair
+-- is past with it.
+pub record IsNextEdge (net : Network) (past after : ℕ → ℕ → Bool) (u v : ℕ) : Type 0 where
+  pub apart : u ≢ v
+  pub joined : (are_joined net.edges u v ≡ true) × (are_joined net.edges v u ≡ true)
+  pub first : (past u v ≡ false) × (past v u ≡ false)
+  pub grows : (i j : ℕ) → after i j ≡ (past i j || is_between i j (u, v))
 
-  pub apart-at : edge.0 ≢ edge.1
-  apart-at = rw same (accepted.limits.edges_in k (0, 0) within).no_loop
-
-  pub joined-at : are_joined net.edges edge.0 edge.1 ≡ true
-  joined-at = rw same (list_any_at (is_between (slice_index_or net.edges k (0, 0)).0 (slice_index_or net.edges k (0, 0)).1) net.edges k (0, 0) within (grind (arith, common_steps)))
-
-  pub first-at : are_joined (take k net.edges) edge.0 edge.1 ≡ false
-  first-at = rw same (first-time net.edges k (slice_index_or net.edges k (0, 0)) accepted.limits.no_double within (get_or_default net.edges k _ (0, 0) within))
-
-  pub more-at : (i j : ℕ) → are_joined (take (k + 1) net.edges) i j ≡ (are_joined (take k net.edges) i j || is_between i j edge)
-  more-at i j = rw same (list_any_more (is_between i j) net.edges k (0, 0) within)
+pub next-edge : (net : Network) → IsAcceptedNetwork net → JoinedBack → (es : List Edge) → es ≡ net.edges → (k : ℕ) → k < length net.edges
+    → IsNextEdge net (are_joined (take k net.edges)) (are_joined (take (k + 1) net.edges)) (slice_index_or es k (0, 0)).0 (slice_index_or es k (0, 0)).1
+next-edge net accepted law es same k within = rw same (go (slice_index_or net.edges k (0, 0)) refl)
+  where
+    go : (e : Edge) → slice_index_or net.edges k (0, 0) ≡ e → IsNextEdge net (are_joined (take k net.edges)) (are_joined (take (k + 1) net.edges)) e.0 e.1
+    go e at =
+        let joined = list_any_at (is_between e.0 e.1) net.edges k (0, 0) within (rw at (grind (arith, common_steps))) in
+        let first = first-time net.edges k e accepted.limits.no_double within (get_or_default net.edges k e (0, 0) within ∙ at) in
+        record {
+          apart = (rw at at (accepted.limits.edges_in k (0, 0) within)).no_loop;
+          joined = (joined, law net.edges e.1 e.0 ∙ joined);
+          first = (first, law (take k net.edges) e.1 e.0 ∙ first);
+          grows = λ i j. rw at at (list_any_more (is_between i j) net.edges k (0, 0) within);
+        }
 
 -- The links of the pairs that are past have what was left in their rings. The ports of all other
 -- pairs are as they were.
@@ -99,28 +106,27 @@ pub record IsSettling {A : Type 0} (net : Network) (past : ℕ → ℕ → Bool)
   pub same : (i j : ℕ) → past i j ≡ false → port_to (row rows i) j ≡ port_to (row old i) j
 
 -- one pair more
-module _ (past after : ℕ → ℕ → Bool) (u v : ℕ) (apart : u ≢ v) (grows : (i j : ℕ) → after i j ≡ (past i j || is_between i j (u, v))) where
+module _ {net : Network} {past after : ℕ → ℕ → Bool} {u v : ℕ} (it : IsNextEdge net past after u v) where
   newly-past : (i j : ℕ) → after i j ≡ true → (past i j ≡ true) ⊎ (((i ≡ u) × (j ≡ v)) ⊎ ((i ≡ v) × (j ≡ u)))
-  newly-past i j is = let all = grows i j in grind (arith, common_steps)
+  newly-past i j is = let all = it.grows i j in grind (arith, common_steps)
 
   still-open : (i j : ℕ) → after i j ≡ false → IsOtherPair i j u v × IsOtherPair i j v u × (past i j ≡ false)
-  still-open i j is = let all = grows i j in (grind (arith, common_steps), grind (arith, common_steps), grind (arith, common_steps))
+  still-open i j is = let all = it.grows i j in (grind (arith, common_steps), grind (arith, common_steps), grind (arith, common_steps))
 
   next-at : {X : Type 0} (left link was : ℕ → ℕ → X) (i j : ℕ) → link i j ≡ (if past i j then left i j else was i j)
       → at_pair (at_pair link u v (left u v)) v u (left v u) i j ≡ (if after i j then left i j else was i j)
-  next-at left link was i j ago = let all = grows i j in grind (arith, common_steps, apart, ago)
+  next-at left link was i j ago = let all = it.grows i j in let apart = it.apart in grind (arith, common_steps, apart, ago)
 
-  module _ {A : Type 0} (net : Network) (old rows : List (List (Port A))) (was link : ℕ → ℕ → List Item) (forth : past u v ≡ false) (home : past v u ≡ false) (before : IsSettling net past old rows was link) where
-    pub still-cabled : IsCableBetween old u v → IsCableBetween rows u v
-    still-cabled cable = rw (before.same u v forth, before.same v u home) cable
+  module _ {A : Type 0} {old rows : List (List (Port A))} {was link : ℕ → ℕ → List Item} (before : IsSettling net past old rows was link) where
+    pub still-cabled : AreCabled net old → IsCableBetween rows u v
+    still-cabled cabled = rw (before.same u v it.first.0, before.same v u it.first.1) (cabled u v it.joined.0)
 
-    pub settling-more : (now : List (List (Port A))) (next : ℕ → ℕ → List Item) → are_joined net.edges u v ≡ true → are_joined net.edges v u ≡ true
-        → IsFlushedBetween rows u v → IsFlushedBetween rows v u
+    pub settling-more : (now : List (List (Port A))) (next : ℕ → ℕ → List Item) → IsFlushedBetween rows u v → IsFlushedBetween rows v u
         → (IsRoomFor net (left_between rows u v) → IsRoomFor net (left_between rows v u) → next ≡ at_pair (at_pair link u v (left_between rows u v)) v u (left_between rows v u))
         → ((i j : ℕ) → IsOtherPair i j u v → IsOtherPair i j v u → port_to (row now i) j ≡ port_to (row rows i) j) → IsSettling net after old now was next
-    settling-more now next joined back there here left others =
-        let at-u = before.same u v forth in
-        let at-v = before.same v u home in
+    settling-more now next there here left others =
+        let at-u = before.same u v it.first.0 in
+        let at-v = before.same v u it.first.1 in
         record {
           flushed = λ i j is. elim (newly-past i j is) [
             | inl ago ↦ before.flushed i j ago
@@ -128,7 +134,7 @@ module _ (past after : ℕ → ℕ → Bool) (u v : ℕ) (apart : u ≢ v) (grow
             | inr (inr (is-v, is-u)) ↦ rw (is-v, is-u) (rw (at-v, at-u) at here)
           ];
           left = λ able i j.
-              let next-is = rw (at-u, at-v) at left (able u v joined) (able v u back) in
+              let next-is = rw (at-u, at-v) at left (able u v it.joined.0) (able v u it.joined.1) in
               rw next-is (next-at (left_between old) link was i j (before.left able i j));
           same = λ i j is. let away = still-open i j is in others i j away.0 away.1 ∙ before.same i j away.2;
         }

@@ -11,7 +11,7 @@ ghost use Rattle.thread_net.specs.Fault.{IsFault};
 use crate::prepare::{Prepared, prepare};
 use crate::seats::{Seats, unseat_all};
 use crate::settle::settle_all;
-use crate::threads::{Outcome, Started, run_all};
+use crate::threads::{Outcome, run_all};
 use configuration::Links;
 use judge::{Parts, Stretch, World};
 use node_runner::{Gate, Runner};
@@ -41,14 +41,14 @@ pub enum RunFault {
     Spawn(Woven),
 }
 
-/// The tables of those who are started, and of those who came back.
-fn new_tables(alloc: Global, count: usize) -> Result<(Vec<Started>, Vec<Outcome>), AllocError>
-    ensures started { IfOk result (λ r. (r.0.items ≡ []) × (count ≤ vec_capacity r.0)) }
-    ensures done { IfOk result (λ r. (r.1.items ≡ []) × (count ≤ vec_capacity r.1)) }
+/// The tables of what comes of each thread, and of the runners that came back.
+fn new_tables(alloc: Global, count: usize) -> Result<(Vec<Outcome>, Vec<Runner>), AllocError>
+    ensures done { IfOk result (λ r. (r.0.items ≡ []) × (count ≤ vec_capacity r.0)) }
+    ensures back { IfOk result (λ r. (r.1.items ≡ []) × (count ≤ vec_capacity r.1)) }
 {
-    let started = Vec::with_capacity(alloc, count)?;
     let done = Vec::with_capacity(alloc, count)?;
-    Ok((started, done))
+    let back = Vec::with_capacity(alloc, count)?;
+    Ok((done, back))
 }
 
 /// Whether all ran; their runners go to a table.
@@ -139,10 +139,7 @@ pub fn run_threads<R: Threads + Wait + Sync, G: Gate>(
     ensures err { IfErr result (IsFault turns world) }
 {
     let count = usize::from(world.net().nodes());
-    let Ok((started, done)) = new_tables(alloc, count) else {
-        return Err(RunFault::Memory(world));
-    };
-    let Ok(mut back) = Vec::with_capacity(alloc, count) else {
+    let Ok((done, mut back)) = new_tables(alloc, count) else {
         return Err(RunFault::Memory(world));
     };
     match prepare_world(alloc, world, turns) {
@@ -155,7 +152,7 @@ pub fn run_threads<R: Threads + Wait + Sync, G: Gate>(
                 seats,
                 events,
             } = prepared;
-            let outcomes = run_all(rt, gate, runners, turns, started, done);
+            let outcomes = run_all(rt, gate, runners, turns, done);
             let all_ran = collect(outcomes, &mut back);
             let woven = gather(back, links, room, seats, events);
             if all_ran {

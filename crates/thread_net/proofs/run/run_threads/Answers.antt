@@ -11,9 +11,9 @@ collect-all_ran-requires g c =
     let many = c.in-Ok-prepare_world.ensures.ready.runners.count in
     let zip = AllZip-long (IsOutcomeOf c.args.turns) c.in-Ok-prepare_world.prepared.runners.items os c.run_all-outcomes.ensures in
     let count : c.from-count.result ≡ c.args.world.links.net.nodes = search rules in
-    let exact = c.in-Ok-with_capacity.ensures.exact in
+    let back = c.in-Ok.ensures.back in
     let long : length os ≡ vec_len c.run_all-outcomes.result = search rules in
-    (c.in-Ok-with_capacity.ensures.items, omega (arith, many, zip, count, exact, long))
+    (back.0, omega (arith, many, zip, count, back.1, long))
 
 pub gather-woven-requires : goal.gather-woven-requires
 gather-woven-requires g c =

@@ -5,7 +5,7 @@ use Rattle.node_runner.specs.declared.runner.Runner.{Runner}
 use Rattle.thread_net.specs.Seats.{AreShort, entry_room, degree_of}
 use Rattle.node_core.specs.View.{site_in}
 use Rattle.thread_net.proofs.Maps.{map_set_same}
-use Rattle.thread_net.proofs.Seating.{short-at, total-at, new-set, room-set, room-all}
+use Rattle.thread_net.proofs.Starting.{short-at, total-at, new-set, room-set, room-all}
 use Rattle.thread_net.proofs.seats.reserve_journals.Goals as goal
 
 pub entry_room-room-requires : goal.entry_room-room-requires
