@@ -38,9 +38,6 @@ module _ (f : ℕ → ℕ → Bool) (n u : ℕ) where
 pub ends : (n u x : ℕ) → x < n → reach n u n x ≡ reach n (u + 1) (u + 1) x
 ends n u x within = grind (arith, common_steps)
 
-pub all-reached : (n x : ℕ) → x < n → reach n n n x ≡ n
-all-reached n x within = grind (arith, common_steps)
-
 -- ---- ports that are found
 
 abbrev or_else : {X : Type 0} → Option X → Option X → Option X
@@ -124,4 +121,4 @@ module _ {A : Type 0} (w : World) (rows : List (List (Port A))) where
   }
     where
       all-ids : (x : ℕ) → x < w.net.nodes → ids_in (row rows x) ≡ neighbours_of w.net x
-      all-ids x xn = rw (all-reached w.net.nodes x xn) at (laid.ids x xn)
+      all-ids x xn = let at : reach w.net.nodes w.net.nodes w.net.nodes x ≡ w.net.nodes = grind (arith, common_steps) in rw at at (laid.ids x xn)

@@ -1,9 +1,8 @@
 -- Lists of which one element changes, or comes last.
-use Rattle.std.proofs.Common.{◌≡◌, if◌then◌else◌, ◌==◌, ℕ, zero, suc, ◌+◌, ◌<◌, List, [], ◌∷◌, ◌++◌, length, map, ap, refl, sym, ◌∙◌, arith, slice_index_or, slice_set, slice_get, Some, All, subst, take}
+use Rattle.std.proofs.Common.{◌≡◌, if◌then◌else◌, ◌==◌, ℕ, ◌<◌, List, [], ◌∷◌, ◌++◌, length, map, ap, sym, ◌∙◌, arith, slice_index_or, slice_set, All, subst}
 use Rattle.std.proofs.Math.Seq.{map-set_same}
 use Rattle.std.proofs.lemmas.Grind.{common_steps}
-use Rattle.std.proofs.lemmas.List.{get_or-map, get_or-set_same, get_or-set_other, map-set, take_more, length-map}
-use Rattle.std.proofs.lemmas.Option.{slice_get_within, get_or_from_slice_get}
+use Rattle.std.proofs.lemmas.List.{get_or-map, get_or-set_same, get_or-set_other, get_or_append_left, get_or-append_right, map-set, length-map}
 
 module _ {X Y : Type 0} (f : X → Y) where
   -- what holds of all holds of one
@@ -22,13 +21,6 @@ module _ {X Y : Type 0} (f : X → List Y) (xs : List X) (k : ℕ) (x : X) (with
   pub row-at : x ≡ slice_index_or xs k x → slice_index_or (map f xs) k [] ≡ f x
   row-at at = get_or-map f xs k x [] within ∙ ap f (sym at)
 
--- the next of a list
-pub get-more : {X : Type 0} (xs : List X) (k : ℕ) (x : X) → slice_get xs k ≡ Some x → take (k + 1) xs ≡ take k xs ++ x ∷ []
-get-more xs k x is = take_more xs k x (slice_get_within xs k x is) ∙ ap (λ y. take k xs ++ y ∷ []) (get_or_from_slice_get xs k x x is)
-
 -- one more empty row
 pub empty-push : {X : Type 0} (rows : List (List X)) → ((x : ℕ) → slice_index_or rows x [] ≡ []) → (x : ℕ) → slice_index_or (rows ++ [] ∷ []) x [] ≡ []
-empty-push [] none zero = refl
-empty-push [] none (suc x) = refl
-empty-push (ps ∷ rows) none zero = none 0
-empty-push (ps ∷ rows) none (suc x) = empty-push rows (λ y. none (suc y)) x
+empty-push rows none x = let at = none x in grind (arith, common_steps, at, get_or_append_left, get_or-append_right)

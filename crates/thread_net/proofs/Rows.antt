@@ -1,5 +1,5 @@
 -- Rows: the ends of links, what is left on them, two nodes that did one turn each, and what is no such run.
-use Rattle.std.proofs.Common.{◌≡◌, ℕ, ◌<◌, ◌≤◌, true, false, IsTrue, Some, None, List, [], ◌∷◌, map, ◌++◌, drop, length, if◌then◌else◌, ◌&&◌, ap, refl, ◌∙◌, sym, arith, zero, suc, min, All, inl, inr}
+use Rattle.std.proofs.Common.{◌≡◌, ℕ, ◌<◌, ◌≤◌, true, false, IsTrue, Some, None, List, [], ◌∷◌, map, ◌++◌, length, if◌then◌else◌, ap, refl, ◌∙◌, sym, arith, zero, suc, min, All, inl, inr}
 use Rattle.std.proofs.lemmas.Bool.{true≢false}
 use Rattle.std.proofs.lemmas.Grind.{common_steps}
 use Rattle.std.proofs.lemmas.List.{length_push}
@@ -51,14 +51,11 @@ second = after_tick 0 1 2
 
 module _ {A : Type 0} (o : Outgoing A) (i : Incoming A) (went : sent o.frames ≡ first ∷ second ∷ []) where
   -- what was sent and not taken is under way, the oldest first
-  row-left : received i.frames ≡ first ∷ [] → left_on o i ≡ second.item ∷ []
-  row-left came = ap (λ xs. items (drop (length xs) (sent o.frames))) came ∙ ap (λ xs. items (drop 1 xs)) went
+  row-left : (received i.frames ≡ first ∷ [] → left_on o i ≡ second.item ∷ []) × (received i.frames ≡ first ∷ second ∷ [] → left_on o i ≡ [])
+  row-left = (λ came. rw (came, went), λ came. rw (came, went))
 
   row-all_left : received i.frames ≡ [] → left_on o i ≡ Noise ∷ second.item ∷ []
-  row-all_left came = ap (λ xs. items (drop (length xs) (sent o.frames))) came ∙ ap (λ xs. items (drop 0 xs)) went
-
-  row-none_left : received i.frames ≡ first ∷ second ∷ [] → left_on o i ≡ []
-  row-none_left came = ap (λ xs. items (drop (length xs) (sent o.frames))) came ∙ ap (λ xs. items (drop 2 xs)) went
+  row-all_left came = rw (came, went)
 
   -- what came in is a beginning of what went out, and places that came back of those given back
   row-flushed : received i.frames ≡ first ∷ [] → sent i.places ≡ 4 ∷ 6 ∷ [] → received o.places ≡ 4 ∷ [] → IsFlushed o i
@@ -119,11 +116,8 @@ row-room : entry_room 10 2 ≡ 70
 row-room = refl
 
 module _ (a b : Outcome) (ran : a.ran ≡ true) (came_back : b.ran ≡ false) where
-  row-all_ran : have_run (a ∷ []) ≡ true
-  row-all_ran = ap (λ t. t && true) ran
-
-  row-not_all : have_run (a ∷ b ∷ []) ≡ false
-  row-not_all = ap (λ t. t && (b.ran && true)) ran ∙ ap (λ t. t && true) came_back
+  row-all_ran : (have_run (a ∷ []) ≡ true) × (have_run (a ∷ b ∷ []) ≡ false)
+  row-all_ran = (rw ran, rw (ran, came_back))
 
   row-turns : (turns_of 5 (a ∷ b ∷ []) 0 ≡ 5) × (turns_of 5 (a ∷ b ∷ []) 1 ≡ 0) × (turns_of 5 (a ∷ b ∷ []) 2 ≡ 0)
   row-turns = (ap (λ t. if t then 5 else 0) ran, ap (λ t. if t then 5 else 0) came_back, refl)

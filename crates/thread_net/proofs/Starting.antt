@@ -1,5 +1,5 @@
 -- Runners get seats, and with their ports they are at the start.
-use Rattle.std.proofs.Common.{◌≡◌, ℕ, zero, suc, ◌+◌, ◌<◌, ◌≤◌, List, [], ◌∷◌, length, ap, sym, ◌∙◌, add-one, arith, slice_index_or, slice_set, All, take, take_all, not, map, refl, subst}
+use Rattle.std.proofs.Common.{◌≡◌, ℕ, zero, suc, ◌+◌, ◌<◌, ◌≤◌, List, [], ◌∷◌, length, ap, sym, ◌∙◌, add-one, arith, slice_index_or, slice_set, All, take, not, map, refl, subst}
 use Rattle.std.proofs.lemmas.List.{get_or-map, map-set, take_more_set, length-map}
 use Rattle.std.proofs.lemmas.List.Elements.{All-push, All-set, All-from_get_or}
 use Rattle.node_core.specs.View.{NodeView, site_in, state_of}
@@ -48,9 +48,6 @@ module _ {A : Type 0} (rs : List (Runner A)) (k : ℕ) (r : Runner A) (within : 
     room-set turns one all =
         let many = length-map rs seat_of in
         rw (map-set seat_of rs k changed, take_more_set (seats_of rs) k (seat_of changed) (omega arith)) (All-push (HasRoom turns) (take k (seats_of rs)) (seat_of changed) all one)
-
-pub room-all : {A : Type 0} (turns n : ℕ) (rs : List (Runner A)) → length rs ≤ n → All (HasRoom turns) (take n (seats_of rs)) → All (HasRoom turns) (seats_of rs)
-room-all turns n rs enough all = let many = length-map rs seat_of in rw (take_all n (seats_of rs) (omega arith)) at all
 
 module _ {A : Type 0} where
   pub nodes_from : (rs : List (Runner A)) → nodes_of rs ≡ map (λ s. s.1) (seats_of rs)

@@ -1,11 +1,12 @@
-use Rattle.std.proofs.Common.{rules, arith, ap, sym, subst, refl, ◌≡◌, ◌∙◌, ◌<◌, ◌≤◌, length}
-use Rattle.std.proofs.lemmas.List.{length-set, get_or_default}
+use Rattle.std.proofs.Common.{rules, arith, ap, sym, subst, refl, ◌≡◌, ◌∙◌, ◌<◌, length, take_all}
+use Rattle.std.proofs.lemmas.List.{length-map, length-set, get_or_default}
 use Rattle.weaving.specs.declared.journal.Journal.{Journal}
 use Rattle.node_runner.specs.declared.runner.Runner.{Runner}
+use Rattle.thread_net.specs.Cables.{seat_of, seats_of}
 use Rattle.thread_net.specs.Seats.{AreShort, entry_room, degree_of}
 use Rattle.node_core.specs.View.{site_in}
 use Rattle.thread_net.proofs.Maps.{map_set_same}
-use Rattle.thread_net.proofs.Starting.{short-at, total-at, new-set, room-set, room-all}
+use Rattle.thread_net.proofs.Starting.{short-at, total-at, new-set, room-set}
 use Rattle.thread_net.proofs.seats.reserve_journals.Goals as goal
 
 pub entry_room-room-requires : goal.entry_room-room-requires
@@ -43,5 +44,5 @@ loop-place-preserved g c =
 
 pub returns-clause-room : goal.returns-clause-room
 returns-clause-room g c =
-    let enough : length c.loop-place.runners.items ≤ c.loop-place.place = search (rules, arith) in
-    room-all c.args.turns c.loop-place.place c.loop-place.runners.items enough c.loop-place.invariant.4
+    let many = length-map c.loop-place.runners.items seat_of in
+    rw (take_all c.loop-place.place (seats_of c.loop-place.runners.items) (search (rules, arith))) at c.loop-place.invariant.4

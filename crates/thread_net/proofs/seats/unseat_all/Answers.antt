@@ -17,23 +17,16 @@ loop-runner-preserved g c =
       rw (c.push_reserved-in-loop-runner-2.ensures.items, map_push (λ t. t.items) s.rows.items r.ports, append_assoc) (rw next at it.5),
     )
 
-pub returns-clause-nodes : goal.returns-clause-nodes
-returns-clause-nodes g c =
+pub returns : goal.returns
+returns g c =
     let nothing : into_iter_items c.loop-runner.runner-iterator ≡ [] = nil_from_length _ (search (rules, arith)) in
-    rw append-nil at (rw nothing at c.loop-runner.invariant.3)
-
-pub returns-clause-journals : goal.returns-clause-journals
-returns-clause-journals g c =
-    let nothing : into_iter_items c.loop-runner.runner-iterator ≡ [] = nil_from_length _ (search (rules, arith)) in
-    rw append-nil at (rw nothing at c.loop-runner.invariant.4)
-
-pub returns-clause-rows : goal.returns-clause-rows
-returns-clause-rows g c =
-    let nothing : into_iter_items c.loop-runner.runner-iterator ≡ [] = nil_from_length _ (search (rules, arith)) in
-    rw append-nil at (rw nothing at c.loop-runner.invariant.5)
-
-pub returns-clause-all_journals : goal.returns-clause-all_journals
-returns-clause-all_journals g c = sym (length-map _ (λ j. j.entries.items)) ∙ (ap length (returns-clause-journals g c) ∙ length-map c.args.runners.items (λ r. r.journal.entries.items))
-
-pub returns-clause-all_rows : goal.returns-clause-all_rows
-returns-clause-all_rows g c = sym (length-map _ (λ t. t.items)) ∙ (ap length (returns-clause-rows g c) ∙ length-map c.args.runners.items (λ r. r.ports.items))
+    let it = c.loop-runner.invariant in
+    let journals = rw append-nil at (rw nothing at it.4) in
+    let rows = rw append-nil at (rw nothing at it.5) in
+    record {
+      nodes = rw append-nil at (rw nothing at it.3);
+      journals = journals;
+      rows = rows;
+      all_journals = sym (length-map _ (λ j. j.entries.items)) ∙ (ap length journals ∙ length-map c.args.runners.items (λ r. r.journal.entries.items));
+      all_rows = sym (length-map _ (λ t. t.items)) ∙ (ap length rows ∙ length-map c.args.runners.items (λ r. r.ports.items));
+    }

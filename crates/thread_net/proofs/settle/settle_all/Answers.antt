@@ -24,12 +24,8 @@ loop-index-preserved g c =
     let e = c.settle_edge.ensures in
     (e.net ∙ it.0, e.spares ∙ it.1, e.all ∙ it.2, settling-more next it.3 _ _ e.forth e.home (λ a b. e.left (rw it.0 a) (rw it.0 b)) e.others)
 
-pub returns-clause-flushed : goal.returns-clause-flushed
-returns-clause-flushed g c = λ u v joined.
+pub returns : goal.returns
+returns g c =
     let whole = take_all c.loop-index.index c.args.links.now.net.edges (search (rules, arith)) in
-    c.loop-index.invariant.3.flushed u v (rw whole joined)
-
-pub returns-clause-settled : goal.returns-clause-settled
-returns-clause-settled g c = λ able.
-    let whole = take_all c.loop-index.index c.args.links.now.net.edges (search (rules, arith)) in
-    fun_ext (λ i. fun_ext (λ j. rw whole at (c.loop-index.invariant.3.left able i j)))
+    let it = c.loop-index.invariant in
+    record { net = it.0; spares = it.1; flushed = λ u v joined. it.3.flushed u v (rw whole joined); settled = λ able. fun_ext (λ i. fun_ext (λ j. rw whole at (it.3.left able i j))) }
