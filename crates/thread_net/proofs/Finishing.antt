@@ -363,21 +363,18 @@ module _ {A : Type 0} {rs : List (Runner A)} {links : LinksView} {room : Stretch
 
 -- ---- the whole run
 
-module _ (view : ConfigurationView) (turns : ℕ) (p : Prepared Global) (os : List Outcome) (back : List (Runner Global)) (range : IsWorldInRange (world_of view)) (ready : IsPrepared (world_of view) turns p) (all : AllZip (IsOutcomeOf turns) p.runners.items os) (came : back ≡ runners_in os) where
-  abbrev w : World
-  w = world_of view
-
+module _ (w : World) (turns : ℕ) (p : Prepared Global) (os : List Outcome) (back : List (Runner Global)) (start : IsStart w) (ready : IsPrepared w turns p) (all : AllZip (IsOutcomeOf turns) p.runners.items os) (came : back ≡ runners_in os) where
   long : length os ≡ w.net.nodes
-  long = came-count w turns p.runners.items os range ready.runners all
+  long = came-count w turns p.runners.items os start.range ready.runners all
 
   pub gatherable : (did : ℕ → ℕ) → ((v : ℕ) → v < length os → turns_of turns os v ≡ did v) → IsGatherable w did back p.links p.room p.seats p.events
   gatherable did alike =
-      let few = entries-fit w turns p.runners.items os range ready.runners all in
+      let few = entries-fit w turns p.runners.items os start.range ready.runners all in
       let room = ready.events in
       rw came
       (record {
-        start = start-of view range;
-        done = have-done w turns p.runners.items os range ready.runners all did alike;
+        start = start;
+        done = have-done w turns p.runners.items os start.range ready.runners all did alike;
         over = ready.links;
         spares = ready.spares;
         judged = ready.room;

@@ -93,17 +93,14 @@ after-first : (v : ℕ) (p : Placed) (ps : List Placed) → AllByRecursion (IsOw
 after-first v p ps all = grind (arith, common_steps, all)
 
 -- a deed of one node is no other's
-by-one : (u v : ℕ) (e : Event) → is_deed_of u e ≡ true → is_deed_of v e ≡ (u == v)
-by-one u v e own = grind (arith, common_steps, own)
-
-first-own : (p : Placed) (ps : List Placed) → AllByRecursion (IsOwn p.node) (entries_of p.node (p ∷ ps)) → IsOwn p.node p.entry
-first-own p ps all = grind (arith, common_steps, all)
+first-own : (v : ℕ) (p : Placed) (ps : List Placed) → AllByRecursion (IsOwn p.node) (entries_of p.node (p ∷ ps)) → is_deed_of v p.entry.event ≡ (p.node == v)
+first-own v p ps all = grind (arith, common_steps, all)
 
 placed-own : (v : ℕ) (ps : List Placed) → ((u : ℕ) → AllByRecursion (IsOwn u) (entries_of u ps)) → deeds_of v (map (λ p. p.entry.event) ps) ≡ map (λ e. e.event) (entries_of v ps)
 placed-own v [] each = refl
 placed-own v (p ∷ ps) each =
     let later = placed-own v ps (λ u. after-first u p ps (each u)) in
-    let one = by-one p.node v p.entry.event (first-own p ps (each p.node)) in
+    let one = first-own v p ps (each p.node) in
     grind (arith, common_steps, later, one)
 
 pub own-deeds : (account : ℕ → List Note) (journal : ℕ → List Entry) (events : List Event) (v : ℕ) → AreOf account journal → IsWoven journal events

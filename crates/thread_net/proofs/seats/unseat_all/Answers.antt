@@ -27,6 +27,6 @@ returns g c =
       nodes = rw append-nil at (rw nothing at it.3);
       journals = journals;
       rows = rows;
-      all_journals = sym (length-map _ (λ j. j.entries.items)) ∙ (ap length journals ∙ length-map c.args.runners.items (λ r. r.journal.entries.items));
-      all_rows = sym (length-map _ (λ t. t.items)) ∙ (ap length rows ∙ length-map c.args.runners.items (λ r. r.ports.items));
+      all_journals = sym (length-map c.loop-runner.seats.journals.items (λ j. j.entries.items)) ∙ (ap length journals ∙ length-map c.args.runners.items (λ r. r.journal.entries.items));
+      all_rows = sym (length-map c.loop-runner.seats.rows.items (λ t. t.items)) ∙ (ap length rows ∙ length-map c.args.runners.items (λ r. r.ports.items));
     }
