@@ -1,10 +1,10 @@
 -- What runners that came back did together is a run, and a world is made of them.
-use Rattle.std.proofs.Common.{◌≡◌, inl, inr, ℕ, ◌-◌, ◌<◌, ◌≤◌, ◌==◌, Bool, true, false, if◌then◌else◌, IsTrue, Option, Some, None, List, [], ◌∷◌, length, map, ap, refl, sym, subst, ◌∙◌, arith, append-nil, slice_index_or, slice_get, All, ◌⊎◌, zero, suc, ◌+◌, ◌*◌, ◌/◌, rules}
+use Rattle.std.proofs.Common.{◌≡◌, inl, inr, ℕ, ◌-◌, ◌<◌, ◌≤◌, ◌==◌, Bool, true, false, if◌then◌else◌, IsTrue, Option, Some, None, List, [], ◌∷◌, length, map, ap, refl, sym, subst, ◌∙◌, arith, append-nil, slice_index_or, All, zero, suc, ◌+◌, ◌*◌, ◌/◌, rules}
 use Rattle.std.proofs.lemmas.Grind.{common_steps}
 use Rattle.std.proofs.lemmas.List.{drop_all, get_or-map, get_or_past, length-map}
 use Rattle.std.proofs.lemmas.List.Elements.{All-head, All-nil, All-tail}
 use Rattle.std.proofs.lemmas.Bool.{cases_Bool, le-ltb, lt-ltb, false≢true}
-use Rattle.std.proofs.lemmas.Option.{none-some, same_Some, slice_get_within, slice_get_cases, get_or_from_slice_get, slice_get-get_or}
+use Rattle.std.proofs.lemmas.Option.{none-some, same_Some, slice_get_cases, slice_get-get_or}
 use Rattle.std.specs.List.{AllByRecursion, AllZip}
 use Rattle.topology.specs.Network.{Network, are_joined, neighbours_of}
 use Rattle.topology.specs.Ranges.{ranges_of}
@@ -49,14 +49,12 @@ use Rattle.thread_net.specs.declared.prepare.Prepared.{Prepared}
 use Rattle.thread_net.specs.Prepared.{IsPrepared}
 use Rattle.thread_net.specs.Tables.{AreEmptySeats}
 use Rattle.thread_net.specs.Fault.{IsPartRun}
+use Rattle.thread_net.proofs.Maps.{read}
 use Rattle.thread_net.proofs.Starting.{below-long}
 
 -- ---- lists that are read at a place
 
-pub get-mapped : {X Y : Type 0} (f : X → Y) (xs : List X) (k : ℕ) (x : X) (d : Y) → slice_get xs k ≡ Some x → slice_index_or (map f xs) k d ≡ f x
-get-mapped f xs k x d is = get_or-map f xs k x d (slice_get_within xs k x is) ∙ ap f (get_or_from_slice_get xs k x x is)
-
-pub none-mapped : {X Y : Type 0} (f : X → Y) (xs : List X) (k : ℕ) (d : Y) → length xs ≤ k → slice_index_or (map f xs) k d ≡ d
+none-mapped : {X Y : Type 0} (f : X → Y) (xs : List X) (k : ℕ) (d : Y) → length xs ≤ k → slice_index_or (map f xs) k d ≡ d
 none-mapped f xs k d past = let long = length-map xs f in get_or_past (map f xs) k d (omega arith)
 
 -- ---- accounts
@@ -117,11 +115,11 @@ module _ {A : Type 0} (w : World) (turns : ℕ → ℕ) (rs : List (Runner A)) (
         let it = rw at at (done.each v r here) in
         record {
           account = it.notes;
-          leads = rw (lt-ltb v w.net.nodes here, get-mapped (λ r. r.node) rs v r no_node is) it.said.leads;
+          leads = rw (lt-ltb v w.net.nodes here, read (λ r. r.node) rs v r no_node within (sym at)) it.said.leads;
           nobody = λ le. absurd (omega arith);
-          journal = get-mapped (λ r. r.journal.entries.items) rs v r [] is ∙ it.said.journal;
+          journal = read (λ r. r.journal.entries.items) rs v r [] within (sym at) ∙ it.said.journal;
           rising = it.said.rising;
-          ports = rw (get-mapped (λ r. r.ports.items) rs v r [] is) it.said.ports;
+          ports = rw (read (λ r. r.ports.items) rs v r [] within (sym at)) it.said.ports;
           did = λ lt. (it.rounds, it.first);
         }
     | inr (past, is) ↦
@@ -205,12 +203,6 @@ module _ {A : Type 0} (w : World) (turns : ℕ → ℕ) (rs : List (Runner A)) (
 
 pub start-of : (view : ConfigurationView) → IsWorldInRange (world_of view) → IsStart (world_of view)
 start-of view range = record { range = range; beyond = λ v le. rw (le-ltb v view.links.net.nodes le) refl }
-
-get-some : {X : Type 0} (xs : List X) (k : ℕ) → k < length xs → (x : X) × (slice_get xs k ≡ Some x)
-get-some xs k within = elim (slice_get_cases xs k).1 [
-  | inl (x, inside, is, at) ↦ (x, is)
-  | inr (past, is) ↦ absurd (omega arith)
-]
 
 -- ---- one runner that came back
 
@@ -321,9 +313,6 @@ some-idle (o ∷ os) ran = elim (cases_Bool o.ran) [
   | inr idle ↦ (0, omega arith, idle)
 ]
 
-each-turns : (turns : ℕ) (os : List Outcome) (v : ℕ) → (turns_of turns os v ≡ turns) ⊎ (turns_of turns os v ≡ 0)
-each-turns turns os v = grind (arith, common_steps)
-
 -- ---- the world that is made of them
 
 module _ {A : Type 0} {rs : List (Runner A)} {links : LinksView} {room : StretchView} {seats : Seats A} {out : Vec Event A} (w : World) (turns : ℕ → ℕ) (it : IsGatherable w turns rs links room seats out) where
@@ -354,9 +343,12 @@ module _ {A : Type 0} {rs : List (Runner A)} {links : LinksView} {room : Stretch
       record {
         nodes_are = record {
           all_nodes = let a = ap length are in let b = length-map rs (λ r. r.node) in let c = it.done.count in omega arith;
-          sites = λ v vn.
-              let g = get-some rs v (let c = it.done.count in omega arith) in
-              ap (λ ns. site_in (node_at ns v)) are ∙ (ap site_in (get-mapped (λ r. r.node) rs v g.0 no_node g.1) ∙ ((rw (get_or_from_slice_get rs v g.0 g.0 g.1) at (it.done.each v g.0 (omega arith))).said.site ∙ ap (λ n. site_of n v) (sym same)));
+          sites = λ v vn. elim (slice_get_cases rs v).1 [
+            | inl (r, within, is, at) ↦
+                let mine = rw at at (it.done.each v r (let c = it.done.count in omega arith)) in
+                ap (λ ns. site_in (node_at ns v)) are ∙ (ap site_in (read (λ r. r.node) rs v r no_node within (sym at)) ∙ (mine.said.site ∙ ap (λ n. site_of n v) (sym same)))
+            | inr (past, is) ↦ absurd (let c = it.done.count in omega arith)
+          ];
         };
         room_is = subst (λ n. HasRoomFor n room) (sym same) it.judged;
       }
@@ -364,9 +356,6 @@ module _ {A : Type 0} {rs : List (Runner A)} {links : LinksView} {room : Stretch
 -- ---- the whole run
 
 module _ (w : World) (turns : ℕ) (p : Prepared Global) (os : List Outcome) (back : List (Runner Global)) (start : IsStart w) (ready : IsPrepared w turns p) (all : AllZip (IsOutcomeOf turns) p.runners.items os) (came : back ≡ runners_in os) where
-  long : length os ≡ w.net.nodes
-  long = came-count w turns p.runners.items os start.range ready.runners all
-
   pub gatherable : (did : ℕ → ℕ) → ((v : ℕ) → v < length os → turns_of turns os v ≡ did v) → IsGatherable w did back p.links p.room p.seats p.events
   gatherable did alike =
       let few = entries-fit w turns p.runners.items os start.range ready.runners all in
@@ -378,7 +367,7 @@ module _ (w : World) (turns : ℕ) (p : Prepared Global) (os : List Outcome) (ba
         over = ready.links;
         spares = ready.spares;
         judged = ready.room;
-        empty = subst (λ n. AreEmptySeats n p.seats) (sym (length-map os (λ o. o.runner) ∙ long)) ready.seats;
+        empty = subst (λ n. AreEmptySeats n p.seats) (sym (length-map os (λ o. o.runner) ∙ came-count w turns p.runners.items os start.range ready.runners all)) ready.seats;
         nothing = ready.nothing;
         fits = omega (arith, few, room);
       })
@@ -386,5 +375,5 @@ module _ (w : World) (turns : ℕ) (p : Prepared Global) (os : List Outcome) (ba
   pub part : (events : List Event) (last : World) → IsThreadRun (turns_of turns os) w events last → have_run os ≡ false → IsPartRun turns w events last
   part events last run ran =
       let idle = some-idle os ran in
-      let c = long in
-      record { did = turns_of turns os; each = each-turns turns os; idle = (idle.0, omega (arith, idle.1), rw idle.2); run = run }
+      let c = came-count w turns p.runners.items os start.range ready.runners all in
+      record { did = turns_of turns os; each = λ v. grind (arith, common_steps); idle = (idle.0, omega (arith, idle.1), rw idle.2); run = run }

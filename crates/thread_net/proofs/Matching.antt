@@ -21,6 +21,8 @@ use Rattle.weaving.specs.Woven.{Placed, entries_of, IsWoven}
 use Rattle.node_runner.specs.FirstTurn.{count_of, deeds_of, is_deed_of, is_tick_of}
 use Rattle.node_runner.specs.Due.{events_of}
 
+-- ---- the two ends of a link
+
 taken-items : (takes came : List Stamped) → AllZip IsTakeOf takes came → items takes ≡ items came
 taken-items [] [] all = refl
 taken-items [] (y ∷ ys) all = elim all [ ]
@@ -77,6 +79,8 @@ module _ {A : Type 0} (capacity : ℕ) (old : List Item) (sends takes : List Sta
         taken_later = above-drop old takes sends (rw went at (above-taken takes came flushed.0.0 receiver.taken));
         sent_later = above-back _ (stamps takes) rise (rw (flushed.1.1 ∙ receiver.returned) at (above-longer (drop (capacity - length old) (stamps sends)) (received o.places) flushed.1.0 sender.later));
       }
+
+-- ---- a node's own events in a woven list
 
 -- the event of the entry is a deed of u
 abbrev IsOwn : ℕ → Entry → Type 0

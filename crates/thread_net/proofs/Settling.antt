@@ -16,6 +16,8 @@ use Rattle.link_model.specs.declared.item.Item.{Item}
 use Rattle.run_model.specs.World.{at_pair, item_fits}
 use Rattle.std.proofs.lemmas.List.Folds.{list_any_at, list_any_more}
 
+-- ---- the first port that leads to a node
+
 module _ {A : Type 0} (v : ℕ) where
   abbrev pub leads : Port A → Bool
   leads p = p.neighbour == v
@@ -41,6 +43,8 @@ module _ {A : Type 0} (v : ℕ) where
       let at = position-Some leads ps k d is in
       (rw (← f.1) (found ps d (ltb-true _ _ f.0)), λ j. without ps k j d at.0 at.1)
 
+-- ---- one item more
+
 put-twice : {X : Type 0} (f : ℕ → ℕ → X) (u v : ℕ) (x y : X) → at_pair (at_pair f u v x) u v y ≡ at_pair f u v y
 put-twice f u v x y = fun_ext (λ i. fun_ext (λ j. grind (arith, common_steps)))
 
@@ -65,6 +69,8 @@ module _ (net : Network) (all rest : List Item) (k : ℕ) (i : Item) (next : i �
       let few : length (take k all) < capacity = let most = room.0 in let long = length-take k all in let w = within in omega arith in
       let more : take (k + 1) all ≡ take k all ++ i ∷ [] = take_more all k i within ∙ ap (λ x. take k all ++ x ∷ []) here in
       rw more (rw (there, lt-ltb (length (take k all)) capacity few, is, put-twice) at put)
+
+-- ---- one pair of links more
 
 -- an edge stands once
 first-time : (edges : List Edge) (k : ℕ) (e : Edge) → has_double_edge edges ≡ false → k < length edges → slice_index_or edges k e ≡ e → are_joined (take k edges) e.0 e.1 ≡ false

@@ -7,7 +7,7 @@ use Rattle.weaving.specs.declared.journal.Journal.{Journal}
 use Rattle.node_runner.specs.declared.runner.Runner.{Runner}
 use Rattle.thread_net.specs.Cables.{seat_of, seats_of, AreFurnished, row, rows_of}
 use Rattle.thread_net.specs.Seats.{IsNew, HasRoom, AreShort, degree_of, entry_room, total_room, nodes_of, AreAtStart, IsAtStart}
-use Rattle.thread_net.proofs.Maps.{at-mapped}
+use Rattle.thread_net.proofs.Maps.{at-mapped, read}
 use Rattle.std.proofs.lemmas.Bool.{lt-ltb}
 use Rattle.std.specs.List.{range_with_len}
 use Rattle.std.proofs.lemmas.Simd.{map-map}
@@ -19,6 +19,8 @@ use Rattle.run_model.specs.World.{World}
 use Rattle.configuration.specs.ConfigurationView.{AreNodesOf, no_node, node_at, world_of}
 use Rattle.configuration.specs.LinksView.{LinksView}
 use Rattle.node_runner.specs.Runner.{port_ids}
+
+-- ---- seats of which one changes
 
 total-more : (turns : ℕ) (nodes : List NodeView) (k : ℕ) (d : NodeView) → k < length nodes → total_room turns (take (suc k) nodes) ≡ total_room turns (take k nodes) + entry_room turns (degree_of (slice_index_or nodes k d))
 total-more turns [] k d within = absurd (omega arith)
@@ -32,7 +34,7 @@ module _ {A : Type 0} (rs : List (Runner A)) (k : ℕ) (r : Runner A) (within : 
   pub total-at : (turns : ℕ) → total_room turns (take (k + 1) (nodes_of rs)) ≡ total_room turns (take k (nodes_of rs)) + entry_room turns (degree_of r.node)
   total-at turns =
       let many = length-map rs (λ r. r.node) in
-      let there = get_or-map (λ r. r.node) rs k r r.node within ∙ ap (λ r. r.node) (sym at) in
+      let there = read (λ r. r.node) rs k r r.node within at in
       rw add-one (rw there at (total-more turns (nodes_of rs) k r.node (omega arith)))
 
   module _ (j : Journal A) where
@@ -49,9 +51,10 @@ module _ {A : Type 0} (rs : List (Runner A)) (k : ℕ) (r : Runner A) (within : 
         let many = length-map rs seat_of in
         rw (map-set seat_of rs k changed, take_more_set (seats_of rs) k (seat_of changed) (omega arith)) (All-push (HasRoom turns) (take k (seats_of rs)) (seat_of changed) all one)
 
-module _ {A : Type 0} where
-  pub nodes_from : (rs : List (Runner A)) → nodes_of rs ≡ map (λ s. s.1) (seats_of rs)
-  nodes_from rs = sym (map-map (λ s. s.1) seat_of rs)
+-- ---- seats and ports of all
+
+pub nodes_from : {A : Type 0} (rs : List (Runner A)) → nodes_of rs ≡ map (λ s. s.1) (seats_of rs)
+nodes_from rs = sym (map-map (λ s. s.1) seat_of rs)
 
 -- a node has no more neighbours than there are nodes
 pub below-long : (net : Network) (x : ℕ) → length (neighbours_of net x) ≤ net.nodes
