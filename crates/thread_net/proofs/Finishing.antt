@@ -1,156 +1,264 @@
--- Runners that came back, and the world that is made of them.
-use Rattle.std.proofs.Common.{◌≡◌, ◌⊎◌, inl, inr, ℕ, zero, suc, ◌+◌, ◌*◌, ◌<◌, ◌≤◌, ◌==◌, ◌&&◌, Bool, true, false, if◌then◌else◌, nat_lt, IsTrue, Option, Some, None, List, [], ◌∷◌, length, map, ap, refl, sym, subst, ◌∙◌, rules, arith, slice_index_or, slice_get, All}
+-- What runners that came back did together is a run, and a world is made of them.
+use Rattle.std.proofs.Common.{◌≡◌, inl, inr, ℕ, ◌-◌, ◌<◌, ◌≤◌, ◌==◌, Bool, true, false, if◌then◌else◌, IsTrue, Option, Some, None, List, [], ◌∷◌, length, map, ap, refl, sym, subst, ◌∙◌, arith, append-nil, slice_index_or, All, zero, suc, ◌+◌, ◌*◌, ◌/◌, rules}
 use Rattle.std.proofs.lemmas.Grind.{common_steps}
-use Rattle.std.specs.List.{AllZip}
-use Rattle.std.proofs.lemmas.Bool.{false≢true}
-use Rattle.std.proofs.lemmas.Option.{none-some, same_Some, slice_get_within, get_or_from_slice_get}
-use Rattle.std.proofs.lemmas.Slice.Zip.{AllZip-long}
-use Rattle.std.specs.declared.alloc.Global.{Global}
+use Rattle.std.proofs.lemmas.List.{drop_all, get_or-map, get_or_past, length-map}
+use Rattle.std.proofs.lemmas.List.Elements.{All-head, All-nil, All-tail}
+use Rattle.std.proofs.lemmas.Bool.{cases_Bool, le-ltb, lt-ltb, false≢true}
+use Rattle.std.proofs.lemmas.Option.{none-some, same_Some, slice_get_cases, slice_get-get_or}
+use Rattle.std.specs.List.{AllByRecursion, AllZip}
 use Rattle.topology.specs.Network.{Network, are_joined, neighbours_of}
-use Rattle.topology.specs.Laws.{JoinedAreNodes}
 use Rattle.topology.specs.Ranges.{ranges_of}
 use Rattle.link_model.specs.declared.item.Item.{Item}
-use Rattle.node_core.specs.Site.{site_of}
-use Rattle.node_core.specs.State.{LocalState, default_node}
-use Rattle.node_core.specs.View.{NodeView, site_in, state_of}
-use Rattle.run_model.specs.World.{World, IsWorldInRange}
+use Rattle.run_model.specs.World.{World, IsWorldInRange, item_fits}
+use Rattle.run_model.specs.Run.{run}
 use Rattle.run_model.specs.Laws.{RangesStay}
 use Rattle.run_model.specs.declared.event.Event.{Event}
-use Rattle.configuration.specs.ConfigurationView.{ConfigurationView, no_node, node_at, states_of, world_of}
+use Rattle.configuration.specs.ConfigurationView.{no_node, states_of, ConfigurationView, node_at, world_of}
+use Rattle.weaving.specs.Account.{Note, entry_of, sent_to, taken_from, AreOverLinks, Leads}
+use Rattle.weaving.specs.Journals.{journal_of, entry_count}
+use Rattle.weaving.specs.Laws.{GoesThrough, WovenIsRun}
+use Rattle.weaving.specs.Matched.{AreMatched, IsLinkMatched, stamps}
+use Rattle.weaving.specs.Woven.{AreRising, IsWoven}
+use Rattle.node_runner.specs.declared.runner.Port.{Port}
+use Rattle.node_runner.specs.declared.runner.Runner.{Runner}
+use Rattle.node_runner.specs.Ports.{IsSender, IsReceiver}
+use Rattle.node_runner.specs.Runner.{IsPortNoted, AreSamePorts, IsSamePort, port_ids}
+use Rattle.node_runner.specs.Rounds.{AreRounds}
+use Rattle.thread_net.specs.Cables.{row, rows_of, port_to, left_between, left_on_ports, settled, IsFlushedOn, IsFlushedBetween, AreSettleable, IsCableOn}
+use Rattle.thread_net.specs.Seats.{nodes_of, entries_of_all, AreAtStart, IsAtStart, degree_of, entry_room, total_room}
+use Rattle.thread_net.specs.Done.{HaveDone, IsStart, HasDone, IsGatherable}
+use Rattle.thread_net.specs.ThreadRun.{IsThreadRun}
+use Rattle.node_runner.specs.FirstTurn.{IsFirstTurn, count_of, deeds_of, is_tick_of}
+use Rattle.node_runner.specs.Due.{events_of}
+use Rattle.node_runner.specs.Laws.{EachRoundTicks}
+use Rattle.thread_net.proofs.Matching.{own-deeds, own-ticks, Rise, link-matched}
+use Rattle.std.proofs.lemmas.Slice.Zip.{AllZip-left, AllZip-long}
+use Rattle.std.specs.declared.alloc.Global.{Global}
+use Rattle.std.specs.declared.vec.Vec.{Vec}
+use Rattle.thread_net.specs.declared.seats.Seats.{Seats}
+use Rattle.node_core.specs.Site.{site_of}
+use Rattle.node_core.specs.View.{NodeView, site_in}
 use Rattle.configuration.specs.LinksView.{LinksView, spare_pairs, under_way}
 use Rattle.judge.specs.Parts.{AreOneWorlds}
 use Rattle.judge.specs.Stretch.{StretchView, HasRoomFor}
 use Rattle.weaving.specs.declared.journal.Entry.{Entry}
-use Rattle.weaving.specs.Journals.{entry_count, journal_of}
-use Rattle.weaving.specs.Laws.{WovenIsRun}
-use Rattle.weaving.specs.Woven.{IsWoven}
-use Rattle.node_runner.specs.Laws.{EachRoundTicks}
-use Rattle.node_runner.specs.declared.ports.Outgoing.{Outgoing}
-use Rattle.node_runner.specs.declared.ports.Incoming.{Incoming}
-use Rattle.node_runner.specs.declared.runner.Port.{Port}
-use Rattle.node_runner.specs.declared.runner.Runner.{Runner}
 use Rattle.thread_net.specs.declared.threads.Outcome.{Outcome}
-use Rattle.node_runner.specs.Ports.{SameOutgoing, SameIncoming}
-use Rattle.node_runner.specs.Runner.{IsNoted, AreSamePorts, IsSamePort, port_ids, round_room}
-use Rattle.node_runner.specs.Rounds.{AreRounds}
-use Rattle.thread_net.specs.Cables.{AreCabled, AreEnds, IsCabledOn, IsOver, AreSettleable, IsFlushedBetween, ids_in, port_to, row, rows_of, settled}
-use Rattle.thread_net.specs.Seats.{AreAtStart, IsAtStart, degree_of, entries_of_all, nodes_of, total_room}
 use Rattle.thread_net.specs.Keeps.{Keeps}
-use Rattle.thread_net.specs.Outcomes.{MayRun, IsOutcomeOf, have_run, runners_in, turns_of}
+use Rattle.thread_net.specs.Outcomes.{IsOutcomeOf, have_run, has_run, runners_in, turns_of}
 use Rattle.thread_net.specs.declared.prepare.Prepared.{Prepared}
 use Rattle.thread_net.specs.Prepared.{IsPrepared}
 use Rattle.thread_net.specs.Tables.{AreEmptySeats}
 use Rattle.thread_net.specs.Fault.{IsPartRun}
-use Rattle.thread_net.specs.Done.{HasDone, HaveDone, IsStart, IsGatherable}
-use Rattle.thread_net.specs.ThreadRun.{IsThreadRun}
-use Rattle.thread_net.proofs.Maps.{map-long}
-use Rattle.thread_net.proofs.Gathering.{is-run, last, settleable, get-mapped}
+use Rattle.thread_net.proofs.Maps.{read}
 use Rattle.thread_net.proofs.Starting.{below-long}
+
+-- ---- lists that are read at a place
+
+none-mapped : {X Y : Type 0} (f : X → Y) (xs : List X) (k : ℕ) (d : Y) → length xs ≤ k → slice_index_or (map f xs) k d ≡ d
+none-mapped f xs k d past = let long = length-map xs f in get_or_past (map f xs) k d (omega arith)
+
+-- ---- accounts
+
+none-sent : (net : Network) (u v : ℕ) (ds : List Note) → are_joined net.edges u v ≡ false → AreOverLinks net u ds → sent_to v ds ≡ []
+none-sent net u v [] isnt links = refl
+none-sent net u v (d ∷ ds) isnt links = let later = none-sent net u v ds isnt in grind (arith, common_steps, links)
+
+none-taken : (net : Network) (u v : ℕ) (ds : List Note) → are_joined net.edges u v ≡ false → AreOverLinks net v ds → taken_from u ds ≡ []
+none-taken net u v [] isnt links = refl
+none-taken net u v (d ∷ ds) isnt links = let later = none-taken net u v ds isnt in grind (arith, common_steps, links)
+
+taken-all : (v u x : ℕ) (ds : List Note) → AllByRecursion (λ e. x < e.stamp) (map (entry_of v) ds) → AllByRecursion (λ y. x < y) (stamps (taken_from u ds))
+taken-all v u x [] all = tt
+taken-all v u x (d ∷ ds) all = let later = taken-all v u x ds all.1 in let one = all.0 in grind (arith, common_steps, one, later)
+
+taken-rise : (v u : ℕ) (ds : List Note) → AreRising (map (entry_of v) ds) → Rise (stamps (taken_from u ds))
+taken-rise v u [] rising = tt
+taken-rise v u (d ∷ ds) rising =
+    let later = taken-rise v u ds rising.1 in
+    let first = taken-all v u (entry_of v d).stamp ds rising.0 in
+    grind (arith, common_steps, later, first)
+
+idle-link : (capacity : ℕ) (old : List Item) → IsLinkMatched capacity old [] [] old
+idle-link capacity old = record {
+  kept = append-nil old;
+  taken_later = rw (drop_all {X = ℕ} (length old) [] (omega arith)) tt;
+  sent_later = rw (drop_all {X = ℕ} (capacity - length old) [] (omega arith)) tt;
+}
+
+-- what holds of all ports holds of the one that leads to a node
+found : {A : Type 0} (Q : Port A → Type 0) (ps : List (Port A)) (v : ℕ) (p : Port A) → port_to ps v ≡ Some p → All Q ps → Q p × (p.neighbour ≡ v)
+found Q [] v p is all = absurd (none-some p is)
+found Q (q ∷ ps) v p is all = elim (cases_Bool (q.neighbour == v)) [
+  | inl here ↦ let same = same_Some q p (rw here at is) in (subst Q same (All-head Q q ps all), grind (arith, common_steps, here, same))
+  | inr other ↦ found Q ps v p (rw other at is) (All-tail Q q ps all)
+]
+
+-- ---- what is known of a node when all are done
+
+pub record IsKnown {A : Type 0} (w : World) (turns : ℕ → ℕ) (rs : List (Runner A)) (v : ℕ) : Type 0 where
+  pub account : List Note
+  pub leads : Leads w.net v (w.node v) account (states_of w.net (nodes_of rs) v)
+  pub nobody : w.net.nodes ≤ v → account ≡ []
+  pub journal : journal_of (entries_of_all rs) v ≡ map (entry_of v) account
+  pub rising : AreRising (map (entry_of v) account)
+  pub ports : All (IsPortNoted w v account) (row (rows_of rs) v)
+  pub did : v < w.net.nodes → AreRounds (neighbours_of w.net v) (turns v) account × (0 < turns v → IsFirstTurn w v (events_of v account))
+
+module _ {A : Type 0} (w : World) (turns : ℕ → ℕ) (rs : List (Runner A)) (done : HaveDone w turns rs) (start : IsStart w) where
+  abbrev pub last : World
+  last = record { net = w.net; spares = w.spares; node = states_of w.net (nodes_of rs); link = settled w.net (rows_of rs) w.link }
+
+  pub known : (v : ℕ) → IsKnown w turns rs v
+  known v = elim (slice_get_cases rs v).1 [
+    | inl (r, within, is, at) ↦
+        let here : v < w.net.nodes = let c = done.count in omega arith in
+        let it = rw at at (done.each v r here) in
+        record {
+          account = it.notes;
+          leads = rw (lt-ltb v w.net.nodes here, read (λ r. r.node) rs v r no_node within (sym at)) it.said.leads;
+          nobody = λ le. absurd (omega arith);
+          journal = read (λ r. r.journal.entries.items) rs v r [] within (sym at) ∙ it.said.journal;
+          rising = it.said.rising;
+          ports = rw (read (λ r. r.ports.items) rs v r [] within (sym at)) it.said.ports;
+          did = λ lt. (it.rounds, it.first);
+        }
+    | inr (past, is) ↦
+        let beyond : w.net.nodes ≤ v = let c = done.count in omega arith in
+        record {
+          account = [];
+          leads = (tt, rw (le-ltb v w.net.nodes beyond) (sym (start.beyond v beyond)));
+          nobody = λ le. refl;
+          journal = none-mapped (λ r. r.journal.entries.items) rs v [] past;
+          rising = tt;
+          ports = rw (none-mapped (λ r. r.ports.items) rs v [] past) (All-nil (IsPortNoted w v []));
+          did = λ lt. absurd (omega arith);
+        }
+  ]
+
+  abbrev account : ℕ → List Note
+  account v = (known v).account
+
+  pub all-rising : (v : ℕ) → AreRising (journal_of (entries_of_all rs) v)
+  all-rising v = subst AreRising (sym (known v).journal) (known v).rising
+
+  -- the link of two nodes that are joined
+  on-ports : (u v : ℕ) (a b : Option (Port A)) → port_to (row (rows_of rs) u) v ≡ a → port_to (row (rows_of rs) v) u ≡ b → IsFlushedOn a b
+      → IsLinkMatched w.net.capacity (w.link u v) (sent_to v (account u)) (taken_from u (account v)) (left_on_ports a b)
+  on-ports u v None b to-v to-u is = elim is [ ]
+  on-ports u v (Some p) None to-v to-u is = elim is [ ]
+  on-ports u v (Some p) (Some q) to-v to-u is =
+      let sender = found (IsPortNoted w u (account u)) (row (rows_of rs) u) v p to-v (known u).ports in
+      let receiver = found (IsPortNoted w v (account v)) (row (rows_of rs) v) u q to-u (known v).ports in
+      link-matched w.net.capacity (w.link u v) (sent_to v (account u)) (taken_from u (account v)) p.outgoing q.incoming
+      (subst (λ n. IsSender w.net.capacity (w.link u n) (sent_to n (account u)) p.outgoing) sender.1 sender.0.0)
+      (subst (λ n. IsReceiver w.net.capacity (length (w.link n v)) (taken_from n (account v)) q.incoming) receiver.1 receiver.0.1)
+      is (taken-rise v u (account v) (known v).rising)
+
+  module _ (flushed : (u v : ℕ) → IsTrue (are_joined w.net.edges u v) → IsFlushedBetween (rows_of rs) u v) where
+    link-any : (u v : ℕ) (b : Bool) → are_joined w.net.edges u v ≡ b
+        → IsLinkMatched w.net.capacity (w.link u v) (sent_to v (account u)) (taken_from u (account v)) (if b then left_between (rows_of rs) u v else w.link u v)
+    link-any u v true joined = on-ports u v _ _ refl refl (flushed u v joined)
+    link-any u v false isnt = rw (none-sent w.net u v (account u) isnt (known u).leads.0, none-taken w.net u v (account v) isnt (known v).leads.0) (idle-link w.net.capacity (w.link u v))
+
+    matched : AreMatched w account last
+    matched = record {
+      network = refl;
+      spares = refl;
+      nodes = λ v. (known v).leads;
+      nobody = λ v. (known v).nobody;
+      links = λ u v. link-any u v (are_joined w.net.edges u v) refl;
+    }
+
+    module _ (events : List Event) (woven : IsWoven (journal_of (entries_of_all rs)) events) (law : WovenIsRun) where
+      both-laws : (run w events ≡ last) × GoesThrough w events
+      both-laws = law w last account (journal_of (entries_of_all rs)) events start.range matched (λ v. (known v).journal) woven
+
+      deeds : (v : ℕ) → deeds_of v events ≡ events_of v (account v)
+      deeds v = own-deeds account (journal_of (entries_of_all rs)) events v (λ v. (known v).journal) woven
+
+      pub is-run : EachRoundTicks → IsThreadRun turns w events last
+      is-run rounds-tick = record {
+        leads = both-laws.0;
+        through = both-laws.1;
+        account = account;
+        journal = journal_of (entries_of_all rs);
+        woven = woven;
+        rising = all-rising;
+        said = λ v. (known v).journal;
+        matched = matched;
+        rounds = λ v lt. ((known v).did lt).0;
+        ticks = λ v lt. own-ticks v events ∙ (ap (count_of (is_tick_of v)) (deeds v) ∙ rounds-tick v (neighbours_of w.net v) (turns v) (account v) ((known v).did lt).0);
+        first = λ v lt some. subst (IsFirstTurn w v) (sym (deeds v)) (((known v).did lt).1 some);
+      }
+
+      pub settleable : RangesStay → AreSettleable w.net (rows_of rs)
+      settleable ranges u v joined =
+          let range : IsWorldInRange last = subst IsWorldInRange both-laws.0 (ranges w events start.range) in
+          let link : last.link u v ≡ left_between (rows_of rs) u v = ap (λ b. if b then left_between (rows_of rs) u v else w.link u v) joined in (
+            subst (λ xs. length xs ≤ w.net.capacity) link (range.capacity u v joined),
+            subst (All (λ item. IsTrue (item_fits (ranges_of w.net) item))) link (range.items u v joined),
+          )
 
 -- ---- a world and its start
 
 pub start-of : (view : ConfigurationView) → IsWorldInRange (world_of view) → IsStart (world_of view)
-start-of view range = record {
-  range = range;
-  beyond = λ v le. past v view.links.net.nodes le (state_of (node_at view.nodes v)) (default_node (ranges_of view.links.net));
-}
-  where
-    past : (v n : ℕ) → n ≤ v → (a b : LocalState) → (if nat_lt v n then a else b) ≡ b
-    past v n le a b = let test : nat_lt v n ≡ false = grind (arith, common_steps, le) in ap (λ t. if t then a else b) test
-
-pub may-run : {A : Type 0} (w : World) (turns : ℕ) (rs : List (Runner A)) → AreAtStart w turns rs → All (MayRun turns) rs
-may-run w turns rs start k d within =
-    let one = start.each k d (let c = start.count in omega (arith, c, within)) in
-    let none = ap length one.said.journal in
-    let room = one.room in
-    (one.ready, omega (arith, none, room))
-
-get-some : {X : Type 0} (xs : List X) (k : ℕ) → k < length xs → (x : X) × (slice_get xs k ≡ Some x)
-get-some [] k within = absurd (omega (arith, within))
-get-some (x ∷ xs) zero within = (x, refl)
-get-some (x ∷ xs) (suc k) within = get-some xs k (omega (arith, within))
+start-of view range = record { range = range; beyond = λ v le. rw (le-ltb v view.links.net.nodes le) refl }
 
 -- ---- one runner that came back
 
-port-ids-are : (w : World) (turns v : ℕ) (r : Runner Global) → IsAtStart w turns v r → port_ids r ≡ neighbours_of w.net v
-port-ids-are w turns v r start = start.ready.ports ∙ ap (λ s. s.neighbours) start.said.site
-
--- a node has at most 64 neighbours
-few-ports : (w : World) (turns v : ℕ) (r : Runner Global) → IsWorldInRange w → IsAtStart w turns v r → length r.ports.items ≤ 64
-few-ports w turns v r range start =
-    let a = map-long (λ p. p.neighbour) r.ports.items in
-    let b = ap length (port-ids-are w turns v r start) in
-    let c = below-long w.net v w.net.nodes in
+-- it did all its turns from the start, or is as it was
+is-back : (w : World) (turns v : ℕ) (r now : Runner Global) (ran : Bool) → IsWorldInRange w → IsAtStart w turns v r → Keeps turns r now ran → HasDone w v (if ran then turns else 0) now
+is-back w turns v r now true range start (deeds, does, rounds, few, first) =
+    let ids : port_ids r ≡ neighbours_of w.net v = start.ready.ports ∙ ap (λ s. s.neighbours) start.said.site in
+    let long = length-map r.ports.items (λ p. p.neighbour) in
+    let count = ap length ids in
+    let below = below-long w.net v in
     let most = range.network.limits.most in
-    omega (arith, a, b, c, most)
-
-done-as : (w : World) (turns v : ℕ) (r now : Runner Global) (ran : Bool) → IsWorldInRange w → IsAtStart w turns v r → Keeps turns r now ran → HasDone w v (if ran then turns else 0) now
-done-as w turns v r now true range start (deeds, does, rounds, few, first) = record {
-  notes = deeds;
-  said = does.said w v [] start.said;
-  rounds = subst (λ us. AreRounds us turns deeds) (port-ids-are w turns v r start) rounds;
-  first = λ some. first some start.clock (few-ports w turns v r range start) w v start.said range.capacity;
-}
-done-as w turns v r now false range start same = record { notes = []; said = subst (IsNoted w v []) (sym same) start.said; rounds = refl; first = λ some. absurd (omega (arith, some)) }
-
-ids-as : (w : World) (turns v : ℕ) (r now : Runner Global) (ran : Bool) → IsAtStart w turns v r → Keeps turns r now ran → port_ids now ≡ neighbours_of w.net v
-ids-as w turns v r now true start (deeds, does, rounds, few, first) = does.ready.ports ∙ (ap (λ s. s.neighbours) does.site ∙ (sym start.ready.ports ∙ port-ids-are w turns v r start))
-ids-as w turns v r now false start same = ap port_ids same ∙ port-ids-are w turns v r start
+    record {
+      notes = deeds;
+      said = does.said w v [] start.said;
+      rounds = subst (λ us. AreRounds us turns deeds) ids rounds;
+      first = λ some. first some start.clock (omega arith) w v start.said range.capacity;
+    }
+is-back w turns v r now false range start same = rw same (record { notes = []; said = start.said; rounds = refl; first = λ some. absurd (omega arith) })
 
 all-same : (ps : List (Port Global)) → AreSamePorts ps ps
-all-same ps = (refl, λ k d within. same-port (slice_index_or ps k d))
-  where
-    same-port : (p : Port Global) → IsSamePort p p
-    same-port p = search rules
+all-same ps = (refl, λ k d within. search rules)
 
-ports-as : (turns : ℕ) (r now : Runner Global) (ran : Bool) → Keeps turns r now ran → AreSamePorts r.ports.items now.ports.items
-ports-as turns r now true (deeds, does, rounds, few, first) = does.ports
-ports-as turns r now false same = subst (λ n. AreSamePorts r.ports.items n.ports.items) (sym same) (all-same r.ports.items)
+same-ports : (turns : ℕ) (r now : Runner Global) (ran : Bool) → Keeps turns r now ran → AreSamePorts r.ports.items now.ports.items
+same-ports turns r now true (deeds, does, rounds, few, first) = does.ports
+same-ports turns r now false same = rw same (all-same r.ports.items)
 
-entries-as : (w : World) (turns v : ℕ) (r now : Runner Global) (ran : Bool) → IsAtStart w turns v r → Keeps turns r now ran
-    → length now.journal.entries.items ≤ turns * (1 + 3 * degree_of r.node)
-entries-as w turns v r now true start (deeds, does, rounds, few, first) =
-    let none = ap length start.said.journal in
-    let count = does.entries in
-    let same : round_room r ≡ 1 + 3 * degree_of r.node = ap (λ k. 1 + 3 * k) (sym (map-long (λ p. p.neighbour) r.ports.items) ∙ ap length start.ready.ports) in
-    let most = subst (λ k. length deeds ≤ turns * k) same few in
-    omega (arith, none, count, most)
-entries-as w turns v r now false start same =
-    let none = ap length start.said.journal in
-    let count = ap (λ n. length n.journal.entries.items) same in
-    omega (arith, none, count)
+-- it has written nothing yet, and has a port to each neighbour
+abbrev IsFresh : Runner Global → Type 0
+IsFresh r = (r.journal.entries.items ≡ []) × (port_ids r ≡ (site_in r.node).neighbours)
+
+few-entries : (turns : ℕ) (r now : Runner Global) (ran : Bool) → IsFresh r → Keeps turns r now ran → length now.journal.entries.items ≤ entry_room turns (degree_of r.node)
+few-entries turns r now true (none, ids) (deeds, does, rounds, few, first) =
+    let made = subst (λ k. length deeds ≤ turns * (1 + 3 * k)) (sym (length-map r.ports.items (λ p. p.neighbour)) ∙ ap length ids) few in
+    let entries = does.entries in
+    let nothing = ap length none in
+    omega arith
+few-entries turns r now false (none, ids) same = let nothing = ap length none in rw same (omega arith)
 
 -- ---- all that came back
 
-zip-get : (turns : ℕ) (rs : List (Runner Global)) (os : List Outcome) (v : ℕ) (o : Outcome) → AllZip (IsOutcomeOf turns) rs os → slice_get os v ≡ Some o
-    → (r : Runner Global) × (slice_get rs v ≡ Some r) × IsOutcomeOf turns r o
-zip-get turns rs [] v o all is = absurd (none-some o is)
-zip-get turns [] (x ∷ os) v o all is = elim all [ ]
-zip-get turns (r ∷ rs) (x ∷ os) zero o all is = (r, refl, subst (IsOutcomeOf turns r) (same_Some x o is) all.0)
-zip-get turns (r ∷ rs) (x ∷ os) (suc v) o all is = zip-get turns rs os v o all.1 is
+same-rows : (turns : ℕ) (rs : List (Runner Global)) (os : List Outcome) (x : ℕ) → AllZip (IsOutcomeOf turns) rs os → AreSamePorts (row (rows_of rs) x) (row (rows_of (runners_in os)) x)
+same-rows turns [] [] x all = all-same []
+same-rows turns [] (o ∷ os) x all = elim all [ ]
+same-rows turns (r ∷ rs) [] x all = elim all [ ]
+same-rows turns (r ∷ rs) (o ∷ os) zero all = same-ports turns r o.runner o.ran all.0
+same-rows turns (r ∷ rs) (o ∷ os) (suc x) all = same-rows turns rs os x all.1
 
-come-back : (os : List Outcome) (v : ℕ) (r : Runner Global) → slice_get (runners_in os) v ≡ Some r → (o : Outcome) × (slice_get os v ≡ Some o) × (o.runner ≡ r)
-come-back [] v r is = absurd (none-some r is)
-come-back (o ∷ os) zero r is = (o, refl, same_Some o.runner r is)
-come-back (o ∷ os) (suc v) r is = come-back os v r is
-
-turns-at : (turns v : ℕ) (os : List Outcome) (o : Outcome) → slice_get os v ≡ Some o → turns_of turns os v ≡ (if o.ran then turns else 0)
-turns-at turns v [] o is = absurd (none-some o is)
-turns-at turns zero (x ∷ os) o is = ap (λ y. if y.ran then turns else 0) (same_Some x o is)
-turns-at turns (suc v) (x ∷ os) o is = turns-at turns v os o is
-
-same-rows : (turns : ℕ) (rs : List (Runner Global)) (os : List Outcome) → AllZip (IsOutcomeOf turns) rs os → (x : ℕ) → AreSamePorts (row (rows_of rs) x) (row (rows_of (runners_in os)) x)
-same-rows turns [] [] all x = all-same []
-same-rows turns [] (o ∷ os) all x = elim all [ ]
-same-rows turns (r ∷ rs) [] all x = elim all [ ]
-same-rows turns (r ∷ rs) (o ∷ os) all zero = ports-as turns r o.runner o.ran all.0
-same-rows turns (r ∷ rs) (o ∷ os) all (suc x) = same-rows turns rs os all.1 x
-
-ends-stay : {A : Type 0} (o o' : Outgoing A) (i i' : Incoming A) → SameOutgoing o o' → SameIncoming i i' → AreEnds o i → AreEnds o' i'
-ends-stay o o' i i' x y ends = (
-  (y.0.0.0 ∙ (ends.0.0 ∙ sym x.0.0.0), y.0.0.1 ∙ (ends.0.1 ∙ sym x.0.0.1), y.0.0.2 ∙ (ends.0.2 ∙ sym x.0.0.2), y.0.0.3 ∙ (ends.0.3 ∙ sym x.0.0.3)),
-  (x.1.0.0 ∙ (ends.1.0 ∙ sym y.1.0.0), x.1.0.1 ∙ (ends.1.1 ∙ sym y.1.0.1), x.1.0.2 ∙ (ends.1.2 ∙ sym y.1.0.2), x.1.0.3 ∙ (ends.1.3 ∙ sym y.1.0.3)),
-)
+-- the entries of some nodes fit if there is room for all of theirs
+all-fit : (turns : ℕ) (rs : List (Runner Global)) (os : List Outcome) → All IsFresh rs → AllZip (IsOutcomeOf turns) rs os → entry_count (entries_of_all (runners_in os)) ≤ total_room turns (nodes_of rs)
+all-fit turns [] [] fresh all = omega arith
+all-fit turns [] (o ∷ os) fresh all = elim all [ ]
+all-fit turns (r ∷ rs) [] fresh all = elim all [ ]
+all-fit turns (r ∷ rs) (o ∷ os) fresh all =
+    let one = few-entries turns r o.runner o.ran (All-head IsFresh r rs fresh) all.0 in
+    let later = all-fit turns rs os (All-tail IsFresh r rs fresh) all.1 in
+    omega (arith, one, later)
 
 -- the same port is found, or none
 abbrev IsSameFound : {A : Type 0} → Option (Port A) → Option (Port A) → Type 0
@@ -161,201 +269,111 @@ IsSameFound None None = Unit {0}
 
 same-found : {A : Type 0} (ps qs : List (Port A)) (v : ℕ) → AreSamePorts ps qs → IsSameFound (port_to ps v) (port_to qs v)
 same-found [] [] v same = tt
-same-found [] (q ∷ qs) v same = absurd (let l = same.0 in omega (arith, l))
-same-found (p ∷ ps) [] v same = absurd (let l = same.0 in omega (arith, l))
+same-found [] (q ∷ qs) v same = absurd (let l = same.0 in omega arith)
+same-found (p ∷ ps) [] v same = absurd (let l = same.0 in omega arith)
 same-found (p ∷ ps) (q ∷ qs) v same =
     let one : IsSamePort p q = same.1 0 p (omega arith) in
-    let rest = same-found ps qs v ((let l = same.0 in omega (arith, l)), λ k d there. same.1 (suc k) d (omega (arith, there))) in
-    subst (λ n. IsSameFound (port_to (p ∷ ps) v) (if n == v then Some q else port_to qs v)) (sym one.0) (go (p.neighbour == v) one rest)
-  where
-    go : (b : Bool) → IsSamePort p q → IsSameFound (port_to ps v) (port_to qs v) → IsSameFound (if b then Some p else port_to ps v) (if b then Some q else port_to qs v)
-    go true one rest = one
-    go false one rest = rest
+    let rest = same-found ps qs v ((let l = same.0 in omega arith), λ k d there. same.1 (suc k) d (omega arith)) in
+    grind (arith, common_steps, one, rest)
 
-cabled-stays : {A : Type 0} (a c b d : Option (Port A)) → IsSameFound a c → IsSameFound b d → IsCabledOn a b → IsCabledOn c d
-cabled-stays None None b d x y is = tt
-cabled-stays None (Some r) b d x y is = elim x [ ]
-cabled-stays (Some p) None b d x y is = elim x [ ]
-cabled-stays (Some p) (Some r) None None x y is = tt
-cabled-stays (Some p) (Some r) None (Some s) x y is = elim y [ ]
-cabled-stays (Some p) (Some r) (Some q) None x y is = elim y [ ]
-cabled-stays (Some p) (Some r) (Some q) (Some s) x y is =
-    (ends-stay p.outgoing r.outgoing q.incoming s.incoming x.1 y.2 is.0, ends-stay q.outgoing s.outgoing p.incoming r.incoming y.1 x.2 is.1)
+cabled-stays : {A : Type 0} (a c b d : Option (Port A)) → IsSameFound a c → IsSameFound b d → IsCableOn a b → IsCableOn c d
+cabled-stays a c b d x y is = grind (arith, common_steps, x, y, is)
 
 module _ (w : World) (turns : ℕ) (rs : List (Runner Global)) (os : List Outcome) (range : IsWorldInRange w) (start : AreAtStart w turns rs) (all : AllZip (IsOutcomeOf turns) rs os) where
-  at : (v : ℕ) (r : Runner Global) → slice_get rs v ≡ Some r → IsAtStart w turns v r
-  at v r is = let l = slice_get_within rs v r is in let c = start.count in subst (IsAtStart w turns v) (get_or_from_slice_get rs v r r is) (start.each v r (omega (arith, l, c)))
+  pub came-count : length os ≡ w.net.nodes
+  came-count = let b = AllZip-long (IsOutcomeOf turns) rs os all in let c = start.count in omega arith
 
-  pub came-count : length (runners_in os) ≡ w.net.nodes
-  came-count = let a = map-long (λ o. o.runner) os in let b = AllZip-long (IsOutcomeOf turns) rs os all in let c = start.count in omega (arith, a, b, c)
-
-  pub have-done : HaveDone w (turns_of turns os) (runners_in os)
-  have-done = record {
-    count = came-count;
-    each = λ v now is.
-        let c = come-back os v now is in
-        let z = zip-get turns rs os v c.0 all c.1 in
-        let one = done-as w turns v z.0 c.0.runner c.0.ran range (at v z.0 z.1) z.2 in
-        subst (HasDone w v (turns_of turns os v)) c.2 (subst (λ t. HasDone w v t c.0.runner) (sym (turns-at turns v os c.0 c.1)) one);
-    ids = λ x xn.
-        let g = get-some (runners_in os) x (let c = came-count in omega (arith, c, xn)) in
-        let c = come-back os x g.0 g.1 in
-        let z = zip-get turns rs os x c.0 all c.1 in
-        ap ids_in (get-mapped (λ r. r.ports.items) (runners_in os) x g.0 [] g.1) ∙ (ap port_ids (sym c.2) ∙ ids-as w turns x z.0 c.0.runner c.0.ran (at x z.0 z.1) z.2);
-    cabled = λ u v.
-        let found : (x y : ℕ) → IsSameFound (port_to (row (rows_of rs) x) y) (port_to (row (rows_of (runners_in os)) x) y) =
-        λ x y. same-found (row (rows_of rs) x) (row (rows_of (runners_in os)) x) y (same-rows turns rs os all x) in
-        cabled-stays (port_to (row (rows_of rs) u) v) (port_to (row (rows_of (runners_in os)) u) v) (port_to (row (rows_of rs) v) u) (port_to (row (rows_of (runners_in os)) v) u)
-        (found u v) (found v u) (start.cabled u v);
+  pub have-done : (did : ℕ → ℕ) → ((v : ℕ) → v < length os → turns_of turns os v ≡ did v) → HaveDone w did (runners_in os)
+  have-done did same = record {
+    count = length-map os (λ o. o.runner) ∙ came-count;
+    each = λ v now vn.
+        let d : Outcome = record { runner = now; ran = true } in
+        let here : v < length os = let c = came-count in omega arith in
+        let there : v < length rs = let c = start.count in omega arith in
+        let kept = rw (slice_get-get_or rs v now there, slice_get-get_or os v d here) at (AllZip-left (IsOutcomeOf turns) rs os all v) in
+        let done = is-back w turns v (slice_index_or rs v now) (slice_index_or os v d).runner _ range (start.each v now vn) kept in
+        rw (get_or-map (λ o. o.runner) os v d now here) (subst (λ t. HasDone w v t (slice_index_or os v d).runner) (ap (λ b. if b then turns else 0) (sym (get_or-map (λ o. o.ran) os v d false here)) ∙ same v here) done);
+    cabled = λ u v joined. cabled-stays _ (port_to (row (rows_of (runners_in os)) u) v) _ (port_to (row (rows_of (runners_in os)) v) u) (same-found _ _ v (same-rows turns rs os u all)) (same-found _ _ u (same-rows turns rs os v all)) (start.cabled u v joined);
   }
 
--- the entries of some nodes fit if there is room for all of theirs
-fit-from : (w : World) (turns k : ℕ) (rs : List (Runner Global)) (os : List Outcome) → ((v : ℕ) (r : Runner Global) → slice_get rs v ≡ Some r → IsAtStart w turns (k + v) r)
-    → AllZip (IsOutcomeOf turns) rs os → entry_count (entries_of_all (runners_in os)) ≤ total_room turns (nodes_of rs)
-fit-from w turns k [] [] at all = omega arith
-fit-from w turns k [] (o ∷ os) at all = elim all [ ]
-fit-from w turns k (r ∷ rs) [] at all = elim all [ ]
-fit-from w turns k (r ∷ rs) (o ∷ os) at all =
-    let one = entries-as w turns (k + 0) r o.runner o.ran (at 0 r refl) all.0 in
-    let later = fit-from w turns (k + 1) rs os (λ v q is. subst (λ n. IsAtStart w turns n q) (omega arith) (at (suc v) q is)) all.1 in
-    omega (arith, one, later)
-
-pub entries-fit : (w : World) (turns : ℕ) (rs : List (Runner Global)) (os : List Outcome) → IsWorldInRange w → AreAtStart w turns rs → AllZip (IsOutcomeOf turns) rs os
-    → entry_count (entries_of_all (runners_in os)) ≤ total_room turns (nodes_of rs)
-entries-fit w turns rs os range start all = fit-from w turns 0 rs os (λ v r is. subst (λ n. IsAtStart w turns n r) (omega arith) (at w turns rs os range start all v r is)) all
+  pub entries-fit : entry_count (entries_of_all (runners_in os)) ≤ total_room turns (nodes_of rs)
+  entries-fit = all-fit turns rs os (λ k d within. let one = start.each k d (let c = start.count in omega arith) in (one.said.journal, one.ready.ports)) all
 
 -- ---- who ran
 
-pub all-turns : (turns : ℕ) (os : List Outcome) → have_run os ≡ true → (v : ℕ) → v < length os → turns_of turns os v ≡ turns
-all-turns turns [] ran v within = absurd (omega (arith, within))
-all-turns turns (o ∷ os) ran zero within = let one : o.ran ≡ true = grind (arith, common_steps, ran) in ap (λ b. if b then turns else 0) one
-all-turns turns (o ∷ os) ran (suc v) within = all-turns turns os (let later : have_run os ≡ true = grind (arith, common_steps, ran) in later) v (omega (arith, within))
+pub all-ran : (os : List Outcome) → have_run os ≡ true → (v : ℕ) → v < length os → has_run os v ≡ true
+all-ran [] ran v within = absurd (omega (arith, within))
+all-ran (o ∷ os) ran zero within = grind (arith, common_steps, ran)
+all-ran (o ∷ os) ran (suc v) within = all-ran os (grind (arith, common_steps, ran)) v (omega arith)
 
-pub some-idle : (turns : ℕ) (os : List Outcome) → have_run os ≡ false → (v : ℕ) × (v < length os) × (turns_of turns os v ≡ 0)
-some-idle turns [] ran = absurd (false≢true (sym ran))
-some-idle turns (o ∷ os) ran = cases o.ran refl (some-idle turns os)
-  where
-    cases : (b : Bool) → o.ran ≡ b → (have_run os ≡ false → (v : ℕ) × (v < length os) × (turns_of turns os v ≡ 0)) → (v : ℕ) × (v < length (o ∷ os)) × (turns_of turns (o ∷ os) v ≡ 0)
-    cases false is later = (0, omega arith, ap (λ b. if b then turns else 0) is)
-    cases true is later =
-        let rest : have_run os ≡ false = ap (λ b. b && have_run os) (sym is) ∙ ran in
-        let found = later rest in
-        let l = found.1 in
-        (suc found.0, omega (arith, l), found.2)
-
-pub each-turns : (turns : ℕ) (os : List Outcome) (v : ℕ) → (turns_of turns os v ≡ turns) ⊎ (turns_of turns os v ≡ 0)
-each-turns turns [] v = inr refl
-each-turns turns (o ∷ os) zero = cases o.ran
-  where
-    cases : (b : Bool) → ((if b then turns else 0) ≡ turns) ⊎ ((if b then turns else 0) ≡ 0)
-    cases true = inl refl
-    cases false = inr refl
-each-turns turns (o ∷ os) (suc v) = each-turns turns os v
-
-pub run-as : (some other : ℕ → ℕ) (w last : World) (events : List Event) → ((v : ℕ) → v < w.net.nodes → some v ≡ other v) → IsThreadRun some w events last → IsThreadRun other w events last
-run-as some other w last events same run = record {
-  leads = run.leads;
-  through = run.through;
-  account = run.account;
-  journal = run.journal;
-  woven = run.woven;
-  rising = run.rising;
-  said = run.said;
-  matched = run.matched;
-  rounds = λ v vn. subst (λ t. AreRounds (neighbours_of w.net v) t (run.account v)) (same v vn) (run.rounds v vn);
-  ticks = λ v vn. run.ticks v vn ∙ same v vn;
-  first = λ v vn more. run.first v vn (let e = same v vn in omega (arith, e, more));
-}
+some-idle : (os : List Outcome) → have_run os ≡ false → (v : ℕ) × (v < length os) × (has_run os v ≡ false)
+some-idle [] ran = absurd (false≢true (sym ran))
+some-idle (o ∷ os) ran = elim (cases_Bool o.ran) [
+  | inl did ↦ let found = some-idle os (rw did at ran) in let l = found.1 in (suc found.0, omega arith, found.2)
+  | inr idle ↦ (0, omega arith, idle)
+]
 
 -- ---- the world that is made of them
 
-world-parts : (n n' : Network) (s s' : ℕ) (f f' : ℕ → LocalState) (g g' : ℕ → ℕ → List Item) → n ≡ n' → s ≡ s' → f ≡ f' → g ≡ g'
-    → ◌≡◌ {A = World} (record { net = n; spares = s; node = f; link = g }) (record { net = n'; spares = s'; node = f'; link = g' })
-world-parts n n' s s' f f' g g' a b c d =
-    ap {B = World} (λ x. record { net = x; spares = s; node = f; link = g }) a
-    ∙ (ap {B = World} (λ x. record { net = n'; spares = x; node = f; link = g }) b
-    ∙ (ap {B = World} (λ x. record { net = n'; spares = s'; node = x; link = g }) c ∙ ap {B = World} (λ x. record { net = n'; spares = s'; node = f'; link = x }) d))
+module _ {A : Type 0} {rs : List (Runner A)} {links : LinksView} {room : StretchView} {seats : Seats A} {out : Vec Event A} (w : World) (turns : ℕ → ℕ) (it : IsGatherable w turns rs links room seats out) where
+  pub gathered : (now : LinksView) (nodes : List NodeView) (rows : List (List (Port A))) (entries : List (List Entry)) (events : List Event)
+      → nodes ≡ nodes_of rs → rows ≡ rows_of rs → entries ≡ entries_of_all rs
+      → now.net ≡ links.net → now.spares ≡ links.spares
+      → ((u v : ℕ) → IsTrue (are_joined links.net.edges u v) → IsFlushedBetween rows u v)
+      → (AreSettleable links.net rows → under_way now ≡ settled links.net rows (under_way links))
+      → IsWoven (journal_of entries) events → WovenIsRun → EachRoundTicks → RangesStay
+      → IsThreadRun turns w events (world_of (record { nodes = nodes; links = now }))
+  gathered now nodes rows entries events nodes-are rows-are entries-are net spare flushed settles woven law rounds ranges =
+      let flat : (u v : ℕ) → IsTrue (are_joined w.net.edges u v) → IsFlushedBetween (rows_of rs) u v = λ u v joined. rw rows-are at (flushed u v (rw it.over.0 at joined)) in
+      let weave = rw entries-are at woven in
+      let run = is-run w turns rs it.done it.start flat events weave law rounds in
+      let able : AreSettleable links.net rows = rw rows-are (rw it.over.0 at (settleable w turns rs it.done it.start flat events weave law ranges)) in
+      let link : settled w.net (rows_of rs) w.link ≡ under_way now = rw (it.over.0, it.over.1, ← rows-are) (sym (settles able)) in
+      let node : states_of w.net (nodes_of rs) ≡ states_of now.net nodes = rw (it.over.0, net, nodes-are) refl in
+      let spares : w.spares ≡ spare_pairs now = it.spares ∙ ap (λ s. length s / 2) (sym spare) in
+      let network : w.net ≡ now.net = it.over.0 ∙ sym net in
+      let same : last w turns rs it.done it.start ≡ world_of (record { nodes = nodes; links = now }) = cc in
+      subst (IsThreadRun turns w events) same run
 
-pub gathered : {A : Type 0} (w : World) (turns : ℕ → ℕ) (rs : List (Runner A)) (links now : LinksView) (nodes : List NodeView) (rows : List (List (Port A))) (entries : List (List Entry)) (events : List Event)
-    → HaveDone w turns rs → IsStart w → IsOver w links → w.spares ≡ spare_pairs links
-    → nodes ≡ nodes_of rs → rows ≡ rows_of rs → entries ≡ entries_of_all rs
-    → now.net ≡ links.net → now.spares ≡ links.spares
-    → ((u v : ℕ) → IsTrue (are_joined links.net.edges u v) → IsFlushedBetween rows u v)
-    → (AreSettleable links.net rows → under_way now ≡ settled links.net rows (under_way links))
-    → IsWoven (journal_of entries) events → WovenIsRun → EachRoundTicks → RangesStay → JoinedAreNodes
-    → IsThreadRun turns w events (world_of (record { nodes = nodes; links = now }))
-gathered w turns rs links now nodes rows entries events done start over spares nodes-are rows-are entries-are net spare flushed settles woven law rounds ranges joined =
-    let flat : (u v : ℕ) → IsTrue (are_joined w.net.edges u v) → IsFlushedBetween (rows_of rs) u v = λ u v joint. subst (λ r. IsFlushedBetween r u v) rows-are (flushed u v (ap (λ n. are_joined n.edges u v) (sym over.0) ∙ joint)) in
-    let weave = subst (λ e. IsWoven (journal_of e) events) entries-are woven in
-    let run = is-run w turns rs done start flat joined events weave law rounds in
-    let able = settleable w turns rs done start flat joined events weave law ranges in
-    let able' : AreSettleable links.net rows = subst (λ r. AreSettleable links.net r) (sym rows-are) (subst (λ n. AreSettleable n (rows_of rs)) over.0 able) in
-    let link : settled w.net (rows_of rs) w.link ≡ under_way now =
-    ap (λ n. settled n (rows_of rs) w.link) over.0 ∙ (ap (λ r. settled links.net r w.link) (sym rows-are) ∙ (ap (settled links.net rows) over.1 ∙ sym (settles able'))) in
-    let node : states_of w.net (nodes_of rs) ≡ states_of now.net nodes = ap (λ n. states_of n (nodes_of rs)) (over.0 ∙ sym net) ∙ ap (states_of now.net) (sym nodes-are) in
-    let spares-are : w.spares ≡ spare_pairs now = spares ∙ ap (λ s. spare_pairs (record links { spares = s })) (sym spare) in
-    subst (IsThreadRun turns w events)
-    (world-parts w.net now.net w.spares (spare_pairs now) (states_of w.net (nodes_of rs)) (states_of now.net nodes) (settled w.net (rows_of rs) w.link) (under_way now) (over.0 ∙ sym net) spares-are node link) run
-
--- the parts are one world's
-pub one-worlds : {A : Type 0} (w : World) (turns : ℕ → ℕ) (rs : List (Runner A)) (links now : LinksView) (nodes : List NodeView) (room : StretchView)
-    → HaveDone w turns rs → IsOver w links → nodes ≡ nodes_of rs → now.net ≡ links.net → HasRoomFor w.net room → AreOneWorlds nodes now room
-one-worlds w turns rs links now nodes room done over are net judged =
-    let same : now.net ≡ w.net = net ∙ sym over.0 in
-    record {
-      nodes_are = record {
-        all_nodes =
-            let a = ap length are in
-            let b = map-long (λ r. r.node) rs in
-            let c = done.count in
-            let d = ap (λ n. n.nodes) same in
-            omega (arith, a, b, c, d);
-        sites = λ v vn.
-            let vn' : v < w.net.nodes = (let d = ap (λ n. n.nodes) same in omega (arith, vn, d)) in
-            let g = get-some rs v (let c = done.count in omega (arith, c, vn')) in
-            let one = done.each v g.0 g.1 in
-            ap (λ ns. site_in (node_at ns v)) are ∙ (ap site_in (get-mapped (λ r. r.node) rs v g.0 no_node g.1) ∙ (one.said.site ∙ ap (λ n. site_of n v) (sym same)));
-      };
-      room_is = subst (λ n. HasRoomFor n room) (sym same) judged;
-    }
+  -- the parts are one world's
+  pub one-worlds : (now : LinksView) (nodes : List NodeView) → nodes ≡ nodes_of rs → now.net ≡ links.net → AreOneWorlds nodes now room
+  one-worlds now nodes are net =
+      let same : now.net ≡ w.net = net ∙ sym it.over.0 in
+      let count = ap (λ n. n.nodes) same in
+      record {
+        nodes_are = record {
+          all_nodes = let a = ap length are in let b = length-map rs (λ r. r.node) in let c = it.done.count in omega arith;
+          sites = λ v vn. elim (slice_get_cases rs v).1 [
+            | inl (r, within, is, at) ↦
+                let mine = rw at at (it.done.each v r (let c = it.done.count in omega arith)) in
+                ap (λ ns. site_in (node_at ns v)) are ∙ (ap site_in (read (λ r. r.node) rs v r no_node within (sym at)) ∙ (mine.said.site ∙ ap (λ n. site_of n v) (sym same)))
+            | inr (past, is) ↦ absurd (let c = it.done.count in omega arith)
+          ];
+        };
+        room_is = subst (λ n. HasRoomFor n room) (sym same) it.judged;
+      }
 
 -- ---- the whole run
 
-module _ (view : ConfigurationView) (first : World) (turns : ℕ) (p : Prepared Global) (os : List Outcome) (back : List (Runner Global)) (same : first ≡ world_of view)
-    (range : IsWorldInRange (world_of view)) (ready : IsPrepared first turns p) (all : AllZip (IsOutcomeOf turns) p.runners.items os) (came : back ≡ runners_in os) where
-  here : IsPrepared (world_of view) turns p
-  here = subst (λ w. IsPrepared w turns p) same ready
-
-  count-is : length os ≡ view.links.net.nodes
-  count-is = let a = map-long (λ o. o.runner) os in let b = came-count (world_of view) turns p.runners.items os range here.runners all in omega (arith, a, b)
-
-  pub gatherable : IsGatherable (world_of view) (turns_of turns os) back p.links p.room p.seats p.events
-  gatherable =
-      let count = came-count (world_of view) turns p.runners.items os range here.runners all in
-      let few = entries-fit (world_of view) turns p.runners.items os range here.runners all in
-      let room = here.events in
+module _ (w : World) (turns : ℕ) (p : Prepared Global) (os : List Outcome) (back : List (Runner Global)) (start : IsStart w) (ready : IsPrepared w turns p) (all : AllZip (IsOutcomeOf turns) p.runners.items os) (came : back ≡ runners_in os) where
+  pub gatherable : (did : ℕ → ℕ) → ((v : ℕ) → v < length os → turns_of turns os v ≡ did v) → IsGatherable w did back p.links p.room p.seats p.events
+  gatherable did alike =
+      let few = entries-fit w turns p.runners.items os start.range ready.runners all in
+      let room = ready.events in
       rw came
       (record {
-        start = start-of view range;
-        done = have-done (world_of view) turns p.runners.items os range here.runners all;
-        over = here.links;
-        spares = here.spares;
-        judged = here.room;
-        empty = subst (λ n. AreEmptySeats n p.seats) (sym count) here.seats;
-        nothing = here.nothing;
+        start = start;
+        done = have-done w turns p.runners.items os start.range ready.runners all did alike;
+        over = ready.links;
+        spares = ready.spares;
+        judged = ready.room;
+        empty = subst (λ n. AreEmptySeats n p.seats) (sym (length-map os (λ o. o.runner) ∙ came-count w turns p.runners.items os start.range ready.runners all)) ready.seats;
+        nothing = ready.nothing;
         fits = omega (arith, few, room);
       })
 
-  module _ (events : List Event) (last : World) (run : IsThreadRun (turns_of turns os) (world_of view) events last) where
-    pub whole : have_run os ≡ true → IsThreadRun (λ v. turns) (world_of view) events last
-    whole ran = run-as (turns_of turns os) (λ v. turns) (world_of view) last events (λ v vn. all-turns turns os ran v (let c = count-is in omega (arith, c, vn))) run
-
-    pub part : have_run os ≡ false → IsPartRun turns (world_of view) events last
-    part ran =
-        let idle = some-idle turns os ran in
-        record {
-          did = turns_of turns os;
-          each = each-turns turns os;
-          idle = (idle.0, (let l = idle.1 in let c = count-is in omega (arith, l, c)), idle.2);
-          run = run;
-        }
+  pub part : (events : List Event) (last : World) → IsThreadRun (turns_of turns os) w events last → have_run os ≡ false → IsPartRun turns w events last
+  part events last run ran =
+      let idle = some-idle os ran in
+      let c = came-count w turns p.runners.items os start.range ready.runners all in
+      record { did = turns_of turns os; each = λ v. grind (arith, common_steps); idle = (idle.0, omega (arith, idle.1), rw idle.2); run = run }

@@ -1,14 +1,7 @@
-pub mod OwnEvents
-pub mod Zips
 pub mod Maps
 pub mod Cabling
 pub mod Settling
-pub mod Seating
 pub mod Matching
-pub mod Draining
-pub mod Collecting
-pub mod Gathering
 pub mod Starting
 pub mod Finishing
-mod RowsThreads
-mod RowsEnds
+mod Rows

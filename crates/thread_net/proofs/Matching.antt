@@ -1,22 +1,27 @@
--- The two ends of a link say together what the link did.
-use Rattle.std.proofs.Common.{◌≡◌, ◌⊎◌, inl, inr, ℕ, suc, ◌-◌, ◌<◌, ◌≤◌, List, [], ◌∷◌, ◌++◌, length, drop, filter, nat_le, true, false, ap, refl, sym, subst, ◌∙◌, arith, append_assoc}
+-- What the two ends of a link say together, and what a node did in a woven list.
+use Rattle.std.proofs.Common.{◌≡◌, ℕ, ◌-◌, ◌<◌, List, [], ◌∷◌, ◌++◌, length, drop, filter, nat_le, ap, refl, sym, ◌∙◌, arith, ◌==◌, true, map}
 use Rattle.std.proofs.lemmas.Grind.{common_steps}
-use Rattle.std.proofs.lemmas.List.{map-append}
+use Rattle.std.proofs.lemmas.List.{map-append, map-id}
+use Rattle.std.proofs.lemmas.Simd.{map-map}
 use Rattle.std.proofs.Math.Seq.{drop-append_seam}
 use Rattle.std.specs.List.{AllZip, AllByRecursion}
 use Rattle.rtrb.specs.Ring.{received}
 use Rattle.link_model.specs.declared.item.Item.{Item}
 use Rattle.weaving.specs.declared.journal.Stamped.{Stamped}
-use Rattle.weaving.specs.Matched.{AreAbove, stamps, items, IsLinkMatched}
+use Rattle.weaving.specs.Matched.{AreAbove, stamps, items, IsLinkMatched, AreOf}
 use Rattle.node_runner.specs.declared.ports.Outgoing.{Outgoing}
 use Rattle.node_runner.specs.declared.ports.Incoming.{Incoming}
 use Rattle.node_runner.specs.Stamps.{IsTakeOf, last_place}
-use Rattle.node_runner.specs.Ports.{opening, IsSender, IsReceiver}
+use Rattle.node_runner.specs.Ports.{opening, stamped, IsSender, IsReceiver}
 use Rattle.thread_net.specs.Cables.{IsFlushed, left_on}
+use Rattle.run_model.specs.declared.event.Event.{Event}
+use Rattle.weaving.specs.declared.journal.Entry.{Entry}
+use Rattle.weaving.specs.Account.{Note, entry_of}
+use Rattle.weaving.specs.Woven.{Placed, entries_of, IsWoven}
+use Rattle.node_runner.specs.FirstTurn.{count_of, deeds_of, is_deed_of, is_tick_of}
+use Rattle.node_runner.specs.Due.{events_of}
 
-items-opening : (old : List Item) → items (opening old) ≡ old
-items-opening [] = refl
-items-opening (i ∷ old) = ap (λ zs. i ∷ zs) (items-opening old)
+-- ---- the two ends of a link
 
 taken-items : (takes came : List Stamped) → AllZip IsTakeOf takes came → items takes ≡ items came
 taken-items [] [] all = refl
@@ -48,49 +53,67 @@ Rise (x ∷ xs) = AllByRecursion (λ y. x < y) xs × Rise xs
 
 none-back : (x : ℕ) (xs : List ℕ) → last_place < x → AllByRecursion (λ y. x < y) xs → filter (λ stamp. nat_le stamp last_place) xs ≡ []
 none-back x [] high all = refl
-none-back x (y ∷ ys) high all =
-    let h = all.0 in
-    let later = none-back x ys high all.1 in
-    let test : nat_le y last_place ≡ false = grind (arith, common_steps, h, high) in
-    rw test later
+none-back x (y ∷ ys) high all = let h = all.0 in let later = none-back x ys high all.1 in grind (arith, common_steps)
 
 -- the places that are given back are those of the first takes
-back-first : (xs : List ℕ) → Rise xs → (rest : List ℕ) × (filter (λ stamp. nat_le stamp last_place) xs ++ rest ≡ xs)
-back-first [] rise = ([], refl)
-back-first (x ∷ xs) rise =
-    let cases : (x ≤ last_place) ⊎ (last_place < x) = grind arith in
-    elim cases [
-      | inl low ↦
-          let later = back-first xs rise.1 in
-          let test : nat_le x last_place ≡ true = grind (arith, common_steps, low) in
-          (later.0, rw test (ap (λ zs. x ∷ zs) later.1))
-      | inr high ↦
-          let none = none-back x xs high rise.0 in
-          let test : nat_le x last_place ≡ false = grind (arith, common_steps, high) in
-          (x ∷ xs, rw test (ap (λ zs. zs ++ (x ∷ xs)) none))
-    ]
+above-back : (zs xs : List ℕ) → Rise xs → AreAbove zs (filter (λ stamp. nat_le stamp last_place) xs) → AreAbove zs xs
+above-back [] xs rise above = tt
+above-back (z ∷ zs) [] rise above = elim above [ ]
+above-back (z ∷ zs) (x ∷ xs) rise above = let later = above-back zs xs rise.1 in let none = none-back x xs in grind (arith, common_steps, later, none, rise, above)
 
 module _ {A : Type 0} (capacity : ℕ) (old : List Item) (sends takes : List Stamped) (o : Outgoing A) (i : Incoming A)
     (sender : IsSender capacity old sends o) (receiver : IsReceiver capacity (length old) takes i) (flushed : IsFlushed o i) (rise : Rise (stamps takes)) where
-  went : received i.frames ++ flushed.0.0 ≡ opening old ++ sends
-  went = flushed.0.1 ∙ sender.sent
-
-  left-is : left_on o i ≡ items flushed.0.0
-  left-is = ap items (ap (drop (length (received i.frames))) (sym flushed.0.1) ∙ drop-append_seam (received i.frames) flushed.0.0)
-
   pub link-matched : IsLinkMatched capacity old sends takes (left_on o i)
-  link-matched = record {
-    kept =
-        ap (λ xs. xs ++ items sends) (sym (items-opening old))
-        ∙ (sym (map-append (λ x. x.item) (opening old) sends)
-        ∙ (ap items (sym went)
-        ∙ (map-append (λ x. x.item) (received i.frames) flushed.0.0
-        ∙ (ap (λ xs. xs ++ items flushed.0.0) (sym (taken-items takes (received i.frames) receiver.taken)) ∙ ap (λ xs. items takes ++ xs) (sym left-is)))));
-    taken_later = above-drop old takes sends (subst (λ xs. AreAbove (stamps takes) (stamps xs)) went (above-taken takes (received i.frames) flushed.0.0 receiver.taken));
-    sent_later =
-        let back = back-first (stamps takes) rise in
-        let all : received o.places ++ (flushed.1.0 ++ back.0) ≡ stamps takes =
-        sym (append_assoc (received o.places) flushed.1.0 back.0) ∙ (ap (λ xs. xs ++ back.0) (flushed.1.1 ∙ receiver.returned) ∙ back.1) in
-        subst (λ xs. AreAbove (drop (capacity - length old) (stamps sends)) xs) all
-        (above-longer (drop (capacity - length old) (stamps sends)) (received o.places) (flushed.1.0 ++ back.0) sender.later);
-  }
+  link-matched =
+      let came = received i.frames in
+      let went : came ++ flushed.0.0 ≡ opening old ++ sends = flushed.0.1 ∙ sender.sent in
+      let left : left_on o i ≡ items flushed.0.0 = ap items (ap (drop (length came)) (sym flushed.0.1) ∙ drop-append_seam came flushed.0.0) in
+      record {
+        kept =
+            let before = map-append (λ x. x.item) (opening old) sends in
+            let after = map-append (λ x. x.item) came flushed.0.0 in
+            let both = ap items went in
+            let first : items (opening old) ≡ old = map-map (λ x. x.item) (stamped 0) old ∙ map-id old in
+            let taken = taken-items takes came receiver.taken in
+            cc;
+        taken_later = above-drop old takes sends (rw went at (above-taken takes came flushed.0.0 receiver.taken));
+        sent_later = above-back _ (stamps takes) rise (rw (flushed.1.1 ∙ receiver.returned) at (above-longer (drop (capacity - length old) (stamps sends)) (received o.places) flushed.1.0 sender.later));
+      }
+
+-- ---- a node's own events in a woven list
+
+-- the event of the entry is a deed of u
+abbrev IsOwn : ℕ → Entry → Type 0
+IsOwn u e = is_deed_of u e.event ≡ true
+
+deed-own : (u : ℕ) (d : Note) → IsOwn u (entry_of u d)
+deed-own u d = grind (arith, common_steps)
+
+account-own : (u : ℕ) (ds : List Note) → AllByRecursion (IsOwn u) (map (entry_of u) ds)
+account-own u [] = tt
+account-own u (d ∷ ds) = (deed-own u d, account-own u ds)
+
+after-first : (v : ℕ) (p : Placed) (ps : List Placed) → AllByRecursion (IsOwn v) (entries_of v (p ∷ ps)) → AllByRecursion (IsOwn v) (entries_of v ps)
+after-first v p ps all = grind (arith, common_steps, all)
+
+-- a deed of one node is no other's
+first-own : (v : ℕ) (p : Placed) (ps : List Placed) → AllByRecursion (IsOwn p.node) (entries_of p.node (p ∷ ps)) → is_deed_of v p.entry.event ≡ (p.node == v)
+first-own v p ps all = grind (arith, common_steps, all)
+
+placed-own : (v : ℕ) (ps : List Placed) → ((u : ℕ) → AllByRecursion (IsOwn u) (entries_of u ps)) → deeds_of v (map (λ p. p.entry.event) ps) ≡ map (λ e. e.event) (entries_of v ps)
+placed-own v [] each = refl
+placed-own v (p ∷ ps) each =
+    let later = placed-own v ps (λ u. after-first u p ps (each u)) in
+    let one = first-own v p ps (each p.node) in
+    grind (arith, common_steps, later, one)
+
+pub own-deeds : (account : ℕ → List Note) (journal : ℕ → List Entry) (events : List Event) (v : ℕ) → AreOf account journal → IsWoven journal events
+    → deeds_of v events ≡ events_of v (account v)
+own-deeds account journal events v said woven =
+    let each : (u : ℕ) → AllByRecursion (IsOwn u) (entries_of u woven.placed) = λ u. rw (woven.complete u, said u) (account-own u (account u)) in
+    rw (← woven.are_events) (placed-own v woven.placed each ∙ (ap (map (λ e. e.event)) (woven.complete v ∙ said v) ∙ map-map (λ e. e.event) (entry_of v) (account v)))
+
+-- a node's ticks are among its own events
+pub own-ticks : (v : ℕ) (es : List Event) → count_of (is_tick_of v) es ≡ count_of (is_tick_of v) (deeds_of v es)
+own-ticks v [] = refl
+own-ticks v (e ∷ es) = let later = own-ticks v es in grind (arith, common_steps, later)

@@ -1,196 +1,146 @@
--- One more pair of links is settled.
-use Rattle.std.proofs.Common.{◌≡◌, ◌≢◌, inl, inr, ℕ, ◌+◌, ◌<◌, ◌==◌, ◌&&◌, Bool, true, false, if◌then◌else◌, nat_le, IsTrue, Some, List, [], ◌∷◌, ◌++◌, ap, refl, sym, subst, ◌∙◌, arith, slice_set}
-use Rattle.std.proofs.lemmas.Bool.{cases_eq}
+-- Rings are links again: one pair of links more, and one item more of a ring.
+use Rattle.std.proofs.Common.{◌≡◌, ◌≢◌, ℕ, zero, suc, ◌<◌, ◌==◌, Bool, true, Some, None, List, [], ◌∷◌, length, refl, arith, slice_index_or, ◌+◌, if◌then◌else◌, nat_lt, IsTrue, ◌++◌, ap, ◌∙◌, drop, take, ◌⊎◌, inl, inr, ◌||◌, false}
+use Rattle.std.specs.List.{position, position_or_len, remove}
+use Rattle.std.proofs.lemmas.Bool.{ltb-true, lt-ltb}
 use Rattle.std.proofs.lemmas.Grind.{common_steps}
-use Rattle.std.proofs.Math.Path.{fun_ext}
-use Rattle.topology.specs.Network.{Network, IsAcceptedNetwork, are_joined, neighbours_of}
-use Rattle.topology.specs.Laws.{JoinedAreNodes}
-use Rattle.link_model.specs.declared.item.Item.{Item}
-use Rattle.run_model.specs.World.{at_pair}
+use Rattle.std.proofs.lemmas.List.Quantifiers.{position-Some}
+use Rattle.std.proofs.lemmas.Option.{cond_some}
 use Rattle.node_runner.specs.declared.runner.Port.{Port}
-use Rattle.thread_net.specs.Cables.{IsCable, IsCabledOn, AreCabled, ids_in, row, reach, rows_reach, neighbours_below, port_to, left_on, left_on_ports, left_between, settled, IsFlushed, IsFlushedOn, IsFlushedBetween, IsRoomFor, AreSettleable}
-use Rattle.thread_net.specs.Settling.{is_past, IsSettling, IsSettlingFrom, AreRowsSettled}
-use Rattle.thread_net.proofs.Cabling.{by-node, by-pair, IsOtherPair, IsSameBound, no-both, one-on, reach-u, reach-v, next-u, next-v, next-x, below-same, test-same, all-reach, row-other, pop-id, on-as, ArePushed, find-u, find-v, find-other}
-use Rattle.thread_net.proofs.Draining.{same-pair}
+use Rattle.thread_net.specs.Cables.{port_to, IsRoomFor, IsOtherPair, row, left_between, IsCableBetween, IsFlushedBetween, AreSettleable, AreCabled}
+use Rattle.std.proofs.Math.Path.{fun_ext}
+use Rattle.std.proofs.lemmas.List.{drop_more, length-take, length-drop, get_or-drop, take_more, get_or_default}
+use Rattle.topology.specs.Network.{Network, Edge, IsAcceptedNetwork, are_joined, has_double_edge, is_between, is_same_edge}
+use Rattle.topology.specs.Laws.{JoinedBack}
+use Rattle.topology.specs.Ranges.{ranges_of}
+use Rattle.link_model.specs.declared.item.Item.{Item}
+use Rattle.run_model.specs.World.{at_pair, item_fits}
+use Rattle.std.proofs.lemmas.List.Folds.{list_any_at, list_any_more}
 
-test-left : (i u : ℕ) (b : Bool) → i ≢ u → ((i == u) && b) ≡ false
-test-left i u b apart = grind (arith, common_steps, apart)
+-- ---- the first port that leads to a node
 
-test-right : (b : Bool) (j v : ℕ) → j ≢ v → (b && (j == v)) ≡ false
-test-right b j v apart = grind (arith, common_steps, apart)
+module _ {A : Type 0} (v : ℕ) where
+  abbrev pub leads : Port A → Bool
+  leads p = p.neighbour == v
 
-test-other : (i j u v : ℕ) → IsOtherPair i j u v → ((i == u) && (j == v)) ≡ false
-test-other i j u v other = elim (cases_eq i u) [
-  | inl is ↦ test-right (i == u) j v (other is)
-  | inr apart ↦ test-left i u (j == v) apart
-]
+  pub not-found : (ps : List (Port A)) → position leads ps ≡ None → port_to ps v ≡ None
+  not-found [] none = refl
+  not-found (p ∷ ps) none = let later = not-found ps in grind (arith, common_steps)
 
--- another pair than the one that is written
-pair-else : {X : Type 0} (f : ℕ → ℕ → X) (x : X) (u v i j : ℕ) → IsOtherPair i j u v → at_pair f u v x i j ≡ f i j
-pair-else f x u v i j other = ap (λ b. if b then x else f i j) (test-other i j u v other)
+  found : (ps : List (Port A)) (d : Port A) → position_or_len leads ps < length ps → port_to ps v ≡ Some (slice_index_or ps (position_or_len leads ps) d)
+  found [] d within = absurd (omega arith)
+  found (p ∷ ps) d within = let later = found ps d in grind (arith, common_steps)
 
-both : (a b : Bool) → a ≡ true → b ≡ true → (a && b) ≡ true
-both a b x y = grind (arith, common_steps, x, y)
+  without : (ps : List (Port A)) (k j : ℕ) (d : Port A) → k < length ps → leads (slice_index_or ps k d) ≡ true → j ≢ v → port_to (remove ps k) j ≡ port_to ps j
+  without [] k j d within at apart = absurd (omega arith)
+  without (p ∷ ps) zero j d within at apart = grind (arith, common_steps)
+  without (p ∷ ps) (suc k) j d within at apart = let later = without ps k j d (omega arith) at apart in grind (arith, common_steps)
 
-not-over : (k : ℕ) → nat_le (k + 1) k ≡ false
-not-over k = grind (arith, common_steps)
+  -- it is found at its place, and all others are found without it
+  pub found-at : (ps : List (Port A)) (k : ℕ) (d : Port A) → position leads ps ≡ Some k
+      → (port_to ps v ≡ Some (slice_index_or ps k d)) × ((j : ℕ) → j ≢ v → port_to (remove ps k) j ≡ port_to ps j)
+  found-at ps k d is =
+      let f = cond_some _ _ _ is in
+      let at = position-Some leads ps k d is in
+      (rw (← f.1) (found ps d (ltb-true _ _ f.0)), λ j. without ps k j d at.0 at.1)
 
-reached : (k : ℕ) → nat_le k k ≡ true
-reached k = grind (arith, common_steps)
+-- ---- one item more
 
--- whether the pair of u and v has had its turn
-module _ (n u v : ℕ) (order : u < v) where
-  past-u : is_past (reach n u v) u v ≡ true
-  past-u = ap (λ k. nat_le k v) (reach-u n u v order) ∙ reached v
+put-twice : {X : Type 0} (f : ℕ → ℕ → X) (u v : ℕ) (x y : X) → at_pair (at_pair f u v x) u v y ≡ at_pair f u v y
+put-twice f u v x y = fun_ext (λ i. fun_ext (λ j. grind (arith, common_steps)))
 
-  past-v : is_past (reach n u v) v u ≡ true
-  past-v = ap (λ k. nat_le k u) (reach-v n u v order) ∙ reached u
+-- the next of all items that go there
+module _ (net : Network) (all rest : List Item) (k : ℕ) (i : Item) (next : i ∷ rest ≡ drop k all) where
+  within : k < length all
+  within = let long = ap length next in let left = length-drop k all in omega arith
 
-  open-u : is_past (reach n u (v + 1)) u v ≡ false
-  open-u = ap (λ k. nat_le k v) (next-u n u v order) ∙ not-over v
+  here : slice_index_or all k i ≡ i
+  here = let at = get_or-drop k all 0 i in let first = ap (λ xs. slice_index_or xs 0 i) next in grind (arith, common_steps, at, first)
 
-  open-v : is_past (reach n u (v + 1)) v u ≡ false
-  open-v = ap (λ k. nat_le k u) (next-v n u v order) ∙ not-over u
+  pub rest-is : rest ≡ drop (k + 1) all
+  rest-is = let more = drop_more all k i within in cc
 
-  past-other : (i j : ℕ) → IsOtherPair i j u v → IsOtherPair i j v u → is_past (reach n u (v + 1)) i j ≡ is_past (reach n u v) i j
-  past-other i j = by-node (λ i. IsOtherPair i j u v → IsOtherPair i j v u → is_past (reach n u (v + 1)) i j ≡ is_past (reach n u v) i j) u v
-      (λ one two. ap (λ k. nat_le k j) (next-u n u v order) ∙ (one-on v j (one refl) ∙ ap (λ k. nat_le k j) (sym (reach-u n u v order))))
-      (λ one two. ap (λ k. nat_le k j) (next-v n u v order) ∙ (one-on u j (two refl) ∙ ap (λ k. nat_le k j) (sym (reach-v n u v order))))
-      (λ i no-u no-v one two. ap (λ k. nat_le k j) (next-x n u v order i no-u no-v)) i
+  pub item-fits : IsRoomFor net all → IsTrue (item_fits (ranges_of net) i)
+  item-fits room = rw here at (room.1 k i within)
 
-module _ {A : Type 0} where
-  pub once-popped : (rows mid : List (List (Port A))) (u v : ℕ) → u < v → mid ≡ slice_set rows u (row mid u) → row mid v ≡ row rows v
-  once-popped rows mid u v order mid-is = ap (λ r. row r v) mid-is ∙ row-other rows u v (row mid u) (λ e. omega (arith, e, order))
+  pub drain-step : IsRoomFor net all → (f g now : ℕ → ℕ → List Item) (u v capacity : ℕ) → capacity ≡ net.capacity → g ≡ at_pair f u v (take k all)
+      → now ≡ (if nat_lt (length (g u v)) capacity then at_pair g u v (g u v ++ i ∷ []) else g) → now ≡ at_pair f u v (take (k + 1) all)
+  drain-step room f g now u v capacity same is put =
+      let there : g u v ≡ take k all = rw is (grind (arith, common_steps)) in
+      let few : length (take k all) < capacity = let most = room.0 in let long = length-take k all in let w = within in omega arith in
+      let more : take (k + 1) all ≡ take k all ++ i ∷ [] = take_more all k i within ∙ ap (λ x. take k all ++ x ∷ []) here in
+      rw more (rw (there, lt-ltb (length (take k all)) capacity few, is, put-twice) at put)
 
-  -- the last port of each of two nodes is gone
-  pub popped : (rows mid rest : List (List (Port A))) (u v : ℕ) (p q : Port A) → u < v → mid ≡ slice_set rows u (row mid u) → row rows u ≡ row mid u ++ p ∷ []
-      → rest ≡ slice_set mid v (row rest v) → row mid v ≡ row rest v ++ q ∷ [] → ArePushed rest rows u v p q
-  popped rows mid rest u v p q order mid-is last-u rest-is last-v = record {
-    row_u = last-u ∙ ap (λ ps. ps ++ p ∷ []) (sym (ap (λ r. row r u) rest-is ∙ row-other mid v u (row rest v) (λ e. omega (arith, e, order))));
-    row_v = sym (once-popped rows mid u v order mid-is) ∙ last-v;
-    row_x = λ x no-u no-v. sym (ap (λ r. row r x) rest-is ∙ (row-other mid v x (row rest v) no-v ∙ (ap (λ r. row r x) mid-is ∙ row-other rows u x (row mid u) no-u)));
-  }
+-- ---- one pair of links more
 
-  module _ (net : Network) (old rows rest : List (List (Port A))) (was link : ℕ → ℕ → List Item) (u v : ℕ) (p q : Port A) (order : u < v) (within : v < net.nodes)
-      (joined : are_joined net.edges u v ≡ true) (joined-back : are_joined net.edges v u ≡ true) (pushed : ArePushed rest rows u v p q) (before : IsSettlingFrom net u (v + 1) old rows was link) where
-    ends-u : (ids_in (row rest u) ≡ neighbours_below net u v) × (p.neighbour ≡ v)
-    ends-u = pop-id net u v (row rest u) p joined (ap ids_in (sym pushed.row_u) ∙ (before.ids u (omega (arith, order, within)) ∙ ap (neighbours_below net u) (next-u net.nodes u v order)))
+-- an edge stands once
+first-time : (edges : List Edge) (k : ℕ) (e : Edge) → has_double_edge edges ≡ false → k < length edges → slice_index_or edges k e ≡ e → are_joined (take k edges) e.0 e.1 ≡ false
+first-time [] k e once within at = absurd (omega arith)
+first-time (f ∷ es) zero e once within at = refl
+first-time (f ∷ es) (suc k) e once within at =
+    let here = list_any_at (is_same_edge f) es k e in
+    let later = first-time es k e in
+    grind (arith, common_steps, here, later)
 
-    ends-v : (ids_in (row rest v) ≡ neighbours_below net v u) × (q.neighbour ≡ u)
-    ends-v = pop-id net v u (row rest v) q joined-back (ap ids_in (sym pushed.row_v) ∙ (before.ids v within ∙ ap (neighbours_below net v) (next-v net.nodes u v order)))
+-- The next edge of a network's joins two nodes. Their pair is not past before it, and no other pair
+-- is past with it.
+pub record IsNextEdge (net : Network) (past after : ℕ → ℕ → Bool) (u v : ℕ) : Type 0 where
+  pub apart : u ≢ v
+  pub joined : (are_joined net.edges u v ≡ true) × (are_joined net.edges v u ≡ true)
+  pub first : (past u v ≡ false) × (past v u ≡ false)
+  pub grows : (i j : ℕ) → after i j ≡ (past i j || is_between i j (u, v))
 
-    -- at first, too, the two had these ports to each other
-    old-u : port_to (row old u) v ≡ Some p
-    old-u = sym (before.same u v joined (open-u net.nodes u v order)) ∙ find-u net rest rows u v p q pushed ends-u.0 ends-v.0 ends-u.1 ends-v.1
+pub next-edge : (net : Network) → IsAcceptedNetwork net → JoinedBack → (es : List Edge) → es ≡ net.edges → (k : ℕ) → k < length net.edges
+    → IsNextEdge net (are_joined (take k net.edges)) (are_joined (take (k + 1) net.edges)) (slice_index_or es k (0, 0)).0 (slice_index_or es k (0, 0)).1
+next-edge net accepted law es same k within = rw same (go (slice_index_or net.edges k (0, 0)) refl)
+  where
+    go : (e : Edge) → slice_index_or net.edges k (0, 0) ≡ e → IsNextEdge net (are_joined (take k net.edges)) (are_joined (take (k + 1) net.edges)) e.0 e.1
+    go e at =
+        let joined = list_any_at (is_between e.0 e.1) net.edges k (0, 0) within (rw at (grind (arith, common_steps))) in
+        let first = first-time net.edges k e accepted.limits.no_double within (get_or_default net.edges k e (0, 0) within ∙ at) in
+        record {
+          apart = (rw at at (accepted.limits.edges_in k (0, 0) within)).no_loop;
+          joined = (joined, law net.edges e.1 e.0 ∙ joined);
+          first = (first, law (take k net.edges) e.1 e.0 ∙ first);
+          grows = λ i j. rw at at (list_any_more (is_between i j) net.edges k (0, 0) within);
+        }
 
-    old-v : port_to (row old v) u ≡ Some q
-    old-v = sym (before.same v u joined-back (open-v net.nodes u v order)) ∙ find-v net rest rows u v p q pushed ends-u.0 ends-v.0 ends-u.1 ends-v.1
+-- The links of the pairs that are past have what was left in their rings. The ports of all other
+-- pairs are as they were.
+pub record IsSettling {A : Type 0} (net : Network) (past : ℕ → ℕ → Bool) (old rows : List (List (Port A))) (was link : ℕ → ℕ → List Item) : Type 0 where
+  pub flushed : (i j : ℕ) → past i j ≡ true → IsFlushedBetween old i j
+  pub left : AreSettleable net old → (i j : ℕ) → link i j ≡ (if past i j then left_between old i j else was i j)
+  pub same : (i j : ℕ) → past i j ≡ false → port_to (row rows i) j ≡ port_to (row old i) j
 
-    -- they are the ends of the same links
-    pub popped-cable : IsCable p q
-    popped-cable = on-as IsCabledOn (Some p) (Some q) (port_to (row old u) v) (port_to (row old v) u) (sym old-u) (sym old-v) (before.cabled u v)
+-- one pair more
+module _ {net : Network} {past after : ℕ → ℕ → Bool} {u v : ℕ} (it : IsNextEdge net past after u v) where
+  newly-past : (i j : ℕ) → after i j ≡ true → (past i j ≡ true) ⊎ (((i ≡ u) × (j ≡ v)) ⊎ ((i ≡ v) × (j ≡ u)))
+  newly-past i j is = let all = it.grows i j in grind (arith, common_steps)
 
-    forth : left_between old u v ≡ left_on p.outgoing q.incoming
-    forth = ap (λ o. left_on_ports o (port_to (row old v) u)) old-u ∙ ap (λ o. left_on_ports (Some p) o) old-v
+  still-open : (i j : ℕ) → after i j ≡ false → IsOtherPair i j u v × IsOtherPair i j v u × (past i j ≡ false)
+  still-open i j is = let all = it.grows i j in (grind (arith, common_steps), grind (arith, common_steps), grind (arith, common_steps))
 
-    home : left_between old v u ≡ left_on q.outgoing p.incoming
-    home = ap (λ o. left_on_ports o (port_to (row old u) v)) old-v ∙ ap (λ o. left_on_ports (Some q) o) old-u
+  next-at : {X : Type 0} (left link was : ℕ → ℕ → X) (i j : ℕ) → link i j ≡ (if past i j then left i j else was i j)
+      → at_pair (at_pair link u v (left u v)) v u (left v u) i j ≡ (if after i j then left i j else was i j)
+  next-at left link was i j ago = let all = it.grows i j in let apart = it.apart in grind (arith, common_steps, apart, ago)
 
-    -- what is left between them is what was left at first
-    pub room-forth : AreSettleable net old → IsRoomFor net (left_on p.outgoing q.incoming)
-    room-forth able = subst (IsRoomFor net) forth (able u v joined)
+  module _ {A : Type 0} {old rows : List (List (Port A))} {was link : ℕ → ℕ → List Item} (before : IsSettling net past old rows was link) where
+    pub still-cabled : AreCabled net old → IsCableBetween rows u v
+    still-cabled cabled = rw (before.same u v it.first.0, before.same v u it.first.1) (cabled u v it.joined.0)
 
-    pub room-home : AreSettleable net old → IsRoomFor net (left_on q.outgoing p.incoming)
-    room-home able = subst (IsRoomFor net) home (able v u joined-back)
-
-    module _ (now : ℕ → ℕ → List Item) (is : now ≡ at_pair (at_pair link u v (left_on p.outgoing q.incoming)) v u (left_on q.outgoing p.incoming)) where
-      abbrev once : ℕ → ℕ → List Item
-      once = at_pair link u v (left_on p.outgoing q.incoming)
-
-      abbrev IsDoneAt : ℕ → ℕ → Type 0
-      IsDoneAt i j = now i j ≡ (if are_joined net.edges i j && is_past (reach net.nodes u v) i j then left_between old i j else was i j)
-
-      now-left : ((i j : ℕ) → link i j ≡ (if are_joined net.edges i j && is_past (reach net.nodes u (v + 1)) i j then left_between old i j else was i j)) → (i j : ℕ) → IsDoneAt i j
-      now-left ago = by-pair IsDoneAt u v
-          (ap (λ f. f u v) is
-          ∙ (pair-else once (left_on q.outgoing p.incoming) v u u v (λ a b. omega (arith, a, order))
-          ∙ (same-pair link u v (left_on p.outgoing q.incoming)
-          ∙ (sym forth ∙ sym (ap (λ b. if b then left_between old u v else was u v) (both (are_joined net.edges u v) (is_past (reach net.nodes u v) u v) joined (past-u net.nodes u v order)))))))
-          (ap (λ f. f v u) is
-          ∙ (same-pair once v u (left_on q.outgoing p.incoming)
-          ∙ (sym home ∙ sym (ap (λ b. if b then left_between old v u else was v u) (both (are_joined net.edges v u) (is_past (reach net.nodes u v) v u) joined-back (past-v net.nodes u v order))))))
-          (λ i j one two.
-          ap (λ f. f i j) is
-          ∙ (pair-else once (left_on q.outgoing p.incoming) v u i j two
-          ∙ (pair-else link (left_on p.outgoing q.incoming) u v i j one
-          ∙ (ago i j ∙ ap (λ b. if are_joined net.edges i j && b then left_between old i j else was i j) (past-other net.nodes u v order i j one two)))))
-
-    pub settled-step : (now : ℕ → ℕ → List Item) → IsFlushed p.outgoing q.incoming → IsFlushed q.outgoing p.incoming
-        → (AreSettleable net old → now ≡ at_pair (at_pair link u v (left_on p.outgoing q.incoming)) v u (left_on q.outgoing p.incoming)) → IsSettlingFrom net u v old rest was now
-    settled-step now flushed-forth flushed-home is = record {
-      ids = by-node (λ x. x < net.nodes → ids_in (row rest x) ≡ neighbours_below net x (reach net.nodes u v x)) u v
-          (λ xn. ends-u.0 ∙ ap (neighbours_below net u) (sym (reach-u net.nodes u v order)))
-          (λ xn. ends-v.0 ∙ ap (neighbours_below net v) (sym (reach-v net.nodes u v order)))
-          (λ x no-u no-v xn. ap ids_in (sym (pushed.row_x x no-u no-v)) ∙ (before.ids x xn ∙ ap (neighbours_below net x) (next-x net.nodes u v order x no-u no-v)));
-      cabled = before.cabled;
-      flushed = by-pair (λ i j. IsTrue (are_joined net.edges i j) → is_past (reach net.nodes u v) i j ≡ true → IsFlushedBetween old i j) u v
-          (λ joint past. on-as IsFlushedOn (port_to (row old u) v) (port_to (row old v) u) (Some p) (Some q) old-u old-v flushed-forth)
-          (λ joint past. on-as IsFlushedOn (port_to (row old v) u) (port_to (row old u) v) (Some q) (Some p) old-v old-u flushed-home)
-          (λ i j one two joint past. before.flushed i j joint (past-other net.nodes u v order i j one two ∙ past));
-      left = λ able. now-left now (is able) (before.left able);
-      same = by-pair (λ i j. IsTrue (are_joined net.edges i j) → is_past (reach net.nodes u v) i j ≡ false → port_to (row rest i) j ≡ port_to (row old i) j) u v
-          (λ joint ahead. absurd (no-both (is_past (reach net.nodes u v) u v) (past-u net.nodes u v order) ahead))
-          (λ joint ahead. absurd (no-both (is_past (reach net.nodes u v) v u) (past-v net.nodes u v order) ahead))
-          (λ i j one two joint ahead.
-          sym (find-other net rest rows u v p q pushed ends-u.0 ends-v.0 ends-u.1 ends-v.1 i j one two) ∙ before.same i j joint (past-other net.nodes u v order i j one two ∙ ahead));
-    }
-
-either : (a b c : Bool) → (a ≡ true → b ≡ c) → (a && b) ≡ (a && c)
-either true b c same = same refl
-either false b c same = refl
-
-and-true : (a b : Bool) → b ≡ true → (a && b) ≡ a
-and-true a b is = grind (arith, common_steps, is)
-
-and-false : (a b : Bool) → (a ≡ true → b ≡ false) → (a && b) ≡ false
-and-false true b is = is refl
-and-false false b is = refl
-
-all-past : (n i j : ℕ) → is_past (rows_reach n 0) i j ≡ true
-all-past n i j = grind (arith, common_steps)
-
-none-past : (n j : ℕ) → j < n → nat_le n j ≡ false
-none-past n j jn = grind (arith, common_steps, jn)
-
-module _ (net : Network) (accepted : IsAcceptedNetwork net) (nodes : JoinedAreNodes) {A : Type 0} (old rows : List (List (Port A))) (was link : ℕ → ℕ → List Item) where
-  -- the same pairs have had their turn below bounds that are the same
-  pub settling-as : (f g : ℕ → ℕ) → ((x : ℕ) → x < net.nodes → IsSameBound net x (f x) (g x)) → IsSettling net f old rows was link → IsSettling net g old rows was link
-  settling-as f g same before =
-      let test : (i j : ℕ) → are_joined net.edges i j ≡ true → is_past f i j ≡ is_past g i j = λ i j joint. test-same net i (f i) (g i) j (same i (nodes net i j accepted joint).0) joint in
-      record {
-        ids = λ x xn. before.ids x xn ∙ below-same net x (f x) (g x) (same x xn);
-        cabled = before.cabled;
-        flushed = λ i j joint past. before.flushed i j joint (test i j joint ∙ past);
-        left = λ able i j. before.left able i j ∙ ap (λ b. if b then left_between old i j else was i j) (either (are_joined net.edges i j) (is_past f i j) (is_past g i j) (test i j));
-        same = λ i j joint ahead. before.same i j joint (test i j joint ∙ ahead);
-      }
-
-  pub rows-flushed : AreRowsSettled net 0 old rows was link → (i j : ℕ) → IsTrue (are_joined net.edges i j) → IsFlushedBetween old i j
-  rows-flushed last i j joint = last.flushed i j joint (all-past net.nodes i j)
-
-  pub rows-done : AreRowsSettled net 0 old rows was link → AreSettleable net old → link ≡ settled net old was
-  rows-done last able = fun_ext (λ i. fun_ext (λ j. last.left able i j ∙ ap (λ b. if b then left_between old i j else was i j) (and-true (are_joined net.edges i j) (is_past (rows_reach net.nodes 0) i j) (all-past net.nodes i j))))
-
--- at first no pair has had its turn
-pub rows-begin : {A : Type 0} (net : Network) (accepted : IsAcceptedNetwork net) (nodes : JoinedAreNodes) (old : List (List (Port A))) (was : ℕ → ℕ → List Item)
-    → ((x : ℕ) → x < net.nodes → ids_in (row old x) ≡ neighbours_of net x) → AreCabled old → AreRowsSettled net net.nodes old old was was
-rows-begin net accepted nodes old was ids cabled =
-    let none : (i j : ℕ) → are_joined net.edges i j ≡ true → is_past (rows_reach net.nodes net.nodes) i j ≡ false =
-    λ i j joint. let both = nodes net i j accepted joint in ap (λ k. nat_le k j) (all-reach net.nodes i both.0) ∙ none-past net.nodes j both.1 in
-    record {
-      ids = λ x xn. ids x xn ∙ ap (neighbours_below net x) (sym (all-reach net.nodes x xn));
-      cabled = cabled;
-      flushed = λ i j joint past. absurd (no-both (is_past (rows_reach net.nodes net.nodes) i j) past (none i j joint));
-      left = λ able i j. sym (ap (λ b. if b then left_between old i j else was i j) (and-false (are_joined net.edges i j) (is_past (rows_reach net.nodes net.nodes) i j) (none i j)));
-      same = λ i j joint ahead. refl;
-    }
+    pub settling-more : (now : List (List (Port A))) (next : ℕ → ℕ → List Item) → IsFlushedBetween rows u v → IsFlushedBetween rows v u
+        → (IsRoomFor net (left_between rows u v) → IsRoomFor net (left_between rows v u) → next ≡ at_pair (at_pair link u v (left_between rows u v)) v u (left_between rows v u))
+        → ((i j : ℕ) → IsOtherPair i j u v → IsOtherPair i j v u → port_to (row now i) j ≡ port_to (row rows i) j) → IsSettling net after old now was next
+    settling-more now next there here left others =
+        let at-u = before.same u v it.first.0 in
+        let at-v = before.same v u it.first.1 in
+        record {
+          flushed = λ i j is. elim (newly-past i j is) [
+            | inl ago ↦ before.flushed i j ago
+            | inr (inl (is-u, is-v)) ↦ rw (is-u, is-v) (rw (at-u, at-v) at there)
+            | inr (inr (is-v, is-u)) ↦ rw (is-v, is-u) (rw (at-v, at-u) at here)
+          ];
+          left = λ able i j.
+              let next-is = rw (at-u, at-v) at left (able u v it.joined.0) (able v u it.joined.1) in
+              rw next-is (next-at (left_between old) link was i j (before.left able i j));
+          same = λ i j is. let away = still-open i j is in others i j away.0 away.1 ∙ before.same i j away.2;
+        }

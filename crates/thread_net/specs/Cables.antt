@@ -1,7 +1,6 @@
 -- The rings that join nodes: how their ends belong together, and which ports a node has.
-use Rattle.std.specs.Prelude.{◌≡◌, ℕ, ◌+◌, ◌<◌, ◌≤◌, ◌==◌, if◌then◌else◌, nat_lt, IsTrue, Option, Some, None}
-use Rattle.std.specs.Prelude.{List, [], ◌∷◌, ◌++◌, All, map, filter, drop, length, slice_index_or}
-use Rattle.std.specs.List.{range_with_len}
+use Rattle.std.specs.Prelude.{◌≡◌, ℕ, ◌<◌, ◌≤◌, ◌==◌, ◌&&◌, false, if◌then◌else◌, IsTrue, Option, Some, None}
+use Rattle.std.specs.Prelude.{List, [], ◌∷◌, ◌++◌, All, map, drop, length, slice_index_or}
 use Rattle.rtrb.specs.Ring.{sent, received, IsPair}
 use Rattle.topology.specs.Network.{Network, are_joined, neighbours_of}
 use Rattle.topology.specs.Ranges.{ranges_of}
@@ -61,41 +60,45 @@ abbrev pub port_to : {A : Type 0} → List (Port A) → ℕ → Option (Port A)
 port_to [] v = None
 port_to (p ∷ ps) v = if p.neighbour == v then Some p else port_to ps v
 
--- they are the ends of the same links, if both are there
-abbrev pub IsCabledOn : {A : Type 0} → Option (Port A) → Option (Port A) → Type 0
-IsCabledOn (Some p) (Some q) = IsCable p q
-IsCabledOn (Some p) None = Unit {0}
-IsCabledOn None q = Unit {0}
+-- both ports are there, and are the ends of the same links
+abbrev pub IsCableOn : {A : Type 0} → Option (Port A) → Option (Port A) → Type 0
+IsCableOn (Some p) (Some q) = IsCable p q
+IsCableOn (Some p) None = ⊥
+IsCableOn None q = ⊥
 
--- if two nodes have ports to each other, these are the ends of the same links
-abbrev pub AreCabled : {A : Type 0} → List (List (Port A)) → Type 0
-AreCabled rows = (u v : ℕ) → IsCabledOn (port_to (row rows u) v) (port_to (row rows v) u)
+-- u and v have ports to each other, the ends of the same links
+abbrev pub IsCableBetween : {A : Type 0} → List (List (Port A)) → ℕ → ℕ → Type 0
+IsCableBetween rows u v = IsCableOn (port_to (row rows u) v) (port_to (row rows v) u)
 
--- the neighbours of x below a bound, ascending
-abbrev pub neighbours_below : Network → ℕ → ℕ → List ℕ
-neighbours_below net x bound = filter (are_joined net.edges x) (range_with_len 0 bound)
+-- this holds of each two nodes that are joined
+abbrev pub AreCabled : {A : Type 0} → Network → List (List (Port A)) → Type 0
+AreCabled net rows = (u v : ℕ) → IsTrue (are_joined net.edges u v) → IsCableBetween rows u v
 
--- Pairs of nodes are gone through by their smaller node, and then by the other. If the pair of u and
--- v comes next, x has had its pairs with the nodes below this bound.
-abbrev pub reach : ℕ → ℕ → ℕ → ℕ → ℕ
-reach n u v x = if nat_lt x u then n else if x == u then v else if nat_lt x v then u + 1 else u
+-- the pair of i and j, in this order, is not that of u and v
+abbrev pub IsOtherPair : ℕ → ℕ → ℕ → ℕ → Type 0
+IsOtherPair i j u v = (i == u && j == v) ≡ false
 
--- the same if the pairs of which u is the smaller node come next
-abbrev pub rows_reach : ℕ → ℕ → ℕ → ℕ
-rows_reach n u x = if nat_lt x u then n else u
+-- one thing at each of two nodes, and none at any other
+abbrev pub ends_at : {X : Type 0} → ℕ → X → ℕ → X → ℕ → List X
+ends_at u near v far x = if x == u then near ∷ [] else (if x == v then far ∷ [] else [])
 
--- Each node has a port to each of its neighbours below its bound, ascending, as a run from this
--- world begins, and ports that lead to each other are the ends of the same links.
-pub record AreLaid {A : Type 0} (w : World) (bound : ℕ → ℕ) (rows : List (List (Port A))) : Type 0 where
-  pub ids : (x : ℕ) → x < w.net.nodes → ids_in (row rows x) ≡ neighbours_below w.net x (bound x)
-  pub said : (x : ℕ) → x < w.net.nodes → All (IsPortNoted w x []) (row rows x)
-  pub cabled : AreCabled rows
+-- One cable more joins u and v: its ends are the last ports of the two, as a run from a world over
+-- these links begins with them, and lead to each other.
+pub record IsCabledOnce {A : Type 0} (l : LinksView) (u v : ℕ) (rows more : List (List (Port A))) : Type 0 where
+  pub near : Port A
+  pub far : Port A
+  pub to_far : near.neighbour ≡ v
+  pub to_near : far.neighbour ≡ u
+  pub said : (w : World) → IsOver w l → IsPortNoted w u [] near × IsPortNoted w v [] far
+  pub cable : IsCable near far
+  pub grown : (x : ℕ) → row more x ≡ row rows x ++ ends_at u near v far x
 
--- the same with a port to each neighbour
+-- Each node has a port to each of its neighbours, ascending, as a run from this world begins, and
+-- the ports of neighbours to each other are the ends of the same links.
 pub record AreFurnished {A : Type 0} (w : World) (rows : List (List (Port A))) : Type 0 where
   pub ids : (x : ℕ) → x < w.net.nodes → ids_in (row rows x) ≡ neighbours_of w.net x
   pub said : (x : ℕ) → x < w.net.nodes → All (IsPortNoted w x []) (row rows x)
-  pub cabled : AreCabled rows
+  pub cabled : AreCabled w.net rows
 
 -- what was sent at the one end and not yet taken at the other
 abbrev pub left_on : {A : Type 0} → Outgoing A → Incoming A → List Item

@@ -1,5 +1,5 @@
 -- Runners that are done.
-use Rattle.std.specs.Prelude.{◌≡◌, ℕ, ◌<◌, ◌≤◌, List, [], Some, length, slice_get, vec_capacity}
+use Rattle.std.specs.Prelude.{◌≡◌, ℕ, ◌<◌, ◌≤◌, List, [], length, slice_index_or, vec_capacity}
 use Rattle.std.specs.declared.vec.Vec.{Vec}
 use Rattle.topology.specs.Network.{neighbours_of}
 use Rattle.topology.specs.Ranges.{ranges_of}
@@ -16,7 +16,7 @@ use Rattle.node_runner.specs.Runner.{IsNoted}
 use Rattle.node_runner.specs.Rounds.{AreRounds}
 use Rattle.node_runner.specs.FirstTurn.{IsFirstTurn}
 use Rattle.node_runner.specs.Due.{events_of}
-use Rattle.thread_net.specs.Cables.{AreCabled, IsOver, ids_in, row, rows_of}
+use Rattle.thread_net.specs.Cables.{AreCabled, IsOver, rows_of}
 use Rattle.thread_net.specs.Seats.{entries_of_all}
 use Rattle.thread_net.specs.Tables.{AreEmptySeats}
 use Rattle.thread_net.specs.ThreadRun.{IsThreadRun}
@@ -31,9 +31,8 @@ pub record HasDone {A : Type 0} (w : World) (v turns : ℕ) (r : Runner A) : Typ
 -- each node did its rounds, and the rings belong together
 pub record HaveDone {A : Type 0} (w : World) (turns : ℕ → ℕ) (runners : List (Runner A)) : Type 0 where
   pub count : length runners ≡ w.net.nodes
-  pub each : (v : ℕ) (r : Runner A) → slice_get runners v ≡ Some r → HasDone w v (turns v) r
-  pub ids : (x : ℕ) → x < w.net.nodes → ids_in (row (rows_of runners) x) ≡ neighbours_of w.net x
-  pub cabled : AreCabled (rows_of runners)
+  pub each : (v : ℕ) (d : Runner A) → v < w.net.nodes → HasDone w v (turns v) (slice_index_or runners v d)
+  pub cabled : AreCabled w.net (rows_of runners)
 
 -- a world in range, of whose nodes there are as many as its network says
 pub record IsStart (w : World) : Type 0 where

@@ -1,6 +1,5 @@
 pub mod Cables
 pub mod Seats
-pub mod Settling
 pub mod ThreadRun
 pub mod Done
 pub mod Tables

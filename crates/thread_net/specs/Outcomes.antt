@@ -1,5 +1,5 @@
 -- What starting a runner gives, and what comes back.
-use Rattle.std.specs.Prelude.{◌≡◌, ℕ, zero, suc, Bool, true, ◌&&◌, if◌then◌else◌, List, [], ◌∷◌, map}
+use Rattle.std.specs.Prelude.{◌≡◌, ℕ, Bool, true, false, ◌&&◌, if◌then◌else◌, List, [], ◌∷◌, map, slice_index_or}
 use Rattle.std.specs.declared.alloc.Global.{Global}
 use Rattle.node_runner.specs.declared.runner.Runner.{Runner}
 use Rattle.thread_net.specs.declared.threads.Outcome.{Outcome}
@@ -25,8 +25,10 @@ abbrev pub have_run : List Outcome → Bool
 have_run [] = true
 have_run (o ∷ os) = o.ran && have_run os
 
+-- whether v ran
+abbrev pub has_run : List Outcome → ℕ → Bool
+has_run outcomes v = slice_index_or (map (λ o. o.ran) outcomes) v false
+
 -- for how many turns v ran
 abbrev pub turns_of : ℕ → List Outcome → ℕ → ℕ
-turns_of turns [] v = 0
-turns_of turns (o ∷ os) zero = if o.ran then turns else 0
-turns_of turns (o ∷ os) (suc v) = turns_of turns os v
+turns_of turns outcomes v = if has_run outcomes v then turns else 0

@@ -53,4 +53,4 @@ pub record IsAtStart {A : Type 0} (w : World) (turns v : ℕ) (r : Runner A) : T
 pub record AreAtStart {A : Type 0} (w : World) (turns : ℕ) (runners : List (Runner A)) : Type 0 where
   pub count : length runners ≡ w.net.nodes
   pub each : (v : ℕ) (d : Runner A) → v < w.net.nodes → IsAtStart w turns v (slice_index_or runners v d)
-  pub cabled : AreCabled (rows_of runners)
+  pub cabled : AreCabled w.net (rows_of runners)

@@ -1,14 +1,14 @@
 //! The rings that join nodes: each link becomes two of them, with what was under way on it.
 ghost use Rattle.std.specs.Prelude.{◌≡◌, ◌+◌, ◌<◌, ◌≤◌, ℕ, List, [], ◌∷◌, ◌++◌, IsTrue, IfOk, OnOk};
-ghost use Rattle.std.specs.Prelude.{length, slice_index_or, slice_set};
+ghost use Rattle.std.specs.Prelude.{◌==◌, if◌then◌else◌, length};
 ghost use Rattle.topology.specs.Network.{are_joined};
 ghost use Rattle.run_model.specs.World.{World};
 ghost use Rattle.configuration.specs.LinksView.{LinksView, under_way};
 ghost use Rattle.rtrb.specs.Ring.{sent, known_free, SameProducer};
 ghost use Rattle.node_runner.specs.Ports.{opening, IsSender, IsReceiver};
 ghost use Rattle.node_runner.specs.Runner.{IsPortNoted};
-ghost use Rattle.thread_net.specs.Cables.{AreEnds, IsCable, AreLaid, AreFurnished, rows_of, row};
-ghost use Rattle.thread_net.specs.Cables.{reach, seats_of, AreWithin, IsOver};
+ghost use Rattle.thread_net.specs.Cables.{AreEnds, IsCable, IsCabledOnce, AreFurnished};
+ghost use Rattle.thread_net.specs.Cables.{rows_of, row, seats_of, AreWithin, IsOver};
 
 use configuration::Links;
 use node_runner::{Incoming, Outgoing, Port, Runner, StampBound};
@@ -104,14 +104,15 @@ fn cable<A: Allocator + Copy>(
 }
 
 /// One more port of a node.
+#[tactic(auto, using(crate::proofs::Maps::map_set_same))]
 fn plug<A: Allocator>(
     runners: &mut Vec<Runner<A>, A>,
     node: u16,
     port: Port<A>,
 ) -> Result<(), AllocError>
     requires { node < length runners.old.items }
-    ensures rows { OnOk result (rows_of runners.new.items ≡ slice_set (rows_of runners.old.items)
-        node (row (rows_of runners.old.items) node ++ port ∷ [])) }
+    ensures rows { OnOk result ((x : ℕ) → row (rows_of runners.new.items) x
+        ≡ row (rows_of runners.old.items) x ++ (if x == node then port ∷ [] else [])) }
     ensures seats { seats_of runners.new.items ≡ seats_of runners.old.items }
     ensures all { length runners.new.items ≡ length runners.old.items }
 {
@@ -132,42 +133,14 @@ fn join<A: Allocator + Copy>(
     requires joined { IsTrue (are_joined links.now.net.edges one other) }
     requires all { length runners.old.items ≡ links.now.net.nodes }
     requires within { AreWithin links.now }
-    ensures laid { OnOk result ((w : World) → IsOver w links.now
-        → AreLaid w (reach w.net.nodes one other) (rows_of runners.old.items)
-        → AreLaid w (reach w.net.nodes one (other + 1)) (rows_of runners.new.items)) }
+    ensures cabled { OnOk result (IsCabledOnce links.now one other
+        (rows_of runners.old.items) (rows_of runners.new.items)) }
     ensures seats { seats_of runners.new.items ≡ seats_of runners.old.items }
     ensures all { length runners.new.items ≡ length runners.old.items }
 {
-    topology::laws::joined();
     let (near, far) = cable(alloc, links, one, other)?;
     plug(runners, one, near)?;
     plug(runners, other, far)?;
-    Ok(())
-}
-
-/// The ports that join a node to its neighbours of greater id.
-fn cable_row<A: Allocator + Copy>(
-    alloc: A,
-    links: &Links<A>,
-    runners: &mut Vec<Runner<A>, A>,
-    one: u16,
-) -> Result<(), AllocError>
-    requires one_in { one < links.now.net.nodes }
-    requires all { length runners.old.items ≡ links.now.net.nodes }
-    requires within { AreWithin links.now }
-    ensures laid { OnOk result ((w : World) → IsOver w links.now
-        → AreLaid w (reach w.net.nodes one (one + 1)) (rows_of runners.old.items)
-        → AreLaid w (reach w.net.nodes one w.net.nodes) (rows_of runners.new.items)) }
-    ensures seats { seats_of runners.new.items ≡ seats_of runners.old.items }
-    ensures all { length runners.new.items ≡ length runners.old.items }
-{
-    topology::laws::joined();
-    let nodes = links.net().nodes();
-    for other in one + 1..nodes {
-        if links.are_joined(one, other) {
-            join(alloc, links, runners, one, other)?;
-        }
-    }
     Ok(())
 }
 
@@ -185,9 +158,14 @@ pub(crate) fn cable_all<A: Allocator + Copy>(
     ensures seats { seats_of runners.new.items ≡ seats_of runners.old.items }
 {
     topology::laws::joined();
+    topology::laws::neighbours();
     let nodes = links.net().nodes();
     for one in 0..nodes {
-        cable_row(alloc, links, runners, one)?;
+        for other in one + 1..nodes {
+            if links.are_joined(one, other) {
+                join(alloc, links, runners, one, other)?;
+            }
+        }
     }
     Ok(())
 }

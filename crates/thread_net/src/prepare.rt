@@ -12,7 +12,7 @@ ghost use Rattle.thread_net.specs.Tables.{AreEmptySeats};
 ghost use Rattle.thread_net.specs.Prepared.{IsPrepared};
 
 use crate::cables::cable_all;
-use crate::seats::{Seats, new_seats, reserve_journals, seat_all, total_room, unseat_all};
+use crate::seats::{Seats, new_seats, reserve_journals, seat_all, unseat_all};
 use configuration::Links;
 use judge::{Parts, Stretch};
 use node_runner::Runner;
@@ -33,6 +33,7 @@ pub struct Prepared<A: Allocator + Copy> {
 }
 
 /// Journals, rings and the list of events, for runners that are new.
+#[tactic(auto, using(crate::proofs::Starting::nodes_from))]
 fn furnish<A: Allocator + Copy>(
     alloc: A,
     turns: u32,
@@ -53,9 +54,9 @@ fn furnish<A: Allocator + Copy>(
     ensures events { IfOk result (λ events. (events.items ≡ [])
         × (total_room turns (nodes_of runners.new.items) ≤ vec_capacity events)) }
 {
-    reserve_journals(alloc, turns, runners)?;
+    let total = reserve_journals(alloc, turns, runners)?;
     cable_all(alloc, links, runners)?;
-    let events = Vec::with_capacity(alloc, total_room(turns, runners))?;
+    let events = Vec::with_capacity(alloc, total)?;
     Ok(events)
 }
 

@@ -1,15 +1,17 @@
 //! A world's nodes run on threads, and what they did is a run.
 ghost use Rattle.std.specs.Prelude.{◌≡◌, ◌≤◌, [], IfOk, IfErr, vec_len, vec_capacity};
+ghost use Rattle.run_model.specs.World.{IsWorldInRange};
 ghost use Rattle.configuration.specs.ConfigurationView.{world_of};
 ghost use Rattle.thread_net.specs.Outcomes.{runners_in, have_run};
 ghost use Rattle.thread_net.specs.Done.{CanGather, Gathers};
 ghost use Rattle.thread_net.specs.ThreadRun.{IsThreadRun};
+ghost use Rattle.thread_net.specs.Prepared.{IsPrepared};
 ghost use Rattle.thread_net.specs.Fault.{IsFault};
 
 use crate::prepare::{Prepared, prepare};
 use crate::seats::{Seats, unseat_all};
 use crate::settle::settle_all;
-use crate::threads::{Outcome, Started, run_all};
+use crate::threads::{Outcome, run_all};
 use configuration::Links;
 use judge::{Parts, Stretch, World};
 use node_runner::{Gate, Runner};
@@ -39,14 +41,14 @@ pub enum RunFault {
     Spawn(Woven),
 }
 
-/// The tables of those who are started, and of those who came back.
-fn new_tables(alloc: Global, count: usize) -> Result<(Vec<Started>, Vec<Outcome>), AllocError>
-    ensures started { IfOk result (λ r. (r.0.items ≡ []) × (count ≤ vec_capacity r.0)) }
-    ensures done { IfOk result (λ r. (r.1.items ≡ []) × (count ≤ vec_capacity r.1)) }
+/// The tables of what comes of each thread, and of the runners that came back.
+fn new_tables(alloc: Global, count: usize) -> Result<(Vec<Outcome>, Vec<Runner>), AllocError>
+    ensures done { IfOk result (λ r. (r.0.items ≡ []) × (count ≤ vec_capacity r.0)) }
+    ensures back { IfOk result (λ r. (r.1.items ≡ []) × (count ≤ vec_capacity r.1)) }
 {
-    let started = Vec::with_capacity(alloc, count)?;
     let done = Vec::with_capacity(alloc, count)?;
-    Ok((started, done))
+    let back = Vec::with_capacity(alloc, count)?;
+    Ok((done, back))
 }
 
 /// Whether all ran; their runners go to a table.
@@ -76,7 +78,6 @@ fn gather<A: Allocator + Copy>(
     ensures { Gathers runners.items links room seats events result.events.items
         (world_of result.world) }
 {
-    topology::laws::joined();
     weaving::laws::weave();
     node_runner::laws::rounds();
     run_model::laws::in_range();
@@ -104,7 +105,9 @@ pub fn prepare_world<A: Allocator + Copy>(
     world: World<A>,
     turns: u32,
 ) -> Result<Prepared<A>, World<A>>
-    ensures unchanged { IfErr result (λ back. world_of back ≡ world_of world) }
+    ensures range { IsWorldInRange (world_of world) }
+    ensures ready { IfOk result (IsPrepared (world_of world) turns) }
+    ensures unchanged { IfErr result (λ back. back ≡ world) }
 {
     world.assure_ranges();
     match prepare(alloc, world.into_parts(), turns) {
@@ -136,15 +139,11 @@ pub fn run_threads<R: Threads + Wait + Sync, G: Gate>(
     ensures err { IfErr result (IsFault turns world) }
 {
     let count = usize::from(world.net().nodes());
-    let Ok((started, done)) = new_tables(alloc, count) else {
+    let Ok((done, mut back)) = new_tables(alloc, count) else {
         return Err(RunFault::Memory(world));
     };
-    let Ok(mut back) = Vec::with_capacity(alloc, count) else {
-        return Err(RunFault::Memory(world));
-    };
-    world.assure_ranges();
-    match prepare(alloc, world.into_parts(), turns) {
-        Err(parts) => Err(RunFault::Memory(World::from_parts(parts))),
+    match prepare_world(alloc, world, turns) {
+        Err(back) => Err(RunFault::Memory(back)),
         Ok(prepared) => {
             let Prepared {
                 runners,
@@ -153,7 +152,7 @@ pub fn run_threads<R: Threads + Wait + Sync, G: Gate>(
                 seats,
                 events,
             } = prepared;
-            let outcomes = run_all(rt, gate, runners, turns, started, done);
+            let outcomes = run_all(rt, gate, runners, turns, done);
             let all_ran = collect(outcomes, &mut back);
             let woven = gather(back, links, room, seats, events);
             if all_ran {

@@ -53,6 +53,7 @@ pub(crate) fn seat_all<A: Allocator + Copy>(
     ensures nodes { nodes_of runners.new.items ≡ nodes.items }
     ensures new { All IsNew (seats_of runners.new.items) }
     ensures rows { (x : ℕ) → row (rows_of runners.new.items) x ≡ [] }
+    ensures all { length runners.new.items ≡ vec_len nodes }
 {
     for node in nodes {
         let id = node.id();
@@ -68,38 +69,31 @@ pub(crate) fn seat_all<A: Allocator + Copy>(
     }
 }
 
-/// Reserves the journal of each runner.
+/// Reserves the journal of each runner. Returns how many entries there may be in all of them.
 pub(crate) fn reserve_journals<A: Allocator + Copy>(
     alloc: A,
     turns: u32,
     runners: &mut Vec<Runner<A>, A>,
-) -> Result<(), AllocError>
+) -> Result<usize, AllocError>
+    requires few { length runners.old.items ≤ 64 }
     requires short { AreShort (nodes_of runners.old.items) }
     requires new { All IsNew (seats_of runners.old.items) }
     ensures nodes { nodes_of runners.new.items ≡ nodes_of runners.old.items }
     ensures rows { rows_of runners.new.items ≡ rows_of runners.old.items }
     ensures new { All IsNew (seats_of runners.new.items) }
+    ensures all { length runners.new.items ≡ length runners.old.items }
     ensures room { OnOk result (All (HasRoom turns) (seats_of runners.new.items)) }
+    ensures total { IfOk result (λ total.
+        total ≡ total_room turns (nodes_of runners.old.items)) }
 {
+    let mut total = 0;
     for place in 0..runners.len() {
         let room = entry_room(turns, runners[place].node.neighbours().len());
         let entries = Vec::with_capacity(alloc, room)?;
         runners[place].journal = Journal { entries };
+        total += room;
     }
-    Ok(())
-}
-
-/// How many entries there may be in the journals of all.
-pub(crate) fn total_room<A: Allocator>(turns: u32, runners: &Vec<Runner<A>, A>) -> usize
-    requires few { length runners.now.items ≤ 64 }
-    requires short { AreShort (nodes_of runners.now.items) }
-    ensures { result ≡ total_room turns (nodes_of runners.now.items) }
-{
-    let mut total = 0;
-    for place in 0..runners.len() {
-        total += entry_room(turns, runners[place].node.neighbours().len());
-    }
-    total
+    Ok(total)
 }
 
 /// The runners' parts go to the tables.
@@ -108,6 +102,8 @@ pub(crate) fn unseat_all<A: Allocator>(runners: Vec<Runner<A>, A>, seats: &mut S
     ensures nodes { seats.new.nodes.items ≡ nodes_of runners.items }
     ensures journals { entries_in seats.new.journals.items ≡ entries_of_all runners.items }
     ensures rows { rows_in seats.new.rows.items ≡ rows_of runners.items }
+    ensures all_journals { length seats.new.journals.items ≡ length runners.items }
+    ensures all_rows { length seats.new.rows.items ≡ length runners.items }
 {
     for runner in runners {
         let Runner {

@@ -1,15 +1,13 @@
 //! Rings are links again, with what is left in them.
-ghost use Rattle.std.specs.Prelude.{◌≡◌, ◌+◌, ◌<◌, ◌≤◌, ℕ, List, [], ◌∷◌, ◌++◌, IsTrue, All};
-ghost use Rattle.std.specs.Prelude.{length, slice_index_or, slice_set};
-ghost use Rattle.topology.specs.Network.{are_joined, neighbours_of};
+ghost use Rattle.std.specs.Prelude.{◌≡◌, ◌≢◌, ◌<◌, ◌==◌, ℕ, IsTrue, length};
+ghost use Rattle.std.specs.List.{position};
+ghost use Rattle.topology.specs.Network.{are_joined};
 ghost use Rattle.topology.specs.Ranges.{ranges_of};
-ghost use Rattle.link_model.specs.declared.item.Item.{Item};
 ghost use Rattle.run_model.specs.World.{at_pair, item_fits};
 ghost use Rattle.configuration.specs.LinksView.{under_way};
-ghost use Rattle.node_runner.specs.declared.runner.Port.{Port};
-ghost use Rattle.thread_net.specs.Cables.{left_on, settled, AreSettleable, AreCabled, row, ids_in};
-ghost use Rattle.thread_net.specs.Cables.{AreEnds, IsFlushed, IsFlushedBetween, IsRoomFor};
-ghost use Rattle.thread_net.specs.Settling.{IsSettlingFrom};
+ghost use Rattle.thread_net.specs.Cables.{left_on, left_between, settled, AreSettleable};
+ghost use Rattle.thread_net.specs.Cables.{AreCabled, IsCableBetween, IsOtherPair, row};
+ghost use Rattle.thread_net.specs.Cables.{AreEnds, IsFlushed, IsFlushedBetween, IsRoomFor, port_to};
 ghost use Rattle.thread_net.specs.Tables.{rows_in};
 
 use configuration::Links;
@@ -58,81 +56,78 @@ fn drain<A: Allocator + Copy>(
     }
 }
 
-/// Takes the last port of a node, which has one.
-fn pop_port<A: Allocator>(rows: &mut Vec<Vec<Port<A>, A>, A>, node: u16) -> Port<A>
-    requires node { node < length rows.old.items }
-    requires some { 0 < length (row (rows_in rows.old.items) node) }
-    ensures last { row (rows_in rows.old.items) node
-        ≡ row (rows_in rows.new.items) node ++ result ∷ [] }
-    ensures rows { rows_in rows.new.items ≡ slice_set (rows_in rows.old.items) node
-        (row (rows_in rows.new.items) node) }
-    ensures all { length rows.new.items ≡ length rows.old.items }
+/// The place of the first port that leads to a node.
+fn place_of_port<A: Allocator>(ports: &[Port<A>], to: u16) -> Option<usize>
+    ensures { result ≡ position (λ p. p.neighbour == to) ports.now }
 {
-    match rows[usize::from(node)].pop() {
-        Some(port) => port,
-        None => unreachable!(),
+    ports.iter().position(|port| port.neighbour == to)
+}
+
+/// Takes the first port that leads to a node, if there is one.
+fn take_from<A: Allocator>(ports: &mut Vec<Port<A>, A>, to: u16) -> Option<Port<A>>
+    ensures port { result ≡ port_to ports.old.items to }
+    ensures others { (j : ℕ) → j ≢ to → port_to ports.new.items j ≡ port_to ports.old.items j }
+{
+    match place_of_port(ports, to) {
+        Some(place) => Some(ports.remove(place)),
+        None => None,
     }
 }
 
-/// The last ports of two neighbours lead to each other: their links have what is left.
+/// Takes a node's port to another, if it has one.
+fn take_port<A: Allocator>(
+    rows: &mut Vec<Vec<Port<A>, A>, A>,
+    node: u16,
+    to: u16,
+) -> Option<Port<A>>
+    requires { node < length rows.old.items }
+    ensures port { result ≡ port_to (row (rows_in rows.old.items) node) to }
+    ensures others { (i j : ℕ) → IsOtherPair i j node to
+        → port_to (row (rows_in rows.new.items) i) j
+        ≡ port_to (row (rows_in rows.old.items) i) j }
+    ensures all { length rows.new.items ≡ length rows.old.items }
+{
+    take_from(&mut rows[usize::from(node)], to)
+}
+
+/// Takes the ports of two nodes that lead to each other: their links have what is left.
 fn settle_edge<A: Allocator + Copy>(
     links: &mut Links<A>,
     rows: &mut Vec<Vec<Port<A>, A>, A>,
     one: u16,
     other: u16,
 )
-    requires order { one < other }
-    requires within { other < links.old.net.nodes }
+    requires apart { one ≢ other }
+    requires one_in { one < links.old.net.nodes }
+    requires other_in { other < links.old.net.nodes }
     requires all { length rows.old.items ≡ links.old.net.nodes }
     requires joined { IsTrue (are_joined links.old.net.edges one other) }
-    requires settling { (old : List (List (Port A))) × (was : ℕ → ℕ → List Item)
-        × IsSettlingFrom links.old.net one (other + 1) old (rows_in rows.old.items) was
-        (under_way links.old) }
+    requires cable { IsCableBetween (rows_in rows.old.items) one other }
     ensures net { links.new.net ≡ links.old.net }
     ensures spares { links.new.spares ≡ links.old.spares }
     ensures all { length rows.new.items ≡ length rows.old.items }
-    ensures settled { (old : List (List (Port A))) (was : ℕ → ℕ → List Item)
-        → IsSettlingFrom links.old.net one (other + 1) old (rows_in rows.old.items) was
-        (under_way links.old)
-        → IsSettlingFrom links.old.net one other old (rows_in rows.new.items) was
-        (under_way links.new) }
+    ensures forth { IsFlushedBetween (rows_in rows.old.items) one other }
+    ensures home { IsFlushedBetween (rows_in rows.old.items) other one }
+    ensures left { IsRoomFor links.old.net (left_between (rows_in rows.old.items) one other)
+        → IsRoomFor links.old.net (left_between (rows_in rows.old.items) other one)
+        → under_way links.new
+        ≡ at_pair (at_pair (under_way links.old) one other
+        (left_between (rows_in rows.old.items) one other)) other one
+        (left_between (rows_in rows.old.items) other one) }
+    // The ports of all other pairs stay.
+    ensures others { (i j : ℕ) → IsOtherPair i j one other → IsOtherPair i j other one
+        → port_to (row (rows_in rows.new.items) i) j
+        ≡ port_to (row (rows_in rows.old.items) i) j }
 {
     topology::laws::joined();
-    let mut near = pop_port(rows, one);
-    let mut far = pop_port(rows, other);
+    let Some(mut near) = take_port(rows, one, other) else {
+        unreachable!()
+    };
+    let Some(mut far) = take_port(rows, other, one) else {
+        unreachable!()
+    };
     drain(links, one, other, &mut near.outgoing, &mut far.incoming);
     drain(links, other, one, &mut far.outgoing, &mut near.incoming);
-}
-
-/// Settles the links between a node and its neighbours of greater id.
-fn settle_row<A: Allocator + Copy>(
-    links: &mut Links<A>,
-    rows: &mut Vec<Vec<Port<A>, A>, A>,
-    one: u16,
-)
-    requires within { one < links.old.net.nodes }
-    requires all { length rows.old.items ≡ links.old.net.nodes }
-    requires settling { (old : List (List (Port A))) × (was : ℕ → ℕ → List Item)
-        × IsSettlingFrom links.old.net one links.old.net.nodes old (rows_in rows.old.items) was
-        (under_way links.old) }
-    ensures net { links.new.net ≡ links.old.net }
-    ensures spares { links.new.spares ≡ links.old.spares }
-    ensures all { length rows.new.items ≡ length rows.old.items }
-    ensures settled { (old : List (List (Port A))) (was : ℕ → ℕ → List Item)
-        → IsSettlingFrom links.old.net one links.old.net.nodes old (rows_in rows.old.items) was
-        (under_way links.old)
-        → IsSettlingFrom links.old.net one (one + 1) old (rows_in rows.new.items) was
-        (under_way links.new) }
-{
-    topology::laws::joined();
-    let nodes = links.net().nodes();
-    let greater = nodes - 1 - one;
-    for done in 0..greater {
-        let other = nodes - 1 - done;
-        if links.are_joined(one, other) {
-            settle_edge(links, rows, one, other);
-        }
-    }
 }
 
 /// Settles all links: each has what is left in its ring.
@@ -141,9 +136,7 @@ pub(crate) fn settle_all<A: Allocator + Copy>(
     rows: &mut Vec<Vec<Port<A>, A>, A>,
 )
     requires all { length rows.old.items ≡ links.old.net.nodes }
-    requires ids { (x : ℕ) → x < links.old.net.nodes
-        → ids_in (row (rows_in rows.old.items) x) ≡ neighbours_of links.old.net x }
-    requires cabled { AreCabled (rows_in rows.old.items) }
+    requires cabled { AreCabled links.old.net (rows_in rows.old.items) }
     ensures net { links.new.net ≡ links.old.net }
     ensures spares { links.new.spares ≡ links.old.spares }
     ensures flushed { (u v : ℕ) → IsTrue (are_joined links.old.net.edges u v)
@@ -152,8 +145,9 @@ pub(crate) fn settle_all<A: Allocator + Copy>(
         ≡ settled links.old.net (rows_in rows.old.items) (under_way links.old) }
 {
     topology::laws::joined();
-    let nodes = links.net().nodes();
-    for done in 0..nodes {
-        settle_row(links, rows, nodes - 1 - done);
+    let _known_nodes = links.net().nodes();
+    for index in 0..links.net().edges().len() {
+        let (one, other) = links.net().edges()[index];
+        settle_edge(links, rows, one, other);
     }
 }

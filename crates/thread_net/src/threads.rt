@@ -1,6 +1,7 @@
 //! Runners start, each on a thread of its own, and come back.
-ghost use Rattle.std.specs.Prelude.{◌≡◌, ◌≤◌, List, [], vec_len, vec_capacity, All, IsTrue};
+ghost use Rattle.std.specs.Prelude.{◌≡◌, ◌≤◌, [], reverse, vec_len, vec_capacity, All};
 ghost use Rattle.std.specs.List.{AllZip};
+ghost use Rattle.std.specs.Vec.Iter.{into_iter_items, into_iter_len};
 ghost use Rattle.std.specs.declared.alloc.Global.{Global};
 ghost use Rattle.thread_net.specs.Outcomes.{Keeps, MayRun, IsStartOf, IsOutcomeOf};
 
@@ -10,6 +11,7 @@ use std::sync::Wait;
 use std::sync::atomic::{AtomicBool, Ordering};
 use std::thread;
 use std::thread::{Promise, PromisedHandle, Scope, Threads};
+use std::vec::IntoIter;
 
 /// A runner that came back, and whether it ran.
 #[derive(Drop)]
@@ -98,33 +100,28 @@ fn finish<R: Threads>(rt: &R, turns: u32, started: Started) -> Outcome
     }
 }
 
-/// Starts all runners.
-fn start_all<'s, E, G: Gate>(
+/// Starts the runners in their order, and then waits for them, the last one first.
+fn run_each<'s, E, R: Threads, G: Gate>(
+    rt: &R,
     scope: &Scope<'s, E>,
     gate: &'s G,
     stop: &'s AtomicBool,
-    runners: Vec<Runner>,
+    runners: &mut IntoIter<Runner>,
     turns: u32,
-    started: &mut Vec<Started>,
+    done: &mut Vec<Outcome>,
 )
-    requires may { All (MayRun turns) runners.items }
-    requires room { (started.old.items ≡ []) × (vec_len runners ≤ vec_capacity started.old) }
-    ensures zip { AllZip (IsStartOf turns) runners.items started.new.items }
-    ensures len { vec_len started.new ≡ vec_len runners }
+    requires may { All (MayRun turns) (into_iter_items runners.old) }
+    requires empty { done.old.items ≡ [] }
+    requires room { into_iter_len runners.old ≤ vec_capacity done.old }
+    ensures outcomes { AllZip (IsOutcomeOf turns) (into_iter_items runners.old)
+        (reverse done.new.items) }
+    ensures all { vec_len done.new ≡ into_iter_len runners.old }
+    ensures capacity { vec_capacity done.new ≡ vec_capacity done.old }
 {
-    for runner in runners {
-        started.push_reserved(start(scope, gate, stop, runner, turns));
-    }
-}
-
-/// Waits for all runners.
-fn finish_all<R: Threads>(rt: &R, turns: u32, started: Vec<Started>, done: &mut Vec<Outcome>)
-    requires room { (done.old.items ≡ []) × (vec_len started ≤ vec_capacity done.old) }
-    ensures { (runners : List (Runner Global)) → AllZip (IsStartOf turns) runners started.items
-        → AllZip (IsOutcomeOf turns) runners done.new.items }
-{
-    for one in started {
-        done.push_reserved(finish(rt, turns, one));
+    if let Some(runner) = runners.next() {
+        let started = start(scope, gate, stop, runner, turns);
+        run_each(rt, scope, gate, stop, runners, turns, done);
+        done.push_reserved(finish(rt, turns, started));
     }
 }
 
@@ -135,11 +132,9 @@ pub(crate) fn run_all<R: Threads + Wait + Sync, G: Gate>(
     gate: &G,
     runners: Vec<Runner>,
     turns: u32,
-    started: Vec<Started>,
     done: Vec<Outcome>,
 ) -> Vec<Outcome>
     requires may { All (MayRun turns) runners.items }
-    requires started { (started.items ≡ []) × (vec_len runners ≤ vec_capacity started) }
     requires done { (done.items ≡ []) × (vec_len runners ≤ vec_capacity done) }
     ensures { AllZip (IsOutcomeOf turns) runners.items result.items }
 {
@@ -150,14 +145,13 @@ pub(crate) fn run_all<R: Threads + Wait + Sync, G: Gate>(
         rt,
         |scope| -> Vec<Outcome>
             requires may { All (MayRun turns) runners.items }
-            requires started { (started.items ≡ []) × (vec_len runners ≤ vec_capacity started) }
             requires done { (done.items ≡ []) × (vec_len runners ≤ vec_capacity done) }
             ensures { AllZip (IsOutcomeOf turns) runners.items result.items }
         {
-            let mut started = started;
+            let mut runners = runners.into_iter();
             let mut done = done;
-            start_all(scope, gate, stop, runners, turns, &mut started);
-            finish_all(rt, turns, started, &mut done);
+            run_each(rt, scope, gate, stop, &mut runners, turns, &mut done);
+            done.reverse();
             done
         },
     )

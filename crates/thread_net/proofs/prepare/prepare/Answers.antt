@@ -1,28 +1,10 @@
-use Rattle.std.proofs.Common.{rules, arith, ap, sym, refl, subst, ◌≡◌, ◌∙◌, length}
+use Rattle.std.proofs.Common.{rules, sym, refl, subst, ◌≡◌, ◌∙◌}
 use Rattle.topology.specs.Network.{IsAcceptedNetwork}
 use Rattle.configuration.specs.ConfigurationView.{world_of}
 use Rattle.thread_net.specs.Seats.{AreShort}
 use Rattle.thread_net.specs.Tables.{AreEmptySeats}
-use Rattle.thread_net.proofs.Maps.{map-long}
 use Rattle.thread_net.proofs.Starting.{short-nodes, all-at-start}
 use Rattle.thread_net.proofs.prepare.prepare.Goals as goal
-
-pub furnish-requires-clause-all : goal.furnish-requires-clause-all
-furnish-requires-clause-all g c =
-    let a = map-long (λ r. r.node) c.seat_all.new.runners.items in
-    let b = ap length c.seat_all.ensures.nodes in
-    let d = c.requires.parts.nodes_are.all_nodes in
-    omega (arith, a, b, d)
-
-pub furnish-requires-clause-few : goal.furnish-requires-clause-few
-furnish-requires-clause-few g c =
-    let net = c.args.parts.links.net in
-    let accepted : IsAcceptedNetwork net = subst IsAcceptedNetwork c.net.ensures.net c.nodes.ensures.network in
-    let a = map-long (λ r. r.node) c.seat_all.new.runners.items in
-    let b = ap length c.seat_all.ensures.nodes in
-    let d = c.requires.parts.nodes_are.all_nodes in
-    let e = accepted.limits.most in
-    omega (arith, a, b, d, e)
 
 pub furnish-requires-clause-short : goal.furnish-requires-clause-short
 furnish-requires-clause-short g c =

@@ -1,31 +1,16 @@
-use Rattle.std.proofs.Common.{rules, arith, ap, sym, subst, ◌≡◌, ◌∙◌, ◌≤◌, length, vec_len, vec_capacity}
+use Rattle.std.proofs.Common.{rules, ap, sym, subst, ◌≡◌, ◌∙◌, ◌≤◌, length, vec_len, vec_capacity}
 use Rattle.weaving.specs.Journals.{entries_in, entry_count, journal_of}
 use Rattle.weaving.specs.Woven.{AreRising, IsWoven}
-use Rattle.topology.specs.Network.{neighbours_of}
 use Rattle.configuration.specs.ConfigurationView.{world_of}
 use Rattle.thread_net.specs.ThreadRun.{IsThreadRun}
-use Rattle.thread_net.specs.Cables.{AreCabled, ids_in, row, rows_of}
 use Rattle.thread_net.specs.Tables.{AreEmptySeats, rows_in}
-use Rattle.thread_net.proofs.Maps.{map-long}
-use Rattle.thread_net.proofs.Gathering.{all-rising}
-use Rattle.thread_net.proofs.Finishing.{gathered, one-worlds}
+use Rattle.thread_net.proofs.Finishing.{all-rising, gathered, one-worlds}
 use Rattle.thread_net.proofs.run.gather.Goals as goal
 
 pub unseat_all-requires : goal.unseat_all-requires
 unseat_all-requires g c =
     let same : length c.args.runners.items ≡ vec_len c.args.runners = search rules in
     subst (λ n. AreEmptySeats n c.args.seats) same c.requires.2.empty
-
-pub weave-requires-2-clause-few : goal.weave-requires-2-clause-few
-weave-requires-2-clause-few g c =
-    let it = c.requires.2 in
-    let a = map-long (λ j. j.entries.items) c.unseat_all.new.seats.journals.items in
-    let b = ap length c.unseat_all.ensures.journals in
-    let d = map-long (λ r. r.journal.entries.items) c.args.runners.items in
-    let n = it.done.count in
-    let most = it.start.range.network.limits.most in
-    let same = ap length c.deref.ensures.value in
-    omega (arith, a, b, d, n, most, same)
 
 pub weave-requires-2-clause-rising : goal.weave-requires-2-clause-rising
 weave-requires-2-clause-rising g c = λ v.
@@ -40,36 +25,16 @@ pub weave-requires-2-clause-room : goal.weave-requires-2-clause-room
 weave-requires-2-clause-room g c =
     subst (λ e. entry_count e ≤ vec_capacity c.args.events) (sym (ap entries_in c.deref.ensures.value ∙ c.unseat_all.ensures.journals)) c.requires.2.fits
 
-pub settle_all-requires-clause-all : goal.settle_all-requires-clause-all
-settle_all-requires-clause-all g c =
-    let it = c.requires.2 in
-    let a = map-long (λ t. t.items) c.unseat_all.new.seats.rows.items in
-    let b = ap length c.unseat_all.ensures.rows in
-    let d = map-long (λ r. r.ports.items) c.args.runners.items in
-    let n = it.done.count in
-    let net = ap (λ m. m.nodes) it.over.0 in
-    omega (arith, a, b, d, n, net)
-
-pub settle_all-requires-clause-ids : goal.settle_all-requires-clause-ids
-settle_all-requires-clause-ids g c = λ x xn.
-    let it = c.requires.2 in
-    subst (λ r. ids_in (row r x) ≡ neighbours_of c.args.links.net x) (sym c.unseat_all.ensures.rows)
-    (subst (λ n. ids_in (row (rows_of c.args.runners.items) x) ≡ neighbours_of n x) it.over.0
-    (it.done.ids x (let net = ap (λ m. m.nodes) it.over.0 in omega (arith, xn, net))))
-
 pub settle_all-requires-clause-cabled : goal.settle_all-requires-clause-cabled
-settle_all-requires-clause-cabled g c = subst AreCabled (sym c.unseat_all.ensures.rows) c.requires.2.done.cabled
+settle_all-requires-clause-cabled g c = rw (c.unseat_all.ensures.rows, ← c.requires.2.over.0) c.requires.2.done.cabled
 
 pub from_parts-requires : goal.from_parts-requires
-from_parts-requires g c =
-    let it = c.requires.2 in
-    one-worlds c.requires.0 c.requires.1 c.args.runners.items c.args.links c.settle_all.new.links c.unseat_all.new.seats.nodes.items c.args.room it.done it.over c.unseat_all.ensures.nodes c.settle_all.ensures.net
-    it.judged
+from_parts-requires g c = one-worlds c.requires.0 c.requires.1 c.requires.2 c.settle_all.new.links c.unseat_all.new.seats.nodes.items c.unseat_all.ensures.nodes c.settle_all.ensures.net
 
 pub returns : goal.returns
 returns g c = λ w turns it.
     let woven = subst (λ e. IsWoven (journal_of e) c.weave-2.new.out.items) (ap entries_in c.deref.ensures.value) c.weave-2.ensures.woven in
     subst (λ v. IsThreadRun turns w c.weave-2.new.out.items (world_of v)) (sym c.from_parts.ensures)
-    (gathered w turns c.args.runners.items c.args.links c.settle_all.new.links c.unseat_all.new.seats.nodes.items (rows_in c.unseat_all.new.seats.rows.items)
-    (entries_in c.unseat_all.new.seats.journals.items) c.weave-2.new.out.items it.done it.start it.over it.spares c.unseat_all.ensures.nodes c.unseat_all.ensures.rows c.unseat_all.ensures.journals
-    c.settle_all.ensures.net c.settle_all.ensures.spares c.settle_all.ensures.flushed c.settle_all.ensures.settled woven c.weave.ensures c.rounds.ensures c.in_range.ensures c.joined.ensures.nodes)
+    (gathered w turns it c.settle_all.new.links c.unseat_all.new.seats.nodes.items (rows_in c.unseat_all.new.seats.rows.items) (entries_in c.unseat_all.new.seats.journals.items) c.weave-2.new.out.items
+    c.unseat_all.ensures.nodes c.unseat_all.ensures.rows c.unseat_all.ensures.journals c.settle_all.ensures.net c.settle_all.ensures.spares c.settle_all.ensures.flushed c.settle_all.ensures.settled woven
+    c.weave.ensures c.rounds.ensures c.in_range.ensures)

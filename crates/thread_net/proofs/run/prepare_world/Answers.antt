@@ -1,4 +1,4 @@
-use Rattle.std.proofs.Common.{rules, ◌≡◌, subst, sym}
+use Rattle.std.proofs.Common.{subst, sym}
 use Rattle.thread_net.specs.Cables.{AreWithin}
 use Rattle.thread_net.proofs.run.prepare_world.Goals as goal
 

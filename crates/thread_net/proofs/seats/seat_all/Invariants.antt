@@ -1,4 +1,4 @@
-use Rattle.std.proofs.Common.{◌≡◌, ◌+◌, ◌≤◌, ℕ, [], All, take, drop, vec_len, vec_capacity}
+use Rattle.std.proofs.Common.{◌≡◌, ◌+◌, ◌≤◌, ◌++◌, ℕ, [], All, vec_len, vec_capacity}
 use Rattle.std.specs.Vec.Iter.{into_iter_items, into_iter_len}
 use Rattle.thread_net.specs.Cables.{rows_of, row, seats_of}
 use Rattle.thread_net.specs.Seats.{nodes_of, IsNew}
@@ -6,10 +6,7 @@ use Rattle.thread_net.proofs.seats.seat_all.Given as goal
 
 abbrev pub invariant-loop-node : goal.invariant-loop-node
 invariant-loop-node g l =
-    let done = vec_len l.runners in
-    (into_iter_items l.node-iterator ≡ drop done l.fn.nodes.items)
-    × (done + into_iter_len l.node-iterator ≡ vec_len l.fn.nodes)
-    × (vec_len l.fn.nodes ≤ vec_capacity l.runners)
-    × (nodes_of l.runners.items ≡ take done l.fn.nodes.items)
+    (vec_len l.runners + into_iter_len l.node-iterator ≤ vec_capacity l.runners)
+    × (nodes_of l.runners.items ++ into_iter_items l.node-iterator ≡ l.fn.nodes.items)
     × All IsNew (seats_of l.runners.items)
     × ((x : ℕ) → row (rows_of l.runners.items) x ≡ [])

@@ -1,30 +1,29 @@
-use Rattle.std.proofs.Common.{rules, arith, ap, sym, subst, ◌≡◌, ◌∙◌, ◌≤◌, ◌∷◌, ◌++◌, length, drop, take_all}
-use Rattle.rtrb.specs.Ring.{sent, received, known_items}
-use Rattle.configuration.specs.LinksView.{under_way}
-use Rattle.run_model.specs.World.{at_pair}
-use Rattle.weaving.specs.Matched.{items}
-use Rattle.thread_net.specs.Cables.{left_on, IsRoomFor}
-use Rattle.thread_net.proofs.Maps.{drop_one}
+use Rattle.std.proofs.Common.{rules, arith, ap, sym, ◌≡◌, ◌∙◌, ◌∷◌, ◌++◌, length, drop, take, take_all}
 use Rattle.std.proofs.Math.Seq.{drop-append_seam}
-use Rattle.thread_net.proofs.Draining.{drain-step, item-fits}
+use Rattle.std.proofs.lemmas.List.{length-map}
+use Rattle.rtrb.specs.Ring.{sent, received, known_items}
+use Rattle.weaving.specs.Matched.{items}
+use Rattle.thread_net.specs.Cables.{left_on}
+use Rattle.thread_net.proofs.Settling.{drain-step, item-fits, rest-is}
 use Rattle.thread_net.proofs.settle.drain.Goals as goal
 
 pub loop-item-preserved : goal.loop-item-preserved
 loop-item-preserved g c =
-    let known = known_items c.slots_beside-left.new.self in
+    let net = c.args.links.now.net in
+    let all = items (known_items c.slots_beside-left.new.self) in
     let k = c.loop-item._item in
     let x = c.pop_known.result in
-    let rest = known_items c.pop_known.new.self in
-    let left : drop k known ≡ x ∷ rest = sym c.loop-item.invariant.2 ∙ c.pop_known.ensures.received.1 in (
-      c.put.ensures.net ∙ c.loop-item.invariant.0,
-      c.put.ensures.spares ∙ c.loop-item.invariant.1,
-      sym (drop_one k known rest x left),
+    let it = c.loop-item.invariant in
+    let fewer = ap length c.pop_known.ensures.received.1 in
+    let next : x.item ∷ items (known_items c.pop_known.new.self) ≡ drop k all = ap items (sym c.pop_known.ensures.received.1) ∙ it.3 in (
+      c.put.ensures.net ∙ it.0,
+      c.put.ensures.spares ∙ it.1,
+      omega arith,
+      rest-is net all _ k x.item next,
       λ room.
-          let net = c.args.links.now.net in
-          let fits = item-fits net known k x rest left room in
-          let here : c.fitting-item.result ≡ x.item = search rules in
-          drain-step net (under_way c.args.links.now) (under_way c.loop-item.links) (under_way c.put.new.self) c.args.from c.args.to c.loop-item.links.net.capacity known k x rest
-          c.fitting-item.result left room (ap (λ n. n.capacity) c.loop-item.invariant.0) here (c.loop-item.invariant.3 room) c.put.ensures.put,
+          let fits = item-fits net all _ k x.item next room in
+          let same : c.fitting-item.result ≡ x.item = search rules in
+          drain-step net all _ k x.item next room _ _ _ c.args.from c.args.to _ (ap (λ n. n.capacity) it.0) (it.4 room) (rw same at c.put.ensures.put),
     )
 
 pub returns-clause-flushed : goal.returns-clause-flushed
@@ -39,6 +38,6 @@ returns-clause-left g c = λ room.
     let came = received c.args.incoming.now.frames in
     let first : came ++ known ≡ sent c.args.outgoing.now.frames = search rules in
     let is : left_on c.args.outgoing.now c.args.incoming.now ≡ items known = ap items (ap (drop (length came)) (sym first) ∙ drop-append_seam came known) in
-    let all : length known ≤ c.loop-item._item = search (rules, arith) in
-    c.loop-item.invariant.3 (subst (IsRoomFor c.args.links.now.net) is room)
-    ∙ ap (at_pair (under_way c.args.links.now) c.args.from c.args.to) (ap items (take_all c.loop-item._item known all) ∙ sym is)
+    let long = length-map known (λ s. s.item) in
+    let whole : take c.loop-item._item (items known) ≡ items known = take_all c.loop-item._item (items known) (search (rules, arith)) in
+    rw is (rw whole at (c.loop-item.invariant.4 (rw is at room)))

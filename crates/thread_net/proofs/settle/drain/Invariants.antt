@@ -1,4 +1,4 @@
-use Rattle.std.proofs.Common.{◌≡◌, take, drop}
+use Rattle.std.proofs.Common.{◌≡◌, ◌+◌, length, drop, take}
 use Rattle.rtrb.specs.Ring.{known_items}
 use Rattle.run_model.specs.World.{at_pair}
 use Rattle.configuration.specs.LinksView.{under_way}
@@ -8,8 +8,9 @@ use Rattle.thread_net.proofs.settle.drain.Given as goal
 
 abbrev pub invariant-loop-item : goal.invariant-loop-item
 invariant-loop-item g l =
+    let known = known_items l.initial.incoming.frames in
     (l.links.net ≡ l.fn.links.net)
     × (l.links.spares ≡ l.fn.links.spares)
-    × (known_items l.incoming.frames ≡ drop l._item (known_items l.initial.incoming.frames))
-    × (IsRoomFor l.fn.links.net (items (known_items l.initial.incoming.frames))
-    → under_way l.links ≡ at_pair (under_way l.fn.links) l.from l.to (items (take l._item (known_items l.initial.incoming.frames))))
+    × (length (known_items l.incoming.frames) + l._item ≡ length known)
+    × (items (known_items l.incoming.frames) ≡ drop l._item (items known))
+    × (IsRoomFor l.fn.links.net (items known) → under_way l.links ≡ at_pair (under_way l.fn.links) l.from l.to (take l._item (items known)))

@@ -1,31 +1,153 @@
--- Rows: two nodes that did one turn each on threads of their own, and what is no such run.
-use Rattle.std.proofs.Common.{◌≡◌, ◌⊎◌, ℕ, zero, suc, ◌<◌, ◌≤◌, min, IsTrue, List, [], ◌∷◌, All, length, inl, inr, ap, refl, ◌∙◌, sym, arith}
+-- Rows: the ends of links, what is left on them, two nodes that did one turn each, and what is no such run.
+use Rattle.std.proofs.Common.{◌≡◌, ℕ, ◌<◌, ◌≤◌, true, false, IsTrue, Some, None, List, [], ◌∷◌, map, ◌++◌, length, if◌then◌else◌, ap, refl, ◌∙◌, sym, arith, zero, suc, min, All, inl, inr}
+use Rattle.std.proofs.lemmas.Bool.{true≢false}
 use Rattle.std.proofs.lemmas.Grind.{common_steps}
-use Rattle.std.specs.declared.alloc.Global.{Global}
-use Rattle.std.proofs.lemmas.Bool.{false≢true}
-use Rattle.std.proofs.lemmas.Bool.Decides.{nat_tests}
-use Rattle.std.proofs.lemmas.List.Elements.{All-nil, All-cons}
-use Rattle.topology.specs.Network.{neighbours_of}
+use Rattle.std.proofs.lemmas.List.{length_push}
+use Rattle.rtrb.specs.Ring.{sent, received}
 use Rattle.link_model.specs.declared.item.Item.{Item}
+use Rattle.link_model.specs.declared.item.Item.TheVariants.{Noise}
+use Rattle.link_model.specs.Link.{link}
+use Rattle.configuration.specs.LinksView.{LinksView, under_way}
+use Rattle.run_model.proofs.RowsTwo.{two_nodes, each-link, each-node}
 use Rattle.run_model.specs.World.{World}
+use Rattle.weaving.specs.declared.journal.Stamped.{Stamped}
+use Rattle.weaving.specs.Matched.{items, AreMatched, IsLinkMatched}
+use Rattle.weaving.proofs.RowsRun.{after_tick, start}
+use Rattle.node_runner.specs.declared.ports.Outgoing.{Outgoing}
+use Rattle.node_runner.specs.declared.ports.Incoming.{Incoming}
+use Rattle.node_runner.specs.declared.runner.Port.{Port}
+use Rattle.thread_net.specs.declared.threads.Outcome.{Outcome}
+use Rattle.thread_net.specs.Cables.{AreWithin, ends_at, port_to, row, left_on, left_on_ports, IsCable, IsCabledOnce, IsCableOn, IsOtherPair, IsFlushed, IsFlushedOn}
+use Rattle.thread_net.specs.Prepared.{IsPrepared}
+use Rattle.thread_net.specs.Seats.{entry_room}
+use Rattle.thread_net.specs.declared.prepare.Prepared.{Prepared}
+use Rattle.thread_net.specs.Outcomes.{have_run, turns_of}
+use Rattle.std.specs.declared.alloc.Global.{Global}
+use Rattle.std.proofs.lemmas.Bool.Decides.{nat_tests}
+use Rattle.topology.specs.Network.{neighbours_of}
 use Rattle.run_model.specs.Step.{has_room}
 use Rattle.run_model.specs.Run.{run}
 use Rattle.run_model.specs.declared.event.Event.{Event}
 use Rattle.run_model.specs.declared.event.Event.TheVariants.{Send, Tick}
-use Rattle.run_model.proofs.RowsTwo.{two_nodes, each-node}
 use Rattle.weaving.specs.declared.journal.Entry.{Entry}
-use Rattle.weaving.specs.declared.journal.Stamped.{Stamped}
-use Rattle.weaving.specs.Account.{Note, Ticked, Sent, entry_of, sent_to, taken_from, Leads}
-use Rattle.weaving.specs.Matched.{AreMatched, AreOf, IsLinkMatched}
+use Rattle.weaving.specs.Account.{Note, entry_of, Ticked, Sent, sent_to, taken_from, Leads}
 use Rattle.weaving.specs.Woven.{AreRising, IsWoven, Placed, entries_of}
-use Rattle.weaving.proofs.RowsRun.{start, after_tick}
 use Rattle.node_runner.specs.Rounds.{AreRounds, IsRound}
 use Rattle.node_runner.specs.FirstTurn.{IsFirstTurn, count_of, deeds_of, is_tick_of, is_send_on, is_take_on, before_tick}
 use Rattle.thread_net.specs.ThreadRun.{IsThreadRun}
 use Rattle.configuration.specs.ConfigurationView.{ConfigurationView, no_node, world_of}
 use Rattle.thread_net.specs.Fault.{IsFault, IsPartRun}
-use Rattle.thread_net.specs.declared.run.RunFault.TheVariants as fault
 use Rattle.thread_net.specs.declared.run.Woven.{Woven}
+use Rattle.thread_net.specs.declared.run.RunFault.TheVariants as fault
+
+-- two items with their stamps: noise of the start, and a frame
+abbrev first : Stamped
+first = record { stamp = 0; item = Noise }
+
+abbrev second : Stamped
+second = after_tick 0 1 2
+
+-- ---- what is left on a link
+
+module _ {A : Type 0} (o : Outgoing A) (i : Incoming A) (went : sent o.frames ≡ first ∷ second ∷ []) where
+  -- what was sent and not taken is under way, the oldest first
+  row-left : (received i.frames ≡ first ∷ [] → left_on o i ≡ second.item ∷ []) × (received i.frames ≡ first ∷ second ∷ [] → left_on o i ≡ [])
+  row-left = (λ came. rw (came, went), λ came. rw (came, went))
+
+  row-all_left : received i.frames ≡ [] → left_on o i ≡ Noise ∷ second.item ∷ []
+  row-all_left came = rw (came, went)
+
+  -- what came in is a beginning of what went out, and places that came back of those given back
+  row-flushed : received i.frames ≡ first ∷ [] → sent i.places ≡ 4 ∷ 6 ∷ [] → received o.places ≡ 4 ∷ [] → IsFlushed o i
+  row-flushed came given back = (
+    (second ∷ [], ap (λ xs. xs ++ second ∷ []) came ∙ sym went),
+    (6 ∷ [], ap (λ xs. xs ++ 6 ∷ []) back ∙ sym given),
+  )
+
+  -- nothing comes in that did not go out
+  not-flushed : received i.frames ≡ first ∷ second ∷ second ∷ [] → IsFlushed o i → ⊥
+  not-flushed came flushed =
+      let all : ◌≡◌ {A = List Stamped} (first ∷ second ∷ second ∷ flushed.0.0) (first ∷ second ∷ []) =
+      ap (λ xs. xs ++ flushed.0.0) (sym came) ∙ (flushed.0.1 ∙ went) in
+      let count = ap length all in
+      omega (arith, count)
+
+  -- nor does a place come back before it was given back
+  not-back : sent i.places ≡ 4 ∷ [] → received o.places ≡ 6 ∷ [] → IsFlushed o i → ⊥
+  not-back given back flushed =
+      let all : ◌≡◌ {A = List ℕ} (6 ∷ flushed.1.0) (4 ∷ []) = ap (λ xs. xs ++ flushed.1.0) (sym back) ∙ (flushed.1.1 ∙ given) in
+      let one : ◌≡◌ {A = ℕ} 6 4 = cc in
+      omega (arith, one)
+
+-- ---- ports
+
+module _ {A : Type 0} (p q : Port A) (to_one : p.neighbour ≡ 1) (to_two : q.neighbour ≡ 2) where
+  row-port : (port_to (p ∷ q ∷ []) 2 ≡ Some q) × (port_to (p ∷ q ∷ []) 3 ≡ None)
+  row-port = (grind (arith, common_steps, to_one, to_two), grind (arith, common_steps, to_one, to_two))
+
+  -- if a port is missing nothing is left, and nothing is flushed
+  row-nothing : (left_on_ports (Some p) None ≡ []) × (IsFlushedOn (Some p) None → ⊥)
+  row-nothing = (refl, λ out. out)
+
+  -- two ports to each other are the ends of the same links, and one alone is not enough
+  row-cable : (IsCable p q → IsCableOn (Some p) (Some q)) × (IsCableOn (Some p) None → ⊥) × ((IsCable p q → ⊥) → IsCableOn (Some p) (Some q) → ⊥)
+  row-cable = (λ cable. cable, λ out. out, λ apart cabled. apart cabled)
+
+-- ---- pairs of nodes
+
+-- a pair the other way round is another
+row-other : IsOtherPair 3 1 1 3 × IsOtherPair 1 2 1 3 × (IsOtherPair 1 3 1 3 → ⊥)
+row-other = (refl, refl, λ same. true≢false same)
+
+row-ends : (ends_at {X = ℕ} 1 7 3 9 1 ≡ 7 ∷ []) × (ends_at {X = ℕ} 1 7 3 9 3 ≡ 9 ∷ []) × (ends_at {X = ℕ} 1 7 3 9 2 ≡ [])
+row-ends = (refl, refl, refl)
+
+-- a cable has two ends
+not-one_end : {A : Type 0} (l : LinksView) (rows more : List (List (Port A))) → row more 3 ≡ row rows 3 → IsCabledOnce l 1 3 rows more → ⊥
+not-one_end l rows more same it =
+    let count = ap length (sym same ∙ it.grown 3) in
+    let longer = length_push (row rows 3) it.far in
+    omega arith
+
+-- ---- room, and who ran
+
+-- ten turns of a node with two neighbours: ten ticks, and at most two sends and four takes each
+row-room : entry_room 10 2 ≡ 70
+row-room = refl
+
+module _ (a b : Outcome) (ran : a.ran ≡ true) (came_back : b.ran ≡ false) where
+  row-all_ran : (have_run (a ∷ []) ≡ true) × (have_run (a ∷ b ∷ []) ≡ false)
+  row-all_ran = (rw ran, rw (ran, came_back))
+
+  row-turns : (turns_of 5 (a ∷ b ∷ []) 0 ≡ 5) × (turns_of 5 (a ∷ b ∷ []) 1 ≡ 0) × (turns_of 5 (a ∷ b ∷ []) 2 ≡ 0)
+  row-turns = (ap (λ t. if t then 5 else 0) ran, ap (λ t. if t then 5 else 0) came_back, refl)
+
+-- ---- what is made before the first turn
+
+-- one item is under way from 0 to 1, on links that hold one, or two of them
+abbrev under : List Item → LinksView
+under items = record {
+  net = two_nodes;
+  places = record { nodes = 2; values = 0 ∷ 1 ∷ 2 ∷ 0 ∷ [] };
+  links = link 0 [] ∷ link 1 items ∷ link 1 [] ∷ [];
+  spares = [];
+}
+
+row-within : AreWithin (under (Noise ∷ []))
+row-within = each-link (λ u v. length (under_way (under (Noise ∷ [])) u v) ≤ 1) (omega arith) (omega arith)
+
+not-within : AreWithin (under (Noise ∷ Noise ∷ [])) → ⊥
+not-within within = let few = within 0 1 refl in omega (arith, few)
+
+-- there is a runner for each node, and no event yet
+module _ {A : Type 0} (w : World) (turns : ℕ) (p : Prepared A) (some : 0 < w.net.nodes) where
+  not-without_runners : p.runners.items ≡ [] → IsPrepared w turns p → ⊥
+  not-without_runners none prepared = let count = rw none at prepared.runners.count in omega (arith, some, count)
+
+  not-with_events : 0 < length p.events.items → IsPrepared w turns p → ⊥
+  not-with_events more prepared = let none = ap length prepared.nothing in omega (arith, more, none)
+
+-- ---- two nodes that did one turn each on threads of their own
 
 -- what v sends in its first turn
 abbrev first_frame : ℕ → ℕ → Stamped
@@ -39,9 +161,7 @@ account (suc zero) = Ticked 1 ∷ Sent 0 (first_frame 1 0) ∷ []
 account (suc (suc v)) = []
 
 abbrev journal : ℕ → List Entry
-journal zero = record { stamp = 1; event = Tick 0 } ∷ record { stamp = 2; event = Send 0 1 } ∷ []
-journal (suc zero) = record { stamp = 1; event = Tick 1 } ∷ record { stamp = 2; event = Send 1 0 } ∷ []
-journal (suc (suc v)) = []
+journal v = map (entry_of v) (account v)
 
 abbrev events : List Event
 events = Tick 0 ∷ Tick 1 ∷ Send 0 1 ∷ Send 1 0 ∷ []
@@ -53,11 +173,6 @@ abbrev in_order : List Placed
 in_order =
     record { node = 0; entry = record { stamp = 1; event = Tick 0 } } ∷ record { node = 1; entry = record { stamp = 1; event = Tick 1 } }
     ∷ record { node = 0; entry = record { stamp = 2; event = Send 0 1 } } ∷ record { node = 1; entry = record { stamp = 2; event = Send 1 0 } } ∷ []
-
-said : AreOf account journal
-said zero = refl
-said (suc zero) = refl
-said (suc (suc v)) = refl
 
 complete : (v : ℕ) → entries_of v in_order ≡ journal v
 complete zero = refl
@@ -119,25 +234,11 @@ one-round v u =
       are_takes = ([], [], [], refl, inl refl, inl refl, refl);
     } in (Ticked 1 ∷ Sent u (first_frame v u) ∷ [], [], refl, round, refl)
 
-first-0 : IsFirstTurn start 0 (deeds_of 0 events)
-first-0 = record {
-  later = Send 0 1 ∷ [];
-  ticks = refl;
-  sends = All-cons (λ u. IsTrue (has_room start 0 u) → 0 < count_of (is_send_on 0 u) (before_tick (Send 0 1 ∷ []))) 1 [] (λ room. omega arith)
-      (All-nil (λ u. IsTrue (has_room start 0 u) → 0 < count_of (is_send_on 0 u) (before_tick (Send 0 1 ∷ []))));
-  takes = All-cons (λ u. min 2 (length (start.link u 0)) ≤ count_of (is_take_on u 0) (before_tick (Send 0 1 ∷ []))) 1 [] (omega arith)
-      (All-nil (λ u. min 2 (length (start.link u 0)) ≤ count_of (is_take_on u 0) (before_tick (Send 0 1 ∷ []))));
-}
-
-first-1 : IsFirstTurn start 1 (deeds_of 1 events)
-first-1 = record {
-  later = Send 1 0 ∷ [];
-  ticks = refl;
-  sends = All-cons (λ u. IsTrue (has_room start 1 u) → 0 < count_of (is_send_on 1 u) (before_tick (Send 1 0 ∷ []))) 0 [] (λ room. omega arith)
-      (All-nil (λ u. IsTrue (has_room start 1 u) → 0 < count_of (is_send_on 1 u) (before_tick (Send 1 0 ∷ []))));
-  takes = All-cons (λ u. min 2 (length (start.link u 1)) ≤ count_of (is_take_on u 1) (before_tick (Send 1 0 ∷ []))) 0 [] (omega arith)
-      (All-nil (λ u. min 2 (length (start.link u 1)) ≤ count_of (is_take_on u 1) (before_tick (Send 1 0 ∷ []))));
-}
+first-turn : (v u : ℕ) → neighbours_of two_nodes v ≡ u ∷ [] → start.link u v ≡ [] → IsFirstTurn start v (Tick v ∷ Send v u ∷ [])
+first-turn v u one empty =
+    let sent : All (λ w. IsTrue (has_room start v w) → 0 < count_of (is_send_on v w) (Send v u ∷ [])) (u ∷ []) = λ k d within room. grind (arith, common_steps) in
+    let taken : All (λ w. min 2 (length (start.link w v)) ≤ count_of (is_take_on w v) (Send v u ∷ [])) (u ∷ []) = λ k d within. grind (arith, common_steps, empty) in
+    record { later = Send v u ∷ []; ticks = refl; sends = rw one sent; takes = rw one taken }
 
 one-turn_each : IsThreadRun (λ v. 1) start events last
 one-turn_each = record {
@@ -147,11 +248,11 @@ one-turn_each = record {
   journal = journal;
   woven = woven;
   rising = rising;
-  said = said;
+  said = λ v. refl;
   matched = matched;
   rounds = each-node (λ v. AreRounds (neighbours_of two_nodes v) 1 (account v)) (one-round 0 1) (one-round 1 0);
   ticks = each-node (λ v. count_of (is_tick_of v) events ≡ 1) refl refl;
-  first = each-node (λ v. 0 < 1 → IsFirstTurn start v (deeds_of v events)) (λ some. first-0) (λ some. first-1);
+  first = each-node (λ v. 0 < 1 → IsFirstTurn start v (deeds_of v events)) (λ some. first-turn 0 1 refl refl) (λ some. first-turn 1 0 refl refl);
 }
 
 -- ---- what is no such run
