@@ -14,3 +14,4 @@ pub mod Settled
 mod Rows
 mod RowsPicture
 mod RowsShown
+mod RowsSettled

@@ -9,14 +9,16 @@ use Rattle.run_picture.proofs.Curves.{all_counts, first_more, map_length}
 
 -- one column more
 outline_longer : (page : Page) (base place : ℕ) (levels : List ℕ) (level : ℕ)
-    → settled_from page base place (levels ++ level ∷ []) ≡ settled_from page base place levels ++ settled_step page base (place + length levels) level
+    → settled_from page base place (levels ++ level ∷ [])
+    ≡ settled_from page base place levels ++ settled_step page base (place + length levels) level
 outline_longer page base place [] level =
     let here : place + length {A = ℕ} [] ≡ place = omega arith in
     append-nil (settled_step page base place level) ∙ ap (λ k. settled_step page base k level) (sym here)
 outline_longer page base place (l ∷ levels) level =
     let there : suc place + length levels ≡ place + length (l ∷ levels) = omega arith in
     ap (λ xs. settled_step page base place l ++ xs)
-    (outline_longer page base (suc place) levels level ∙ ap (λ k. settled_from page base (suc place) levels ++ settled_step page base k level) there)
+    (outline_longer page base (suc place) levels level
+    ∙ ap (λ k. settled_from page base (suc place) levels ++ settled_step page base k level) there)
     ∙ sym (append_assoc (settled_step page base place l) (settled_from page base (suc place) levels)
     (settled_step page base (place + length (l ∷ levels)) level))
 
@@ -34,8 +36,8 @@ outline_more page base f states place d within =
     ∙ ap (λ k. settled_from page base 0 (take place (map f states)) ++ settled_step page base k (f (slice_index_or states place d))) here
 
 -- the outline, if the step of one column more is added
-pub outline_added : (page : Page) (base : ℕ) (f : Layers → ℕ) (states : List Layers) (place : ℕ) (d : Layers) (level : ℕ) (start before after : List ℕ)
-    → place < length states → level ≡ f (slice_index_or states place d)
+pub outline_added : (page : Page) (base : ℕ) (f : Layers → ℕ) (states : List Layers) (place : ℕ) (d : Layers)
+    (level : ℕ) (start before after : List ℕ) → place < length states → level ≡ f (slice_index_or states place d)
     → before ≡ start ++ settled_from page base 0 (take place (map f states)) → after ≡ before ++ settled_step page base place level
     → after ≡ start ++ settled_from page base 0 (take (place + 1) (map f states))
 outline_added page base f states place d level start before after within is so_far added =
@@ -51,7 +53,8 @@ six_texts a b c d e f =
     ∙ ap (λ xs. a ++ xs) (append_assoc b (c ++ d) (e ++ f) ∙ ap (λ xs. b ++ xs) (append_assoc c d (e ++ f)))
 
 -- after the last column the outline goes down again, and is closed
-pub outline_closed : (page : Page) (base : ℕ) (f : Layers → ℕ) (states : List Layers) (place : ℕ) (start text all : List ℕ) → length states ≡ place
+pub outline_closed : (page : Page) (base : ℕ) (f : Layers → ℕ) (states : List Layers) (place : ℕ) (start text all : List ℕ)
+    → length states ≡ place
     → start ≡ codes "M" ++ (decimal page.left.0 ++ (codes " " ++ decimal base))
     → text ≡ start ++ settled_from page base 0 (take place (map f states))
     → all ≡ text ++ (codes "V" ++ (decimal base ++ codes "z")) → all ≡ settled_steps page base (map f states)

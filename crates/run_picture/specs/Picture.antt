@@ -1,5 +1,5 @@
 -- The picture of a run.
-use Rattle.std.specs.Prelude.{◌≡◌, ℕ, ◌+◌, ◌<◌, ◌⊎◌, false, Option, None, Some, List, [], ◌∷◌, ◌++◌, length, map, codes, decimal}
+use Rattle.std.specs.Prelude.{◌≡◌, ℕ, ◌+◌, ◌<◌, true, false, Option, None, Some, List, [], ◌∷◌, ◌++◌, length, map, codes, decimal}
 use Rattle.topology.specs.Network.{Network}
 use Rattle.svg_drawing.specs.declared.element.Drawing.{Drawing}
 use Rattle.run_picture.specs.declared.layout.page.Page.{Page}
@@ -59,17 +59,30 @@ pub record IsPicture (net : Network) (r : RecordingView) (drawing : Drawing) : T
   pub attributes : map given_of drawing.attributes.items ≡ page_attributes (page_of net (length r.strip.columns))
   pub elements : ShowsRun (page_of net (length r.strip.columns)) net r (map shown_of drawing.elements.items)
 
+-- What had settled at the last moment of the last column, if that is not full: it shows so many moments,
+-- and its last one is the end of the run, if the window holds that.
+pub data IsLastState (r : RecordingView) (left : ℕ) : List Layers → Type 0 where
+  AllFull : left ≡ 0 → IsLastState r left []
+  NotHeld : is_held r.window r.ended ≡ false → IsLastState r left []
+  AtEnd : (layers : Layers) → 0 < left → is_held r.window r.ended ≡ true
+      → AreLayersOf (world_of r.judge.configuration) layers → IsLastState r left (layers ∷ [])
+
+-- it is added to the states of full columns
+abbrev pub AddsLastState : RecordingView → ℕ → List Layers → List Layers → Type 0
+AddsLastState r left old new = (last : List Layers) × IsLastState r left last × (new ≡ old ++ last)
+
 -- These states are what had settled at the last moment of each column: of each full column as it was
--- kept, and of one that is not full, at the end, if the window holds that.
+-- kept, and of the last one.
 abbrev pub AreStates : RecordingView → Option LanesView → List Layers → Type 0
 AreStates r None states = states ≡ []
-AreStates r (Some lanes) states =
-    (last : List Layers) × (states ≡ lanes.states ++ last)
-    × ((last ≡ []) ⊎ ((layers : Layers) × (last ≡ layers ∷ []) × (0 < lanes.left) × AreLayersOf (world_of r.judge.configuration) layers))
-    × (last ≡ [] → (lanes.left ≡ 0) ⊎ (is_held r.window r.ended ≡ false))
+AreStates r (Some lanes) states = AddsLastState r lanes.left lanes.states states
 
 abbrev pub AreStatesOf : RecordingView → List Layers → Type 0
 AreStatesOf r states = AreStates r r.lanes states
+
+-- what stands below the picture: paper, and on it the lanes of what had settled
+abbrev pub below_shown : Page → List Layers → List Shown
+below_shown page states = rect_shown 0 (page_height page) (page_width page) 72 Paper ∷ all_lanes_shown page states
 
 -- The drawing is the picture of a recorded run, and below it are the lanes of what had settled at the
 -- last moment of each of its columns; its page is 72 higher.
@@ -80,6 +93,4 @@ pub record IsLayeredPicture (net : Network) (r : RecordingView) (drawing : Drawi
   pub attributes : map given_of drawing.attributes.items
       ≡ attributes_of (page_width (page_of net (length r.strip.columns))) (px (page_height (page_of net (length r.strip.columns)) + 72))
   pub shows : ShowsRun (page_of net (length r.strip.columns)) net r upper
-  pub elements : map shown_of drawing.elements.items
-      ≡ upper ++ (rect_shown 0 (page_height (page_of net (length r.strip.columns))) (page_width (page_of net (length r.strip.columns))) 72 Paper
-      ∷ all_lanes_shown (page_of net (length r.strip.columns)) states)
+  pub elements : map shown_of drawing.elements.items ≡ upper ++ below_shown (page_of net (length r.strip.columns)) states

@@ -59,7 +59,8 @@ settled_from page base place (level ∷ levels) = settled_step page base place l
 -- the outline of a lane: from its lower left corner along the levels, and down again
 abbrev pub settled_steps : Page → ℕ → List ℕ → List ℕ
 settled_steps page base levels =
-    codes "M" ++ (decimal page.left.0 ++ (codes " " ++ (decimal base ++ (settled_from page base 0 levels ++ (codes "V" ++ (decimal base ++ codes "z"))))))
+    codes "M" ++ (decimal page.left.0 ++ (codes " " ++ (decimal base
+    ++ (settled_from page base 0 levels ++ (codes "V" ++ (decimal base ++ codes "z"))))))
 
 -- the lane of a layer: its ground, over that where it stands, and left of it its name
 abbrev pub settled_lane_shown : Page → Layer → List Layers → List Shown

@@ -1,7 +1,8 @@
 //! A run laid out on a page.
 ghost use Rattle.std.specs.Prelude.{◌≡◌, ◌∷◌, ◌++◌, [], IfOk, OnOk, map, string_bytes};
 ghost use Rattle.svg_drawing.specs.Drawn.{given_of, numbered};
-ghost use Rattle.run_picture.specs.Picture.{attributes_of, AreStatesOf, IsLayeredPicture, IsPicture};
+ghost use Rattle.run_picture.specs.Picture.{attributes_of, AddsLastState, AreStatesOf};
+ghost use Rattle.run_picture.specs.Picture.{IsLayeredPicture, IsPicture};
 
 mod axis;
 mod curves;
@@ -85,12 +86,27 @@ fn states_of(alloc: Global, recording: &Recording) -> Result<Vec<Layers>, AllocE
         return Ok(states);
     };
     states.extend_from_slice(lanes.states())?;
-    if lanes.left() > 0 {
-        if let Some(last) = recording.settled_at_end() {
-            states.push(last)?;
-        }
-    }
+    put_last(&mut states, lanes.left(), recording)?;
     Ok(states)
+}
+
+/// Adds what has settled at the end, if so many moments, at least one, stand in no full column and the
+/// window holds the end.
+fn put_last(
+    states: &mut Vec<Layers>,
+    left: u64,
+    recording: &Recording,
+) -> Result<(), AllocError>
+    ensures { OnOk result (AddsLastState recording.now left states.old.items states.new.items) }
+{
+    if left == 0 {
+        return Ok(());
+    }
+    let Some(last) = recording.settled_at_end() else {
+        return Ok(());
+    };
+    states.push(last)?;
+    Ok(())
 }
 
 /// The attributes of the element that holds a page.

@@ -9,4 +9,6 @@ mod failures;
 #[cfg(test)]
 mod films;
 #[cfg(test)]
+mod lanes;
+#[cfg(test)]
 mod rows;

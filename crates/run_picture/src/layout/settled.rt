@@ -1,5 +1,5 @@
 //! What has settled, as four thin lanes below the picture.
-ghost use Rattle.std.specs.Prelude.{◌≡◌, ◌++◌, ◌<◌, ◌^◌, OnOk, IfOk, map, string_bytes};
+ghost use Rattle.std.specs.Prelude.{◌≡◌, ◌++◌, ◌<◌, ◌^◌, if◌then◌else◌, OnOk, IfOk, map, string_bytes};
 ghost use Rattle.svg_drawing.specs.Drawn.{drawn};
 ghost use Rattle.run_picture.specs.Settled.{all_lanes_shown, base_of, colour_of, share};
 ghost use Rattle.run_picture.specs.Settled.{lane_words, level_in, row_of, settled_lane_shown};

@@ -3,7 +3,7 @@ use Rattle.svg_drawing.specs.declared.colours.Colour.TheVariants.{Paper}
 use Rattle.svg_drawing.specs.Drawn.{rect_shown, shown_of}
 use Rattle.svg_drawing.specs.Lengths.{px}
 use Rattle.run_picture.specs.Page.{page_height, page_of, page_width}
-use Rattle.run_picture.specs.Picture.{attributes_of}
+use Rattle.run_picture.specs.Picture.{attributes_of, below_shown}
 use Rattle.run_picture.specs.Settled.{all_lanes_shown}
 use Rattle.run_picture.proofs.layout.draw_layered.Goals as goal
 
@@ -29,5 +29,5 @@ returns c =
       shows = c.in_ok-picture.ensures.elements;
       elements = lanes ∙ ap (λ xs. xs ++ all_lanes_shown page states) paper
           ∙ append_assoc upper (rect_shown 0 (page_height page) (page_width page) 72 Paper ∷ []) (all_lanes_shown page states)
-          ∙ ap (λ p. upper ++ (rect_shown 0 (page_height p) (page_width p) 72 Paper ∷ all_lanes_shown p states)) is_page;
+          ∙ ap (λ p. upper ++ below_shown p states) is_page;
     }

@@ -10,3 +10,9 @@ loop-place-preserved c =
     let added = rw c.base_of.ensures at c.in_ok-push_step.ensures in
     outline_added c.args.page (base_of c.args.page c.args.layer) (level_in c.args.layer) c.args.states.now c.loop-place.place _ c.level.result _ _ _
     within c.level.ensures c.loop-place.invariant added
+
+pub returns : goal.returns
+returns c =
+    let all : length c.args.states.now ≡ c.loop-place.place = grind (arith, common_steps) in
+    outline_closed c.args.page (base_of c.args.page c.args.layer) (level_in c.args.layer) c.args.states.now c.loop-place.place _ _ _ all
+    (grind (arith, common_steps)) c.loop-place.invariant (grind (arith, common_steps))
