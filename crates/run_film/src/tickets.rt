@@ -145,7 +145,7 @@ impl Words {
 
 /// So many parts of the way from a length to another.
 fn divided(a: Px, b: Px, part: u32, parts: u32) -> Px {
-    let left = u64::from(a.0) * u64::from(parts.saturating_sub(part));
-    let sum = left + u64::from(b.0) * u64::from(part);
-    Px((sum / u64::from(parts.max(1))) as u32)
+    let left = parts.saturating_sub(part);
+    let sum = a * left as usize + b * part as usize;
+    Px(sum.0 / parts.max(1))
 }
