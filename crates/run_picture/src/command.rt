@@ -3,6 +3,7 @@ ghost use Rattle.std.specs.Prelude.{◌≡◌, ◌⊎◌, IfOk, IfErr, OnOk};
 ghost use Rattle.std.specs.Process.{exit_status};
 ghost use Rattle.std.specs.Io.KnownBytes.{Appends};
 ghost use Rattle.command_parts.specs.declared.fault.Fault.TheVariants.{Output};
+ghost use Rattle.svg_drawing.specs.Xml.{IsContent};
 
 mod watched;
 
@@ -138,7 +139,10 @@ pub fn write_picture<S: Source, W: Write, D: Draws>(
 }
 
 /// The picture of a recording, as a text: with lanes of what has settled, if it has them.
-fn picture(alloc: Global, net: &Net, recording: &Recording) -> Result<Vec<u8>, AllocError> {
+fn picture(alloc: Global, net: &Net, recording: &Recording) -> Result<Vec<u8>, AllocError>
+    // It is an XML document whose tags nest.
+    ensures { IfOk result (λ text. IsContent text.items) }
+{
     let drawing = if recording.lanes().is_some() {
         draw_layered(alloc, net, recording)?
     } else {
