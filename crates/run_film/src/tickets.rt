@@ -25,7 +25,8 @@ pub fn ticket_place(net: &Net, stage: &Stage, v: u16) -> Point
 {
     let half = half_width(stage);
     for place in possible_places(stage, half, v) {
-        if is_clear_of_nodes(net, stage, place, half) && is_clear_of_lines(net, stage, place, half)
+        if is_clear_of_nodes(net, stage, place, half)
+            && is_clear_of_lines(net, stage, place, half)
         {
             return place;
         }
@@ -96,9 +97,7 @@ fn is_clear_of(node: Point, at: Point, half: Px) -> bool
 
 /// Whether they keep clear of the line of each edge.
 fn is_clear_of_lines(net: &Net, stage: &Stage, at: Point, half: Px) -> bool {
-    net.edges()
-        .iter()
-        .all(|edge| is_clear_of_line(&line_of(stage, edge.0, edge.1), at, half))
+    net.edges().iter().all(|edge| is_clear_of_line(&line_of(stage, edge.0, edge.1), at, half))
 }
 
 /// Whether they keep clear of a line.
@@ -121,16 +120,12 @@ impl Words {
     fn are_clear_of_part(self, from: Point, to: Point) -> bool {
         let long = (apart(from.x, to.x) + apart(from.y, to.y)).0;
         let parts = (long / 8 + 1).min(PARTS);
-        (0..parts + 1).all(
-            |part: u32| -> bool {
-                self.are_clear_of_point(
-                    Point {
-                        x: divided(from.x, to.x, part, parts),
-                        y: divided(from.y, to.y, part, parts),
-                    },
-                )
-            },
-        )
+        (0..parts + 1).all(|part: u32| -> bool {
+            self.are_clear_of_point(Point {
+                x: divided(from.x, to.x, part, parts),
+                y: divided(from.y, to.y, part, parts),
+            })
+        })
     }
 
     /// Whether they cover no place of a line, and none near to them.

@@ -92,11 +92,7 @@ fn states_of(alloc: Global, recording: &Recording) -> Result<Vec<Layers>, AllocE
 
 /// Adds what has settled at the end, if so many moments, at least one, stand in no full column and the
 /// window holds the end.
-fn put_last(
-    states: &mut Vec<Layers>,
-    left: u64,
-    recording: &Recording,
-) -> Result<(), AllocError>
+fn put_last(states: &mut Vec<Layers>, left: u64, recording: &Recording) -> Result<(), AllocError>
     ensures { OnOk result (AddsLastState recording.now left states.old.items states.new.items) }
 {
     if left == 0 {

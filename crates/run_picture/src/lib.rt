@@ -24,8 +24,7 @@ pub use byte_streams;
 pub use command_parts;
 pub use layout::{draw, draw_layered};
 pub use run_recording::{
-    Before, Column, Layers, Mark, Recording, Strip, Window, first_visits, record,
-    record_layers,
+    Before, Column, Layers, Mark, Recording, Strip, Window, first_visits, record, record_layers,
 };
 pub use svg_drawing::{Attribute, Drawing, Element, spelled};
 pub use topology;

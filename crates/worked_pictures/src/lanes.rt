@@ -18,9 +18,7 @@ fn layered(alloc: Global) -> Result<Recording, Fail> {
 #[test]
 fn lanes_fold_as_columns_do(rt: HostRuntime) -> Result<(), Fail> {
     let recording = layered(rt.alloc())?;
-    let seen = recording
-        .lanes()
-        .map(|lanes| (lanes.states().len(), lanes.width(), lanes.left()));
+    let seen = recording.lanes().map(|lanes| (lanes.states().len(), lanes.width(), lanes.left()));
     is_expected(&seen, &Some((2, 4, 1)))
 }
 
