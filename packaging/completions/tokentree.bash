@@ -46,9 +46,9 @@ _tokentree() {
     stop) flags='--timeout --help' valued='--timeout' places='DIR ID' ;;
     network) flags='--root --capacity --lease --edges --seed --help' valued='--root --capacity --lease --edges --seed' places='KIND N M' ;;
     schedule) flags='--scramble --rounds --random --seed --loss --clients --give-back --help' valued='--scramble --rounds --random --seed --loss --give-back' places='FILE' ;;
-    measure) flags='--runs --seed --rounds --random --table --csv --plot --json --help' valued='--runs --seed --plot' places='FILE' ;;
+    measure) flags='--runs --seed --rounds --random --schedule --share --table --csv --plot --json --help' valued='--runs --seed --schedule --share --plot' places='FILE' ;;
     worst) flags='--searches --steps --seed --events --help' valued='--searches --steps --seed --events' places='FILE' ;;
-    draw) flags='--columns --from --to --film --page --seconds --help' valued='--columns --from --to --seconds' places='FILE EVENTS' ;;
+    draw) flags='--columns --from --to --layers --film --page --seconds --help' valued='--columns --from --to --seconds' places='FILE EVENTS' ;;
     threads) flags='--events --help' valued='--events' places='FILE TURNS' ;;
     help)
         [ "$COMP_CWORD" -gt 2 ] || mapfile -t COMPREPLY < <(compgen -W 'bound simulate lock status scramble cut junk node up stop network schedule measure worst draw threads' -- "$current")
