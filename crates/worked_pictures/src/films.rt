@@ -198,16 +198,16 @@ fn a_frame_waits_once_it_was_sent(rt: HostRuntime) -> Result<(), Fail> {
     is_expected(&holds(film.as_slice(), b"m1-0"), &false)
 }
 
-/// Nodes 1 and 2 stand beside each other, 132 apart, at 426 and at 294: the tour comes to node 2 first. The words
-/// "lends to 5" are about 70 wide. To the right of node 2 is the line to node 1, so its ticket stands to the left:
-/// 24 and half of the words from its middle. That of node 1 stands to the right.
+/// Nodes 1 and 2 stand beside each other, 132 apart, at 426 and at 294: the tour comes to node 2 first. The widest
+/// words of a ticket, "lends to 65535", are taken to be 98 wide. To the right of node 2 is the line to node 1, so its
+/// ticket stands to the left: 24 and half of that width, 73, from its middle. That of node 1 stands to the right.
 #[test]
 fn a_ticket_keeps_clear_of_lines(rt: HostRuntime) -> Result<(), Fail> {
     let alloc = rt.alloc();
     let net = Net::make(alloc, 3, 0, 1, 0, &[(0, 1), (0, 2), (1, 2)])?;
     let film = filmed_text(alloc, &net, "harm desk 2 5 0 no\nharm desk 1 6 0 no\n")?;
-    let left = b"<use href=\"#t5\" x=\"235\" y=\"239\">";
+    let left = b"<use href=\"#t5\" x=\"221\" y=\"239\">";
     is_expected(&holds(film.as_slice(), left), &true)?;
-    let right = b"<use href=\"#t6\" x=\"485\" y=\"239\">";
+    let right = b"<use href=\"#t6\" x=\"499\" y=\"239\">";
     is_expected(&holds(film.as_slice(), right), &true)
 }
