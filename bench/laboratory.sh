@@ -34,6 +34,7 @@ for rounds in 0 2 4 6 8 10 15 20 30 40; do
             END { print "rounds " rounds ": distance/parent" said }'
 done
 
+"$tokentree" draw ring.toml run.txt --layers > layers.svg
 "$tokentree" measure ring.toml --runs 200 --csv --plot settled.svg | awk -F, '
     NR == 1 { for (i = 3; i <= NF; i++) name[i] = $i; next }
     { for (i = 3; i <= NF; i++) { sum[i] += $i; if ($i > most[i]) most[i] = $i } }
@@ -74,5 +75,6 @@ done
 
 if [ "${1:-}" = --pictures ]; then
     cp recovery.svg "$docs/recovery.svg"
+    cp layers.svg "$docs/layers.svg"
     cp settled.svg "$docs/settled.svg"
 fi
