@@ -10,7 +10,8 @@ pub struct RecordFile {
     pub side: Side,
 }
 
-/// Why records give no list of events. Nothing is written then, but in `Output` and `Memory` a beginning.
+/// Why records give no list of events. Nothing is written then; but in `Output`, `Memory` and `TooMany` a
+/// beginning may be.
 #[derive(Clone, Copy, Debug, PartialEq, Eq, Drop)]
 pub enum GatherFault {
     /// A node has no record, or an empty one.
@@ -27,6 +28,8 @@ pub enum GatherFault {
     Output,
     /// Memory ran out.
     Memory,
+    /// There are more entries than a number of 64 bits counts.
+    TooMany,
 }
 
 /// Where a file was not read to its end.

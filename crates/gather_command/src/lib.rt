@@ -18,17 +18,21 @@
 //! that a frame is taken after it was sent, is the order in which things happened.
 #![tactic(auto)]
 
+mod begun_file;
 mod fault;
-mod gather;
+mod gathered;
+pub mod laws;
 mod lines;
 mod node_record;
 mod records;
+mod sight;
 mod summary;
 mod watch;
+mod weaving;
 
 pub use fault::{Flaw, FlawKind, GatherFault, RecordFile};
 pub use flight_recorder::Side;
-pub use gather::{Gathered, gather};
+pub use gathered::{Gathered, gather};
 pub use lines::{FaultLine, FlawLine};
 pub use records::{MemoryRecord, MemoryRecords, Opened, Records};
 pub use summary::Summary;

@@ -1,7 +1,20 @@
 //! What is said of records on standard error.
+ghost use Rattle.std.specs.Prelude.{◌≡◌};
+ghost use Rattle.flight_recorder.specs.Names.{side_number};
+
 use crate::fault::{Flaw, FlawKind, GatherFault, RecordFile};
 use flight_recorder::Side;
 use std::fmt;
+
+/// The number of a file of a record.
+fn side_number(side: Side) -> u8
+    ensures { result ≡ side_number side }
+{
+    match side {
+        Side::First => 0,
+        Side::Second => 1,
+    }
+}
 
 /// The name of a file of a record, in its folder.
 #[derive(Clone, Copy)]
@@ -11,12 +24,15 @@ struct Name<'a> {
 }
 
 impl fmt::Display for Name<'_> {
+    ghost use Rattle.std.specs.Prelude.{Some};
+    ghost use Rattle.gather_command.specs.Lines.{file_name};
+
+    ghost output = { λ name. Some (file_name name.dir.now name.file) };
+
     fn fmt<W: fmt::Write>(&self, f: &mut fmt::Formatter<W>) -> fmt::Result {
-        let number = match self.file.side {
-            Side::First => 0,
-            Side::Second => 1,
-        };
-        write!(f, "{}/record-{}.{number}", self.dir, self.file.node)
+        let (dir, node) = (self.dir, self.file.node);
+        let number = side_number(self.file.side);
+        write!(f, "{dir}/record-{node}.{number}")
     }
 }
 
@@ -30,6 +46,11 @@ pub struct FaultLine<'a> {
 }
 
 impl fmt::Display for FaultLine<'_> {
+    ghost use Rattle.std.specs.Prelude.{Some};
+    ghost use Rattle.gather_command.specs.Lines.{fault_line};
+
+    ghost output = { λ line. Some (fault_line line.dir.now line.fault) };
+
     fn fmt<W: fmt::Write>(&self, f: &mut fmt::Formatter<W>) -> fmt::Result {
         let dir = self.dir;
         match self.fault {
@@ -42,10 +63,17 @@ impl fmt::Display for FaultLine<'_> {
                 write!(f, "{} is of another network", Name { dir, file })
             }
             GatherFault::OtherNode(file, node) => {
-                write!(f, "{} is the record of node {node}", Name { dir, file })
+                f.write(Name { dir, file })?;
+                f.write_str(" is the record of node ")?;
+                f.write(node)
             }
             GatherFault::Output => f.write_str("output Refused"),
             GatherFault::Memory => f.write_str("memory Refused"),
+            GatherFault::TooMany => {
+                f.write_str("the records in ")?;
+                f.write_str(dir)?;
+                f.write_str(" have too many entries")
+            }
         }
     }
 }
@@ -60,6 +88,11 @@ pub struct FlawLine<'a> {
 }
 
 impl fmt::Display for FlawLine<'_> {
+    ghost use Rattle.std.specs.Prelude.{Some};
+    ghost use Rattle.gather_command.specs.Lines.{flaw_line};
+
+    ghost output = { λ line. Some (flaw_line line.dir.now line.flaw) };
+
     fn fmt<W: fmt::Write>(&self, f: &mut fmt::Formatter<W>) -> fmt::Result {
         let name = Name {
             dir: self.dir,

@@ -1,68 +1,67 @@
 //! The record of one node, entry by entry.
+ghost use Rattle.std.specs.Prelude.{◌≡◌, [], ◌∷◌, nat_lt};
+ghost use Rattle.gather_command.specs.Reading.{MayFail, Reads, Begins, OpensNoMore};
+ghost use Rattle.gather_command.specs.Records.{flaw_at, IsOpened, at_first, of_files, IsReadBy};
+ghost use Rattle.gather_command.specs.Records.{after_file, GoesOn};
+
+use crate::begun_file::{BegunFile, begin_file};
 use crate::fault::{Flaw, FlawKind, GatherFault, RecordFile};
-use crate::records::{Opened, Records};
+use crate::records::Records;
 use flight_recorder::Side;
+use record_pages::Stop;
 use record_pages::byte_streams::Source;
-use record_pages::flight_records::{Entry, LastFrames, Noted, StatePart};
-use record_pages::{PageReader, Stop};
+use record_pages::flight_records::{Entry, LastFrames};
 use std::alloc::Global;
+use std::marker::Model;
 
-/// A file of a record, of which the first entry is read.
+/// The record of one node: its files, the earlier one first, and the entry that comes next. At most a
+/// page of each file is in memory.
 #[derive(Drop)]
-struct BegunFile<S: Drop> {
-    file: RecordFile,
-    pages: PageReader<S>,
-    first: Entry,
-}
-
-/// The record of one node: its files, the earlier one first, and the entry that comes next.
-#[derive(Drop)]
-pub struct NodeRecord<S: Drop> {
-    now: BegunFile<S>,
+pub struct NodeRecord<S: Source + Drop> {
+    present: BegunFile<S>,
     later: Option<BegunFile<S>>,
     frames: LastFrames,
     head: Option<Entry>,
-    flaws: [Option<Flaw>; 2],
+    /// What was wrong with the file that was read before this one.
+    earlier: Option<Flaw>,
+    /// What is wrong with this one, once it is read.
+    flaw: Option<Flaw>,
 }
 
-/// Whether an entry is the start of a state of this node, of the network with this number.
-fn check_start(entry: &Entry, file: RecordFile, mark: u32) -> Result<(), GatherFault> {
-    match entry.noted {
-        Noted::State(StatePart::Start { network, .. }) if network != mark => {
-            Err(GatherFault::OtherNetwork(file))
-        }
-        Noted::State(StatePart::Start { node, .. }) if node != file.node => {
-            Err(GatherFault::OtherNode(file, node))
-        }
-        Noted::State(StatePart::Start { .. }) => Ok(()),
-        _ => Err(GatherFault::NoRecord(file)),
+impl<S: Source + Drop> Model for NodeRecord<S> {
+    ghost use Rattle.gather_command.specs.View.{NodeRecordView};
+
+    ghost Value = { NodeRecordView };
+
+    ghost view = { λ r. record {
+      present = r.present;
+      later = r.later;
+      frames = r.frames;
+      head = r.head;
+      earlier = r.earlier;
+      flaw = r.flaw;
+    } };
+}
+
+/// What is wrong with a file, of which an entry of this instant was read last.
+fn flaw_at(file: RecordFile, instant: u64, kind: Option<FlawKind>) -> Option<Flaw>
+    ensures { result ≡ flaw_at file instant kind }
+{
+    match kind {
+        Some(kind) => Some(Flaw {
+            file,
+            kind,
+            instant,
+        }),
+        None => None,
     }
 }
 
-/// Opens a file of a record and reads its first entry; none if the file is not there, or is empty.
-fn begin_file<R: Records>(
-    alloc: Global,
-    records: &mut R,
-    file: RecordFile,
-    mark: u32,
-) -> Result<Option<BegunFile<R::File>>, GatherFault> {
-    let source = match records.open(file.node, file.side) {
-        Opened::File(source) => source,
-        Opened::Absent => return Ok(None),
-        Opened::Unreadable => return Err(GatherFault::Unreadable(file)),
-    };
-    let Ok(mut pages) = PageReader::new(alloc, source) else {
-        return Err(GatherFault::Memory);
-    };
-    match pages.next() {
-        Ok(first) => {
-            check_start(&first, file, mark)?;
-            Ok(Some(BegunFile { file, pages, first }))
-        }
-        Err(Stop::End) => Ok(None),
-        Err(Stop::Torn) | Err(Stop::Invalid) => Err(GatherFault::NoRecord(file)),
-        Err(Stop::Failed) => Err(GatherFault::Unreadable(file)),
-    }
+/// Whether the second file of a record is the earlier one.
+fn is_turned<S: Source + Drop>(first: &BegunFile<S>, second: &BegunFile<S>) -> bool
+    ensures { result ≡ nat_lt second.now.first.instant first.now.first.instant }
+{
+    second.first().instant < first.first().instant
 }
 
 impl<S: Source + Drop> NodeRecord<S> {
@@ -76,7 +75,12 @@ impl<S: Source + Drop> NodeRecord<S> {
         records: &mut R,
         node: u16,
         mark: u32,
-    ) -> Result<NodeRecord<S>, GatherFault> {
+    ) -> Result<NodeRecord<S>, GatherFault>
+        ensures opened { IsOpened (MayFail S.failures)
+            (Reads (R.opens records.old) S.rest (MayFail S.failures))
+            (Begins (R.opens records.old) S.rest) mark node result }
+        ensures same { OpensNoMore (R.opens records.old) (R.opens records.new) }
+    {
         let first = RecordFile {
             node,
             side: Side::First,
@@ -87,74 +91,112 @@ impl<S: Source + Drop> NodeRecord<S> {
         };
         let first = begin_file(alloc, records, first, mark)?;
         let second = begin_file(alloc, records, second, mark)?;
+        NodeRecord::of_files(node, first, second)
+    }
+
+    /// A node's record of these files, of which each may be none.
+    fn of_files(
+        node: u16,
+        first: Option<BegunFile<S>>,
+        second: Option<BegunFile<S>>,
+    ) -> Result<NodeRecord<S>, GatherFault>
+        ensures { result ≡ of_files node first second }
+    {
         match (first, second) {
-            (Some(first), Some(second)) if second.first.instant < first.first.instant => {
-                Ok(NodeRecord::begin(second, Some(first)))
+            (Some(first), Some(second)) if is_turned(&first, &second) => {
+                Ok(NodeRecord::at_first(second, Some(first)))
             }
-            (Some(first), second) => Ok(NodeRecord::begin(first, second)),
-            (None, Some(second)) => Ok(NodeRecord::begin(second, None)),
+            (Some(first), second) => Ok(NodeRecord::at_first(first, second)),
+            (None, Some(second)) => Ok(NodeRecord::at_first(second, None)),
             (None, None) => Err(GatherFault::Absent(node)),
         }
     }
 
-    /// A record of these files.
-    fn begin(now: BegunFile<S>, later: Option<BegunFile<S>>) -> NodeRecord<S> {
-        let head = Some(now.first);
+    /// A record at its first entry, of these files.
+    fn at_first(now: BegunFile<S>, later: Option<BegunFile<S>>) -> NodeRecord<S>
+        ensures { result ≡ at_first now later }
+    {
+        let head = Some(now.first());
         NodeRecord {
-            now,
+            present: now,
             later,
             frames: LastFrames::new(),
             head,
-            flaws: [None; 2],
+            earlier: None,
+            flaw: None,
         }
     }
 
     /// The next entry, with its frame in full; none at the record's end.
-    pub fn head(&self) -> Option<Entry> {
+    pub fn head(&self) -> Option<Entry>
+        ensures { result ≡ self.now.head }
+    {
         self.head
     }
 
-    /// Where the files were not read to their ends.
-    pub fn flaws(&self) -> &[Option<Flaw>] {
-        &self.flaws
+    /// Where the files were not read to their ends, the earlier one first.
+    pub fn flaws(&self) -> [Option<Flaw>; 2]
+        ensures { result ≡ self.now.earlier ∷ self.now.flaw ∷ [] }
+    {
+        [self.earlier, self.flaw]
     }
 
-    /// Reads on.
-    pub fn advance(&mut self) {
-        let last = match self.head {
-            Some(entry) => entry.instant,
-            None => return,
+    /// Passes over the next entry.
+    pub fn advance(&mut self)
+        ensures { GoesOn (MayFail S.failures) self.old self.new }
+    {
+        let Some(passed) = self.head else {
+            return;
         };
-        self.head = match self.now.pages.next() {
-            Ok(entry) => match self.frames.lengthen(&entry.noted) {
-                Some(noted) => Some(Entry {
+        match self.read_on() {
+            Ok(entry) => self.head = Some(entry),
+            Err(kind) => self.end_file(kind, passed.instant),
+        }
+    }
+
+    /// The next entry of the file, with its frame in full.
+    ///
+    /// # Errors
+    /// What is wrong with the file, if it was not read to its end; else none.
+    fn read_on(&mut self) -> Result<Entry, Option<FlawKind>>
+        ensures read { IsReadBy (MayFail S.failures) self.old result self.new }
+        ensures file { self.new.present.file ≡ self.old.present.file }
+        ensures same { self.new
+            ≡ record self.old { present = self.new.present; frames = self.new.frames } }
+    {
+        match self.present.next() {
+            Ok(entry) => {
+                let Some(noted) = self.frames.lengthen(&entry.noted) else {
+                    return Err(Some(FlawKind::Spoiled));
+                };
+                Ok(Entry {
                     instant: entry.instant,
                     noted,
-                }),
-                None => self.next_file(Some(FlawKind::Spoiled), last),
-            },
-            Err(Stop::End) => self.next_file(None, last),
-            Err(Stop::Torn) => self.next_file(Some(FlawKind::Torn), last),
-            Err(Stop::Invalid) => self.next_file(Some(FlawKind::Spoiled), last),
-            Err(Stop::Failed) => self.next_file(Some(FlawKind::Unreadable), last),
-        };
+                })
+            }
+            Err(Stop::End) => Err(None),
+            Err(Stop::Torn) => Err(Some(FlawKind::Torn)),
+            Err(Stop::Invalid) => Err(Some(FlawKind::Spoiled)),
+            Err(Stop::Failed) => Err(Some(FlawKind::Unreadable)),
+        }
     }
 
-    /// Goes on to the later file, if there is one: its first entry.
-    fn next_file(&mut self, kind: Option<FlawKind>, instant: u64) -> Option<Entry> {
-        let place = match self.later {
-            Some(_) => 0,
-            None => 1,
-        };
-        self.flaws[place] = kind.map(|kind| Flaw {
-            file: self.now.file,
-            kind,
-            instant,
-        });
-        let later = self.later.take()?;
-        self.frames = LastFrames::new();
-        let first = later.first;
-        self.now = later;
-        Some(first)
+    /// The file has ended: goes on to the later one, if there is one, at its first entry.
+    fn end_file(&mut self, kind: Option<FlawKind>, instant: u64)
+        ensures { self.new ≡ after_file kind instant self.old }
+    {
+        let flaw = flaw_at(self.present.file(), instant, kind);
+        match self.later.take() {
+            Some(later) => {
+                self.frames = LastFrames::new();
+                self.head = Some(later.first());
+                self.present = later;
+                self.earlier = flaw;
+            }
+            None => {
+                self.head = None;
+                self.flaw = flaw;
+            }
+        }
     }
 }

@@ -1,5 +1,6 @@
 //! What a recording shows, in numbers.
-use crate::fault::RecordFile;
+ghost use Rattle.std.specs.Prelude.{◌≡◌};
+
 use record_gathering::Found;
 use std::fmt;
 
@@ -20,16 +21,47 @@ pub struct Summary {
     pub longest_loan: u64,
 }
 
-impl fmt::Display for Summary {
+/// A number on a line of its own.
+#[derive(Clone, Copy)]
+struct NumberLine {
+    name: &'static str,
+    number: u64,
+}
+
+impl fmt::Display for NumberLine {
+    ghost use Rattle.std.specs.Prelude.{Some};
+    ghost use Rattle.gather_command.specs.Lines.{number_line};
+
+    ghost output = { λ line. Some (number_line line.name.now line.number) };
+
     fn fmt<W: fmt::Write>(&self, f: &mut fmt::Formatter<W>) -> fmt::Result {
-        writeln!(f, "nodes {}", self.nodes)?;
-        writeln!(f, "microseconds {}", self.stretch)?;
-        writeln!(f, "events {}", self.found.events)?;
-        writeln!(f, "lost {}", self.found.lost)?;
-        writeln!(f, "harms {}", self.found.harms)?;
-        writeln!(f, "forged {}", self.found.forged)?;
-        writeln!(f, "longest turn {}", self.longest_turn)?;
-        writeln!(f, "loans {}", self.loans)?;
-        writeln!(f, "longest loan {}", self.longest_loan)
+        let (name, number) = (self.name, self.number);
+        writeln!(f, "{name} {number}")
+    }
+}
+
+/// That line.
+fn line(name: &'static str, number: u64) -> NumberLine
+    ensures { result ≡ record { name = name; number = number } }
+{
+    NumberLine { name, number }
+}
+
+impl fmt::Display for Summary {
+    ghost use Rattle.std.specs.Prelude.{Some};
+    ghost use Rattle.gather_command.specs.Lines.{summary_text};
+
+    ghost output = { λ s. Some (summary_text s) };
+
+    fn fmt<W: fmt::Write>(&self, f: &mut fmt::Formatter<W>) -> fmt::Result {
+        f.write(line("nodes", u64::from(self.nodes)))?;
+        f.write(line("microseconds", self.stretch))?;
+        f.write(line("events", self.found.events))?;
+        f.write(line("lost", self.found.lost))?;
+        f.write(line("harms", self.found.harms))?;
+        f.write(line("forged", self.found.forged))?;
+        f.write(line("longest turn", self.longest_turn))?;
+        f.write(line("loans", self.loans))?;
+        f.write(line("longest loan", self.longest_loan))
     }
 }

@@ -1,0 +1,4 @@
+pub mod Files
+pub mod Opening
+pub mod Weaves
+pub mod Faithful
