@@ -2,3 +2,4 @@ pub mod Files
 pub mod Opening
 pub mod Weaves
 pub mod Faithful
+pub mod Sights

@@ -122,7 +122,7 @@ module _ (C : Type 0) (R : ℕ → Side → List Entry → Option FlawKind → T
   either : (b : Bool) (f s : FileView) → nat_lt s.first.instant f.first.instant ≡ b
       → IsBegunAs C R mark (record { node = v; side = First }) f
       → IsBegunAs C R mark (record { node = v; side = Second }) s
-      → IsOpened C R B mark v (if b then Ok (at_first s (Some f)) else Ok (at_first f (Some s)))
+      → IsOpened C R B mark v (Ok (if b then at_first s (Some f) else at_first f (Some s)))
   either true f s order x y = turned f s x y order
   either false f s order x y = in-turn f s x y order
 

@@ -23,7 +23,7 @@ fault_line dir (fault.OtherNode file v) =
     file_name dir file ++ (codes " is the record of node " ++ decimal v)
 fault_line dir fault.Output = codes "output Refused"
 fault_line dir fault.Memory = codes "memory Refused"
-fault_line dir fault.TooMany = codes "the records in " ++ (dir ++ codes " have too many entries")
+fault_line dir fault.TooMany = codes "too many entries in " ++ dir
 
 -- where a file was not read to its end, and why
 abbrev pub flaw_text : FlawKind → List ℕ → List ℕ → List ℕ

@@ -19,11 +19,6 @@ abbrev pub listed : {X : Type 0} → Option X → List X
 listed None = []
 listed (Some x) = x ∷ []
 
--- those that there are
-abbrev pub somes : {X : Type 0} → List (Option X) → List X
-somes [] = []
-somes (o ∷ os) = listed o ++ somes os
-
 -- the flaw of a file, of which an entry of this instant was read last
 abbrev pub flaw_at : RecordFile → ℕ → Option FlawKind → Option Flaw
 flaw_at file instant None = None
@@ -209,16 +204,23 @@ GoesOn Fails old new =
     (es : List Entry) (flaws : List Flaw) → IsToCome Fails new es flaws
     → IsToCome Fails old (listed old.head ++ es) flaws
 
+-- a record of two files: the earlier one comes first
+abbrev pub of_both : FileView → FileView → NodeRecordView
+of_both first second =
+    if nat_lt second.first.instant first.first.instant then at_first second (Some first)
+    else at_first first (Some second)
+
 -- a node's record of its two files, of which each may be none
 abbrev pub of_files : ℕ → Option FileView → Option FileView → Result NodeRecordView GatherFault
 of_files v None None = Err (fault.Absent v)
 of_files v None (Some second) = Ok (at_first second None)
 of_files v (Some first) None = Ok (at_first first None)
-of_files v (Some first) (Some second) =
-    if nat_lt second.first.instant first.first.instant then Ok (at_first second (Some first))
-    else Ok (at_first first (Some second))
+of_files v (Some first) (Some second) = Ok (of_both first second)
 
--- the flaws of records that are read to their ends
+-- the flaws of a record that is read to its end, and of records
+abbrev pub flaws_of : NodeRecordView → List Flaw
+flaws_of r = listed r.earlier ++ listed r.flaw
+
 abbrev pub flaws_in : List NodeRecordView → List Flaw
 flaws_in [] = []
-flaws_in (r ∷ rs) = (listed r.earlier ++ listed r.flaw) ++ flaws_in rs
+flaws_in (r ∷ rs) = flaws_of r ++ flaws_in rs

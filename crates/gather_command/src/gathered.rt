@@ -1,10 +1,12 @@
 //! The records of all nodes, woven into one list of events.
-ghost use Rattle.std.specs.Prelude.{◌≡◌, ◌++◌, ◌∷◌, [], IfOk, IfErr, OnOk, length};
+ghost use Rattle.std.specs.Prelude.{◌≡◌, ◌++◌, ◌∷◌, [], Some, IfOk, IfErr, OnOk, length};
 ghost use Rattle.record_pages.specs.byte_streams.Streams.{CountsFailures};
 ghost use Rattle.node_recorder.specs.Turns.{network_mark};
 ghost use Rattle.gather_command.specs.Reading.{MayFail, Reads, Begins, OpensNoMore};
 ghost use Rattle.gather_command.specs.Records.{IsFault};
-ghost use Rattle.gather_command.specs.Woven.{IsOneWoven, AreAllWoven};
+ghost use Rattle.gather_command.specs.Weave.{moment_at};
+ghost use Rattle.gather_command.specs.Woven.{IsOneWoven, AreAllWoven, IsTurn, HasWoven, IsBroken};
+ghost use Rattle.gather_command.specs.Woven.{world_in};
 ghost use Rattle.gather_command.specs.Gathered.{IsGathered, IsRefused, AreOpened};
 
 use crate::fault::{Flaw, GatherFault};
@@ -15,6 +17,7 @@ use crate::weaving::Weaving;
 use node_recorder::network_mark;
 use record_gathering::configuration::run_model::Event;
 use record_pages::byte_streams::{Failed, Source};
+use record_pages::flight_records::Entry;
 use schedules::EventSink;
 use std::alloc::{AllocError, Global};
 use topology::Net;
@@ -144,10 +147,29 @@ fn weave_next<S: Source + Drop, K: EventSink>(
     let Some((node, entry)) = weaving.turn() else {
         return Ok(false);
     };
-    weaving.notes(node, &entry, events)?;
+    weave_turn(weaving, node, &entry, events, sink)?;
+    Ok(true)
+}
+
+/// Weaves this entry, which comes next.
+fn weave_turn<S: Source + Drop, K: EventSink>(
+    weaving: &mut Weaving<S>,
+    node: u16,
+    entry: &Entry,
+    events: &mut Vec<Event>,
+    sink: &mut K,
+) -> Result<(), GatherFault>
+    requires { IsTurn weaving.old (Some (node, entry.now)) }
+    ensures woven { OnOk result (HasWoven (MayFail S.failures) K.takes K.failures weaving.old sink.old
+        (moment_at (world_in weaving.old) weaving.old.gathering.queues node entry.now ∷ [])
+        weaving.new sink.new) }
+    ensures broken { IfErr result (λ fault.
+        IsBroken fault (K.failures sink.old) (K.failures sink.new)) }
+{
+    weaving.notes(node, entry, events)?;
     give_all(events, sink)?;
     weaving.passes(node);
-    Ok(true)
+    Ok(())
 }
 
 /// Gives the sink these events, one by one.

@@ -69,11 +69,7 @@ impl fmt::Display for FaultLine<'_> {
             }
             GatherFault::Output => f.write_str("output Refused"),
             GatherFault::Memory => f.write_str("memory Refused"),
-            GatherFault::TooMany => {
-                f.write_str("the records in ")?;
-                f.write_str(dir)?;
-                f.write_str(" have too many entries")
-            }
+            GatherFault::TooMany => write!(f, "too many entries in {dir}"),
         }
     }
 }

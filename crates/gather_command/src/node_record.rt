@@ -1,8 +1,8 @@
 //! The record of one node, entry by entry.
-ghost use Rattle.std.specs.Prelude.{◌≡◌, [], ◌∷◌, nat_lt};
+ghost use Rattle.std.specs.Prelude.{◌≡◌};
 ghost use Rattle.gather_command.specs.Reading.{MayFail, Reads, Begins, OpensNoMore};
-ghost use Rattle.gather_command.specs.Records.{flaw_at, IsOpened, at_first, of_files, IsReadBy};
-ghost use Rattle.gather_command.specs.Records.{after_file, GoesOn};
+ghost use Rattle.gather_command.specs.Records.{flaw_at, IsOpened, at_first, of_both, of_files};
+ghost use Rattle.gather_command.specs.Records.{IsReadBy, after_file, GoesOn};
 
 use crate::begun_file::{BegunFile, begin_file};
 use crate::fault::{Flaw, FlawKind, GatherFault, RecordFile};
@@ -57,13 +57,6 @@ fn flaw_at(file: RecordFile, instant: u64, kind: Option<FlawKind>) -> Option<Fla
     }
 }
 
-/// Whether the second file of a record is the earlier one.
-fn is_turned<S: Source + Drop>(first: &BegunFile<S>, second: &BegunFile<S>) -> bool
-    ensures { result ≡ nat_lt second.now.first.instant first.now.first.instant }
-{
-    second.first().instant < first.first().instant
-}
-
 impl<S: Source + Drop> NodeRecord<S> {
     /// The record of a node of the network with this number.
     ///
@@ -103,12 +96,21 @@ impl<S: Source + Drop> NodeRecord<S> {
         ensures { result ≡ of_files node first second }
     {
         match (first, second) {
-            (Some(first), Some(second)) if is_turned(&first, &second) => {
-                Ok(NodeRecord::at_first(second, Some(first)))
-            }
-            (Some(first), second) => Ok(NodeRecord::at_first(first, second)),
+            (Some(first), Some(second)) => Ok(NodeRecord::of_both(first, second)),
+            (Some(first), None) => Ok(NodeRecord::at_first(first, None)),
             (None, Some(second)) => Ok(NodeRecord::at_first(second, None)),
             (None, None) => Err(GatherFault::Absent(node)),
+        }
+    }
+
+    /// A record of these files: the earlier one comes first.
+    fn of_both(first: BegunFile<S>, second: BegunFile<S>) -> NodeRecord<S>
+        ensures { result ≡ of_both first second }
+    {
+        if second.first().instant < first.first().instant {
+            NodeRecord::at_first(second, Some(first))
+        } else {
+            NodeRecord::at_first(first, Some(second))
         }
     }
 
@@ -134,11 +136,18 @@ impl<S: Source + Drop> NodeRecord<S> {
         self.head
     }
 
-    /// Where the files were not read to their ends, the earlier one first.
-    pub fn flaws(&self) -> [Option<Flaw>; 2]
-        ensures { result ≡ self.now.earlier ∷ self.now.flaw ∷ [] }
+    /// What was wrong with the file in front of the one that is read now, if there is one.
+    pub fn earlier(&self) -> Option<Flaw>
+        ensures { result ≡ self.now.earlier }
     {
-        [self.earlier, self.flaw]
+        self.earlier
+    }
+
+    /// What was wrong with the last file.
+    pub fn flaw(&self) -> Option<Flaw>
+        ensures { result ≡ self.now.flaw }
+    {
+        self.flaw
     }
 
     /// Passes over the next entry.

@@ -42,7 +42,8 @@ impl fmt::Display for NumberLine {
 
 /// That line.
 fn line(name: &'static str, number: u64) -> NumberLine
-    ensures { result ≡ record { name = name; number = number } }
+    ensures name { result.name.now ≡ name.now }
+    ensures number { result.number ≡ number }
 {
     NumberLine { name, number }
 }

@@ -1,7 +1,7 @@
 //! A world that the entries of all records lead on.
 ghost use Rattle.std.specs.Prelude.{◌≡◌, ◌<◌, ◌++◌, IfOk, OnOk, length};
 ghost use Rattle.gather_command.specs.Reading.{MayFail};
-ghost use Rattle.gather_command.specs.Records.{somes, flaws_in};
+ghost use Rattle.gather_command.specs.Records.{listed, flaws_of, flaws_in};
 ghost use Rattle.gather_command.specs.Weave.{events_at};
 ghost use Rattle.gather_command.specs.Watch.{numbers_of};
 ghost use Rattle.gather_command.specs.View.{heads_in};
@@ -65,16 +65,39 @@ fn heads_of<S: Source + Drop>(
     Ok(heads)
 }
 
-/// The flaws of a node's record come after these.
-fn add_flaws(flaws: &mut Vec<Flaw>, more: &[Option<Flaw>]) -> Result<(), AllocError>
-    ensures { OnOk result (flaws.new.items ≡ flaws.old.items ++ somes more.now) }
+/// A flaw comes after these, if there is one.
+fn add_flaw(flaws: &mut Vec<Flaw>, more: Option<Flaw>) -> Result<(), AllocError>
+    ensures { OnOk result (flaws.new.items ≡ flaws.old.items ++ listed more) }
 {
-    for flaw in more {
-        if let Some(flaw) = flaw {
-            flaws.push(*flaw)?;
-        }
+    if let Some(flaw) = more {
+        flaws.push(flaw)?;
     }
     Ok(())
+}
+
+/// The flaws of a node's record come after these.
+fn add_flaws<S: Source + Drop>(
+    flaws: &mut Vec<Flaw>,
+    node: &NodeRecord<S>,
+) -> Result<(), AllocError>
+    ensures { OnOk result (flaws.new.items ≡ flaws.old.items ++ flaws_of node.now) }
+{
+    add_flaw(flaws, node.earlier())?;
+    add_flaw(flaws, node.flaw())
+}
+
+/// The flaws of records, by their nodes.
+fn flaws_in<S: Source + Drop>(
+    alloc: Global,
+    nodes: &[NodeRecord<S>],
+) -> Result<Vec<Flaw>, AllocError>
+    ensures { IfOk result (λ flaws. flaws.items ≡ flaws_in nodes.now) }
+{
+    let mut flaws = Vec::new(alloc);
+    for node in nodes {
+        add_flaws(&mut flaws, node)?;
+    }
+    Ok(flaws)
 }
 
 impl<S: Source + Drop> Weaving<S> {
@@ -119,6 +142,8 @@ impl<S: Source + Drop> Weaving<S> {
     ) -> Result<(), AllocError>
         requires { node < (world_in self.old).net.nodes }
         ensures noted { OnOk result (IsNoted self.old node entry.now self.new) }
+        ensures nodes { OnOk result
+            ((world_in self.new).net.nodes ≡ (world_in self.old).net.nodes) }
         ensures events { OnOk result (events.new.items
             ≡ events_at (world_in self.old) self.old.gathering.queues node entry.now) }
     {
@@ -135,19 +160,17 @@ impl<S: Source + Drop> Weaving<S> {
         ensures { HasPassed (MayFail S.failures) self.old node self.new }
     {
         let place = usize::from(node);
-        self.nodes[place].advance();
-        self.heads[place] = self.nodes[place].head();
+        let opened = &mut self.nodes[place];
+        opened.advance();
+        let head = opened.head();
+        self.heads[place] = head;
     }
 
     /// The flaws of all records, by their nodes.
     pub fn flaws(&self, alloc: Global) -> Result<Vec<Flaw>, AllocError>
         ensures { IfOk result (λ flaws. flaws.items ≡ flaws_in self.now.records) }
     {
-        let mut flaws = Vec::new(alloc);
-        for node in &self.nodes {
-            add_flaws(&mut flaws, &node.flaws())?;
-        }
-        Ok(flaws)
+        flaws_in(alloc, &self.nodes)
     }
 
     /// What was seen of so many nodes, in numbers.

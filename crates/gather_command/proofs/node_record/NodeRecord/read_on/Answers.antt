@@ -1,3 +1,4 @@
+use Rattle.std.proofs.Common.{arith}
 use Rattle.record_pages.specs.declared.stop.Stop.TheVariants as stop
 use Rattle.gather_command.specs.Reading.{MayFail}
 use Rattle.gather_command.proofs.Files.{read-further, nameless, stops-at}
