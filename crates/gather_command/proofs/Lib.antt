@@ -3,3 +3,5 @@ pub mod Opening
 pub mod Weaves
 pub mod Faithful
 pub mod Sights
+pub mod Gathers
+pub mod Rows

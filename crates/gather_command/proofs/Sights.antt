@@ -1,6 +1,6 @@
 -- What is watched stays watched, and flaws are listed one after the other.
-use Rattle.std.proofs.Common.{◌≡◌, ◌∙◌, ap, sym, refl, subst, ℕ, Bool, true, false, List, [], ◌∷◌, ◌++◌, Option, Some, ◌<◌, length, append_assoc, map}
-use Rattle.std.proofs.lemmas.List.{length-set, append-nil, map-append}
+use Rattle.std.proofs.Common.{◌≡◌, ◌∙◌, ap, sym, refl, subst, ℕ, Bool, true, false, List, [], ◌∷◌, ◌++◌, Option, Some, ◌<◌, ◌+◌, length, take, append_assoc, map}
+use Rattle.std.proofs.lemmas.List.{length-set, append-nil, take_more}
 use Rattle.std.proofs.lemmas.Option.{slice_get-get_or}
 use Rattle.std.specs.Prelude.{if◌then◌else◌, slice_set, slice_get, slice_index_or}
 use Rattle.record_gathering.specs.flight_records.declared.entry.Entry.{Entry}
@@ -40,3 +40,11 @@ pub got : (rs : List NodeRecordView) (v p : ℕ) (r : NodeRecordView) → p ≡ 
     → slice_get rs v ≡ Some r
 got rs v p r e l value =
     slice_get-get_or rs v r l ∙ ap Some (subst (λ (n : ℕ). slice_index_or rs n r ≡ r) e (sym value))
+
+pub flaws-step : (rs : List NodeRecordView) (i : ℕ) (r : NodeRecordView) (old new : List Flaw) → r ≡ slice_index_or rs i r
+    → i < length rs → new ≡ old ++ flaws_of r → old ≡ flaws_in (take i rs) → new ≡ flaws_in (take (i + 1) rs)
+flaws-step rs i r old new same l added before =
+    added ∙ ap (λ (x : List Flaw). x ++ flaws_of r) before
+    ∙ sym (ap flaws_in (take_more rs i r l)
+    ∙ flaws-more (take i rs) (slice_index_or rs i r)
+    ∙ ap (λ (x : NodeRecordView). flaws_in (take i rs) ++ flaws_of x) (sym same))

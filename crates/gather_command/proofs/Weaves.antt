@@ -1,5 +1,5 @@
 -- Entries are woven one after the other.
-use Rattle.std.proofs.Common.{◌≡◌, ◌∙◌, ap, sym, refl, subst, arith, ℕ, zero, suc, ◌+◌, ◌<◌, ◌≤◌, List, [], ◌∷◌, ◌++◌, Option, Some, None, Bool, true, false, inl, inr, map, length, drop, replicate, append_assoc}
+use Rattle.std.proofs.Common.{◌≡◌, ◌∙◌, ap, sym, refl, subst, arith, ℕ, zero, suc, ◌+◌, ◌<◌, ◌≤◌, List, [], ◌∷◌, ◌++◌, Option, Some, None, Result, Ok, Err, Bool, true, false, inl, inr, map, length, drop, replicate, append_assoc}
 use Rattle.std.proofs.lemmas.List.{append-nil}
 use Rattle.std.proofs.lemmas.List.Sums.{fold-append}
 use Rattle.std.specs.Prelude.{slice_get, slice_set, slice_index_or, fold}
@@ -15,7 +15,7 @@ use Rattle.gather_command.specs.WeavingView.{WeavingView}
 use Rattle.gather_command.specs.Records.{listed, flaws_in, ComesOf, ComesFrom, IsToCome, AreToCome, GoesOn}
 use Rattle.gather_command.specs.Weave.{Moment, moment_at, events_at, world_after, events_of, next_of, heads_of, without_next, IsWoven, NoneLeft, Next}
 use Rattle.gather_command.specs.Watch.{Seen, seen_after}
-use Rattle.gather_command.specs.Woven.{world_in, IsTurn, IsNoted, HasPassed, LeadsOn, HasWoven}
+use Rattle.gather_command.specs.Woven.{world_in, IsTurn, IsNoted, HasPassed, LeadsOn, HasWoven, IsOneWoven}
 
 -- ---- what is to come begins with the next entry
 
@@ -134,6 +134,13 @@ module _ {K : Type 0} (C : Type 0) (takes : K → List Event → K → Type 0) (
     seen = y.seen ∙ ap (λ (z : Seen). fold seen_after z ns) x.seen ∙ sym (fold-append seen_after a.seen ms ns);
     counted = omega (arith, x.counted, y.counted);
   }
+
+  -- one more entry was woven
+  pub woven-more : (a b c : WeavingView) (s t u : K) (ms : List Moment) (more : Bool) → more ≡ true
+      → HasWoven C takes failures a s ms b t → IsOneWoven C takes failures b t (Ok more) c u
+      → (ns : List Moment) × HasWoven C takes failures a s ns c u
+  woven-more a b c s t u ms true e x (m, y) = (ms ++ m ∷ [], both-woven a b c s t u ms (m ∷ []) x y)
+  woven-more a b c s t u ms false e x y = absurd (cc e)
 
   -- an entry became events, the sink took them, and the entry was passed over
   pub one-woven : (w mid new : WeavingView) (v : ℕ) (e : Entry) (events : List Event) (s t : K) → IsTurn w (Some (v, e))

@@ -1,6 +1,7 @@
 -- What is said of records, in lines: which files are refused or damaged, and the numbers of a recording.
 use Rattle.std.specs.Prelude.{ℕ, List, [], ◌∷◌, ◌++◌, codes, decimal}
 use Rattle.flight_recorder.specs.Names.{record_name}
+use Rattle.record_gathering.specs.declared.found.Found.{Found}
 use Rattle.gather_command.specs.declared.fault.RecordFile.{RecordFile}
 use Rattle.gather_command.specs.declared.fault.Flaw.{Flaw}
 use Rattle.gather_command.specs.declared.fault.FlawKind.{FlawKind}
@@ -40,15 +41,24 @@ flaw_line dir flaw = flaw_text flaw.kind (file_name dir flaw.file) (decimal flaw
 abbrev pub number_line : List ℕ → ℕ → List ℕ
 number_line name n = name ++ (codes " " ++ (decimal n ++ codes "\n"))
 
+-- the numbers of events
+abbrev pub found_text : Found → List ℕ
+found_text f =
+    number_line (codes "events") f.events
+    ++ (number_line (codes "lost") f.lost
+    ++ (number_line (codes "harms") f.harms
+    ++ number_line (codes "forged") f.forged))
+
+-- what was watched
+abbrev pub watch_text : Summary → List ℕ
+watch_text s =
+    number_line (codes "longest turn") s.longest_turn
+    ++ (number_line (codes "loans") s.loans
+    ++ number_line (codes "longest loan") s.longest_loan)
+
 -- the numbers of a recording, a line each
 abbrev pub summary_text : Summary → List ℕ
 summary_text s =
     number_line (codes "nodes") s.nodes
     ++ (number_line (codes "microseconds") s.stretch
-    ++ (number_line (codes "events") s.found.events
-    ++ (number_line (codes "lost") s.found.lost
-    ++ (number_line (codes "harms") s.found.harms
-    ++ (number_line (codes "forged") s.found.forged
-    ++ (number_line (codes "longest turn") s.longest_turn
-    ++ (number_line (codes "loans") s.loans
-    ++ number_line (codes "longest loan") s.longest_loan)))))))
+    ++ (found_text s.found ++ watch_text s))

@@ -48,6 +48,41 @@ fn line(name: &'static str, number: u64) -> NumberLine
     NumberLine { name, number }
 }
 
+/// The numbers of events, a line each.
+#[derive(Clone, Copy)]
+struct FoundLines(Found);
+
+impl fmt::Display for FoundLines {
+    ghost use Rattle.std.specs.Prelude.{Some};
+    ghost use Rattle.gather_command.specs.Lines.{found_text};
+
+    ghost output = { λ lines. Some (found_text lines.0) };
+
+    fn fmt<W: fmt::Write>(&self, f: &mut fmt::Formatter<W>) -> fmt::Result {
+        f.write(line("events", self.0.events))?;
+        f.write(line("lost", self.0.lost))?;
+        f.write(line("harms", self.0.harms))?;
+        f.write(line("forged", self.0.forged))
+    }
+}
+
+/// What was watched, a line each.
+#[derive(Clone, Copy)]
+struct WatchLines(Summary);
+
+impl fmt::Display for WatchLines {
+    ghost use Rattle.std.specs.Prelude.{Some};
+    ghost use Rattle.gather_command.specs.Lines.{watch_text};
+
+    ghost output = { λ lines. Some (watch_text lines.0) };
+
+    fn fmt<W: fmt::Write>(&self, f: &mut fmt::Formatter<W>) -> fmt::Result {
+        f.write(line("longest turn", self.0.longest_turn))?;
+        f.write(line("loans", self.0.loans))?;
+        f.write(line("longest loan", self.0.longest_loan))
+    }
+}
+
 impl fmt::Display for Summary {
     ghost use Rattle.std.specs.Prelude.{Some};
     ghost use Rattle.gather_command.specs.Lines.{summary_text};
@@ -57,12 +92,7 @@ impl fmt::Display for Summary {
     fn fmt<W: fmt::Write>(&self, f: &mut fmt::Formatter<W>) -> fmt::Result {
         f.write(line("nodes", u64::from(self.nodes)))?;
         f.write(line("microseconds", self.stretch))?;
-        f.write(line("events", self.found.events))?;
-        f.write(line("lost", self.found.lost))?;
-        f.write(line("harms", self.found.harms))?;
-        f.write(line("forged", self.found.forged))?;
-        f.write(line("longest turn", self.longest_turn))?;
-        f.write(line("loans", self.loans))?;
-        f.write(line("longest loan", self.longest_loan))
+        f.write(FoundLines(self.found))?;
+        f.write(WatchLines(*self))
     }
 }

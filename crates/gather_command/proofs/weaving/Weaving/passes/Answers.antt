@@ -21,7 +21,7 @@ invariant_of-self g c =
 pub returns : goal.returns
 returns g c =
     let nodes = c.self.inside.nodes.items in
-    let before = c.index_mut.result.now in
+    let before = c.index_mut-opened.result.now in
     let after = c.advance.new.self in
     let within : c.args.node < _ = subst (λ (n : ℕ). c.args.node < n) c.self.invariant.1 (rw (← c.self.view_is) at c.requires) in
     let now : ℕ → WeavingView = λ n. record {
@@ -30,5 +30,5 @@ returns g c =
       seen = c.self.inside.sight;
     } in
     rw (← c.self.view_is)
-    (before, after, got nodes c.args.node c.from-place.result before c.from-place.ensures within c.index_mut.ensures.value,
+    (before, after, got nodes c.args.node c.from-place.result before c.from-place.ensures within c.index_mut-opened.ensures.value,
     c.advance.ensures, ap now c.from-place.ensures)
