@@ -27,12 +27,12 @@ accepted-append : (w : World) (xs ys : List Event) → accepted w (xs ++ ys) ≡
 accepted-append w [] ys = refl
 accepted-append w (x ∷ xs) ys =
     let by : (b : Bool) → is_some (refusal w x) ≡ b
-          → (if b then accepted w (xs ++ ys) else x ∷ accepted (step w x) (xs ++ ys))
-          ≡ (if b then accepted w xs else x ∷ accepted (step w x) xs) ++ accepted (run (step w x) xs) ys =
-      elim [
-        | true ↦ λ r. accepted-append w xs ys ∙ ap (λ (v : World). accepted w xs ++ accepted (run v xs) ys) (sym (refused-stays w x r))
-        | false ↦ λ r. ap (λ (es : List Event). x ∷ es) (accepted-append (step w x) xs ys)
-      ] in
+    → (if b then accepted w (xs ++ ys) else x ∷ accepted (step w x) (xs ++ ys))
+    ≡ (if b then accepted w xs else x ∷ accepted (step w x) xs) ++ accepted (run (step w x) xs) ys =
+    elim [
+      | true ↦ λ r. accepted-append w xs ys ∙ ap (λ (v : World). accepted w xs ++ accepted (run v xs) ys) (sym (refused-stays w x r))
+      | false ↦ λ r. ap (λ (es : List Event). x ∷ es) (accepted-append (step w x) xs ys)
+    ] in
     by (is_some (refusal w x)) refl
 
 pub none-refused : AcceptedIsEnough → (w : World) (queues : List (List ℕ)) (records : List (List Entry)) (ms : List Moment)
@@ -136,8 +136,8 @@ complete stays w queues records all v (Next {v = u} {e = e} {ms = ms} turn head 
     let below : v < after.net.nodes = omega (arith, (stays w (events_at w queues u e)).nodes, l) in
     let more = complete stays after (queues_after queues u e.noted) (without_next records u) ms v rest below in
     let by : (b : Bool) → (u == v) ≡ b → (if b then e ∷ entries_of v ms else entries_of v ms) ≡ slice_index_or records v [] =
-      elim [
-        | true ↦ λ t. same-node records u v e (entries_of v ms) (same u v t) head more
-        | false ↦ λ t. more ∙ other-place records u v (drop 1 (slice_index_or records u [])) (others u v t)
-      ] in
+    elim [
+      | true ↦ λ t. same-node records u v e (entries_of v ms) (same u v t) head more
+      | false ↦ λ t. more ∙ other-place records u v (drop 1 (slice_index_or records u [])) (others u v t)
+    ] in
     by (u == v) refl

@@ -163,14 +163,19 @@ comes C r e es flaws h x =
 longer : (C : Type 0) (old new : NodeRecordView) (passed e : Entry) (more es : List Entry) (kind : Option FlawKind)
     (flaws : List Flaw) (later : Option FileView) → new.present.file ≡ old.present.file → new.earlier ≡ old.earlier
     → ComesOf C new later (e ∷ more) kind es flaws → ComesOf C old later (passed ∷ e ∷ more) kind (passed ∷ es) flaws
-longer C old new passed e more es kind flaws None f a (x, y) =
-    (ap (λ (l : List Entry). passed ∷ l) x,
-    y ∙ ap (λ (o : Option Flaw). listed o ++ listed (flaw_of new.present.file (e ∷ more) kind)) a
-    ∙ ap (λ (file : RecordFile). listed old.earlier ++ listed (flaw_of file (e ∷ more) kind)) f)
-longer C old new passed e more es kind flaws (Some later) f a (next, next_kind, on, x, y) =
-    (next, next_kind, on, ap (λ (l : List Entry). passed ∷ l) x,
-    y ∙ ap (λ (file : RecordFile). listed (flaw_of file (e ∷ more) kind)
-    ++ listed (flaw_of later.file (later.first ∷ next) next_kind)) f)
+longer C old new passed e more es kind flaws None f a (x, y) = (
+  ap (λ (l : List Entry). passed ∷ l) x,
+  y ∙ ap (λ (o : Option Flaw). listed o ++ listed (flaw_of new.present.file (e ∷ more) kind)) a
+      ∙ ap (λ (file : RecordFile). listed old.earlier ++ listed (flaw_of file (e ∷ more) kind)) f,
+)
+longer C old new passed e more es kind flaws (Some later) f a (next, next_kind, on, x, y) = (
+  next,
+  next_kind,
+  on,
+  ap (λ (l : List Entry). passed ∷ l) x,
+  y ∙ ap (λ (file : RecordFile). listed (flaw_of file (e ∷ more) kind)
+      ++ listed (flaw_of later.file (later.first ∷ next) next_kind)) f,
+)
 
 pub goes-further : (C : Type 0) (old new : NodeRecordView) (passed e : Entry) → old.head ≡ Some passed → new.head ≡ Some e
     → new.present.file ≡ old.present.file → new.earlier ≡ old.earlier → new.later ≡ old.later
@@ -180,31 +185,42 @@ pub goes-further : (C : Type 0) (old new : NodeRecordView) (passed e : Entry) �
 goes-further C old new passed e h i f a l read es flaws x =
     let y : ComesFrom C new (Some e) es flaws = subst (λ (o : Option Entry). ComesFrom C new o es flaws) i x in
     let (more, kind, on, z) = y in
-    comes C old passed es flaws h
-    (e ∷ more, kind, read more kind on,
-    subst (λ (o : Option FileView). ComesOf C old o (passed ∷ e ∷ more) kind (passed ∷ es) flaws) l
-    (longer C old new passed e more es kind flaws new.later f a z))
+    comes C old passed es flaws h (
+      e ∷ more,
+      kind,
+      read more kind on,
+      subst (λ (o : Option FileView). ComesOf C old o (passed ∷ e ∷ more) kind (passed ∷ es) flaws) l
+          (longer C old new passed e more es kind flaws new.later f a z),
+    )
 
 -- a record at the end of a file, with this one after it
 ends-with : (C : Type 0) (old s : NodeRecordView) (passed : Entry) (kind : Option FlawKind) (later : Option FileView)
     → s.present.file ≡ old.present.file → s.earlier ≡ old.earlier → (es : List Entry) (flaws : List Flaw)
     → IsToCome C (after_file_with later (flaw_at s.present.file passed.instant kind) s) es flaws
     → ComesOf C old later (passed ∷ []) kind (passed ∷ es) flaws
-ends-with C old s passed kind None f a es flaws (x, y) =
-    (ap (λ (l : List Entry). passed ∷ l) x,
-    y ∙ ap (λ (o : Option Flaw). listed o ++ listed (flaw_at s.present.file passed.instant kind)) a
-    ∙ ap (λ (file : RecordFile). listed old.earlier ++ listed (flaw_at file passed.instant kind)) f)
-ends-with C old s passed kind (Some later) f a es flaws (more, more_kind, on, (x, y)) =
-    (more, more_kind, on, ap (λ (l : List Entry). passed ∷ l) x,
-    y ∙ ap (λ (file : RecordFile). listed (flaw_at file passed.instant kind)
-    ++ listed (flaw_of later.file (later.first ∷ more) more_kind)) f)
+ends-with C old s passed kind None f a es flaws (x, y) = (
+  ap (λ (l : List Entry). passed ∷ l) x,
+  y ∙ ap (λ (o : Option Flaw). listed o ++ listed (flaw_at s.present.file passed.instant kind)) a
+      ∙ ap (λ (file : RecordFile). listed old.earlier ++ listed (flaw_at file passed.instant kind)) f,
+)
+ends-with C old s passed kind (Some later) f a es flaws (more, more_kind, on, (x, y)) = (
+  more,
+  more_kind,
+  on,
+  ap (λ (l : List Entry). passed ∷ l) x,
+  y ∙ ap (λ (file : RecordFile). listed (flaw_at file passed.instant kind)
+      ++ listed (flaw_of later.file (later.first ∷ more) more_kind)) f,
+)
 
 pub goes-over : (C : Type 0) (old s : NodeRecordView) (passed : Entry) (kind : Option FlawKind)
     → old.head ≡ Some passed → s.present.file ≡ old.present.file → s.earlier ≡ old.earlier → s.later ≡ old.later
     → IsReadOn C old.present.last old.frames old.present.bytes [] kind
     → GoesOn C old (after_file_with s.later (flaw_at s.present.file passed.instant kind) s)
 goes-over C old s passed kind h f a l on es flaws x =
-    comes C old passed es flaws h
-    ([], kind, on,
-    subst (λ (o : Option FileView). ComesOf C old o (passed ∷ []) kind (passed ∷ es) flaws) l
-    (ends-with C old s passed kind s.later f a es flaws x))
+    comes C old passed es flaws h (
+      [],
+      kind,
+      on,
+      subst (λ (o : Option FileView). ComesOf C old o (passed ∷ []) kind (passed ∷ es) flaws) l
+          (ends-with C old s passed kind s.later f a es flaws x),
+    )

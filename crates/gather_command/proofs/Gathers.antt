@@ -69,21 +69,22 @@ record-fault-as R S B D mark v f m b (inr (inr (e, x, y))) = inr (inr (e, m Firs
 -- ---- records are opened one after the other
 
 module _ (C : Type 0) (R : ℕ → Side → List Entry → Option FlawKind → Type 0) (mark : ℕ) where
-
   pub opened-none : (v : ℕ) → AreOpened C R mark v []
-  opened-none v entries flaws (e, f) =
-      (subst (λ (l : List (List Entry)). AreRecordsOf R mark v l flaws) (sym e)
-      (subst (λ (l : List Flaw). AreRecordsOf R mark v [] l) (sym f) NoMore),
-      ap length e)
+  opened-none v entries flaws (e, f) = (
+    subst (λ (l : List (List Entry)). AreRecordsOf R mark v l flaws) (sym e)
+        (subst (λ (l : List Flaw). AreRecordsOf R mark v [] l) (sym f) NoMore),
+    ap length e,
+  )
 
   opened-more : (v : ℕ) (r : NodeRecordView) (rest : List NodeRecordView)
       → ((es : List Entry) (flaws : List Flaw) → IsToCome C r es flaws → IsRecordOf R mark v es flaws)
       → AreOpened C R mark (suc v) rest → AreOpened C R mark v (r ∷ rest)
   opened-more v r rest one x entries flaws (es, ess, own, more, come, rest_come, e, f) =
-      let (records, n) = x ess more rest_come in
-      (subst (λ (l : List (List Entry)). AreRecordsOf R mark v l flaws) (sym e)
-      (subst (λ (l : List Flaw). AreRecordsOf R mark v (es ∷ ess) l) (sym f) (OneMore own more (one es own come) records)),
-      ap length e ∙ ap suc n)
+      let (records, n) = x ess more rest_come in (
+        subst (λ (l : List (List Entry)). AreRecordsOf R mark v l flaws) (sym e)
+            (subst (λ (l : List Flaw). AreRecordsOf R mark v (es ∷ ess) l) (sym f) (OneMore own more (one es own come) records)),
+        ap length e ∙ ap suc n,
+      )
 
   plus-one : (v : ℕ) → v + 1 ≡ suc v
   plus-one v = omega arith
@@ -116,7 +117,6 @@ broken-later (fault.OtherNode f v) a b c l x = x
 
 module _ {K : Type 0} (R : ℕ → Side → List Entry → Option FlawKind → Type 0) (B : ℕ → Side → Entry → Type 0)
     (failures : K → ℕ) (net : Network) (before after : K) where
-
   pub broken-refused : (f : GatherFault) → IsBroken f (failures before) (failures after)
       → IsRefused R B failures net before f after
   broken-refused fault.Output x = x
@@ -157,10 +157,10 @@ pub gathered : {K : Type 0} (C : Type 0) (R : ℕ → Side → List Entry → Op
 gathered C R takes failures net nodes start final before after ms summary flaws opened number at has none sum same =
     let all = was-all C start final ms has.leads none in
     let come : AreToCome C nodes all.before (flaws_in final.records) =
-      subst (λ (l : List NodeRecordView). AreToCome C l all.before (flaws_in final.records)) at.records_are all.come in
+    subst (λ (l : List NodeRecordView). AreToCome C l all.before (flaws_in final.records)) at.records_are all.come in
     let (records, n) = opened all.before (flaws_in final.records) come in
     let from_queues : IsWoven (world_in start) (replicate net.nodes []) all.before ms =
-      subst (λ (q : List (List ℕ)). IsWoven (world_in start) q all.before ms) at.queues all.woven in
+    subst (λ (q : List (List ℕ)). IsWoven (world_in start) q all.before ms) at.queues all.woven in
     record {
       entries = all.before;
       moments = ms;

@@ -41,7 +41,6 @@ named : (C : Type 0) (R : ℕ → Side → List Entry → Option FlawKind → Ty
 named C R mark v side f es kind b = ap (λ (file : RecordFile). listed (flaw_of file es kind)) b.name
 
 module _ (C : Type 0) (R : ℕ → Side → List Entry → Option FlawKind → Type 0) (B : ℕ → Side → Entry → Type 0) (mark v : ℕ) where
-
   only-second : (s : FileView) → R v First [] None → IsBegunAs C R mark (record { node = v; side = Second }) s
       → IsOpened C R B mark v (Ok (at_first s None))
   only-second s none b es flaws (more, kind, on, (x, y)) = record {
@@ -68,7 +67,7 @@ module _ (C : Type 0) (R : ℕ → Side → List Entry → Option FlawKind → T
     some = λ e. some-first f.first more (sym x ∙ e);
     entries = x ∙ sym (append-nil (f.first ∷ more));
     flaws_are = y ∙ named C R mark v First f (f.first ∷ more) kind b
-      ∙ sym (append-nil (listed (flaw_of (record { node = v; side = First }) (f.first ∷ more) kind)));
+        ∙ sym (append-nil (listed (flaw_of (record { node = v; side = First }) (f.first ∷ more) kind)));
   }
 
   in-turn : (f s : FileView) → IsBegunAs C R mark (record { node = v; side = First }) f
@@ -86,13 +85,13 @@ module _ (C : Type 0) (R : ℕ → Side → List Entry → Option FlawKind → T
         second_file = begun-file C R mark v Second s more more_kind d next;
         some = λ e. some-first f.first (own ++ s.first ∷ more) (sym x ∙ e);
         entries = subst (λ (t : Bool). es ≡ (if t then (s.first ∷ more) ++ (f.first ∷ own) else (f.first ∷ own) ++ (s.first ∷ more)))
-          (sym order) x;
+            (sym order) x;
         flaws_are = subst (λ (t : Bool). flaws ≡ (if t
-          then listed (flaw_of other (s.first ∷ more) more_kind) ++ listed (flaw_of file (f.first ∷ own) kind)
-          else listed (flaw_of file (f.first ∷ own) kind) ++ listed (flaw_of other (s.first ∷ more) more_kind)))
-          (sym order)
-          (y ∙ ap (λ (l : List Flaw). l ++ listed (flaw_of s.file (s.first ∷ more) more_kind)) (named C R mark v First f (f.first ∷ own) kind b)
-          ∙ ap (λ (l : List Flaw). listed (flaw_of file (f.first ∷ own) kind) ++ l) (named C R mark v Second s (s.first ∷ more) more_kind d));
+            then listed (flaw_of other (s.first ∷ more) more_kind) ++ listed (flaw_of file (f.first ∷ own) kind)
+            else listed (flaw_of file (f.first ∷ own) kind) ++ listed (flaw_of other (s.first ∷ more) more_kind)))
+            (sym order)
+            (y ∙ ap (λ (l : List Flaw). l ++ listed (flaw_of s.file (s.first ∷ more) more_kind)) (named C R mark v First f (f.first ∷ own) kind b)
+            ∙ ap (λ (l : List Flaw). listed (flaw_of file (f.first ∷ own) kind) ++ l) (named C R mark v Second s (s.first ∷ more) more_kind d));
       }
 
   turned : (f s : FileView) → IsBegunAs C R mark (record { node = v; side = First }) f
@@ -110,13 +109,13 @@ module _ (C : Type 0) (R : ℕ → Side → List Entry → Option FlawKind → T
         second_file = begun-file C R mark v Second s own kind d on;
         some = λ e. some-first s.first (own ++ f.first ∷ more) (sym x ∙ e);
         entries = subst (λ (t : Bool). es ≡ (if t then (s.first ∷ own) ++ (f.first ∷ more) else (f.first ∷ more) ++ (s.first ∷ own)))
-          (sym order) x;
+            (sym order) x;
         flaws_are = subst (λ (t : Bool). flaws ≡ (if t
-          then listed (flaw_of other (s.first ∷ own) kind) ++ listed (flaw_of file (f.first ∷ more) more_kind)
-          else listed (flaw_of file (f.first ∷ more) more_kind) ++ listed (flaw_of other (s.first ∷ own) kind)))
-          (sym order)
-          (y ∙ ap (λ (l : List Flaw). l ++ listed (flaw_of f.file (f.first ∷ more) more_kind)) (named C R mark v Second s (s.first ∷ own) kind d)
-          ∙ ap (λ (l : List Flaw). listed (flaw_of other (s.first ∷ own) kind) ++ l) (named C R mark v First f (f.first ∷ more) more_kind b));
+            then listed (flaw_of other (s.first ∷ own) kind) ++ listed (flaw_of file (f.first ∷ more) more_kind)
+            else listed (flaw_of file (f.first ∷ more) more_kind) ++ listed (flaw_of other (s.first ∷ own) kind)))
+            (sym order)
+            (y ∙ ap (λ (l : List Flaw). l ++ listed (flaw_of f.file (f.first ∷ more) more_kind)) (named C R mark v Second s (s.first ∷ own) kind d)
+            ∙ ap (λ (l : List Flaw). listed (flaw_of other (s.first ∷ own) kind) ++ l) (named C R mark v First f (f.first ∷ more) more_kind b));
       }
 
   either : (b : Bool) (f s : FileView) → nat_lt s.first.instant f.first.instant ≡ b

@@ -16,10 +16,10 @@ tick-length w v instant = length-set w.nodes v _
 lent-length : (w : WatchView) (v : ℕ) (lent : Option ℕ) (instant : ℕ) → length (with_lent w v lent instant).nodes ≡ length w.nodes
 lent-length w v lent instant =
     let by : (b : Bool) (x : WatchView) → length x.nodes ≡ length w.nodes → length (if b then w else x).nodes ≡ length w.nodes =
-      elim [
-        | true ↦ λ x e. refl
-        | false ↦ λ x e. e
-      ] in
+    elim [
+      | true ↦ λ x e. refl
+      | false ↦ λ x e. e
+    ] in
     by _ _ (length-set w.nodes v _)
 
 either-length : (b : Bool) (w x : WatchView) → length x.nodes ≡ length w.nodes → length (if b then x else w).nodes ≡ length w.nodes

@@ -58,8 +58,16 @@ was-to-come C (r ∷ rs) zero before after e g h on ess flaws (es, rest, own, mo
     let same : r ≡ before = cc g in
     record {
       before = (listed before.head ++ es) ∷ rest;
-      come = (listed before.head ++ es, rest, own, more,
-        subst (λ (b : NodeRecordView). IsToCome C b (listed before.head ++ es) own) (sym same) (on es own x), xs, refl, f);
+      come = (
+        listed before.head ++ es,
+        rest,
+        own,
+        more,
+        subst (λ (b : NodeRecordView). IsToCome C b (listed before.head ++ es) own) (sym same) (on es own x),
+        xs,
+        refl,
+        f,
+      );
       passed = ap (λ (l : List Entry). l ∷ rest) (one-passed before after e es h) ∙ sym k;
     }
 was-to-come C (r ∷ rs) (suc v) before after e g h on ess flaws (es, rest, own, more, x, xs, k, f) =
@@ -86,20 +94,22 @@ one-leads C w v e mid new (turn, head, number) noted (before, after, g, on, same
     let queues = w.gathering.queues in
     let got : slice_get w.records v ≡ Some before = ap (λ (l : List NodeRecordView). slice_get l v) (sym noted.records) ∙ g in
     let come_here : AreToCome C (slice_set w.records v after) entries flaws =
-      subst (λ (l : List NodeRecordView). AreToCome C (slice_set l v after) entries flaws) noted.records
-      (subst (λ (x : WeavingView). AreToCome C x.records entries flaws) same come) in
+    subst (λ (l : List NodeRecordView). AreToCome C (slice_set l v after) entries flaws) noted.records
+    (subst (λ (x : WeavingView). AreToCome C x.records entries flaws) same come) in
     let was = was-to-come C w.records v before after e got (head-at w.records v before e got head) on entries flaws come_here in
     let heads : heads_in w.records ≡ heads_of was.before = sym (heads-agree C w.records was.before flaws was.come) in
     let here : IsWoven (world_in mid) mid.gathering.queues entries later =
-      subst (λ (x : WeavingView). IsWoven (world_in x) x.gathering.queues entries later) same woven in
+    subst (λ (x : WeavingView). IsWoven (world_in x) x.gathering.queues entries later) same woven in
     let there : IsWoven (world_after world queues v e) (queues_after queues v e.noted) entries later =
-      subst (λ (x : World). IsWoven x (queues_after queues v e.noted) entries later) noted.world
-      (subst (λ (q : List (List ℕ)). IsWoven (world_in mid) q entries later) noted.queues here) in
-    (was.before, was.come,
-    Next (subst (λ (hs : List (Option Entry)). IsNext world hs world.net.nodes (Some v)) heads turn)
-    (subst (λ (hs : List (Option Entry)). head_of hs v ≡ Some e) heads head)
-    (subst (λ (ess : List (List Entry)). IsWoven (world_after world queues v e) (queues_after queues v e.noted) ess later)
-    (sym was.passed) there))
+    subst (λ (x : World). IsWoven x (queues_after queues v e.noted) entries later) noted.world
+    (subst (λ (q : List (List ℕ)). IsWoven (world_in mid) q entries later) noted.queues here) in (
+      was.before,
+      was.come,
+      Next (subst (λ (hs : List (Option Entry)). IsNext world hs world.net.nodes (Some v)) heads turn)
+          (subst (λ (hs : List (Option Entry)). head_of hs v ≡ Some e) heads head)
+          (subst (λ (ess : List (List Entry)). IsWoven (world_after world queues v e) (queues_after queues v e.noted) ess later)
+          (sym was.passed) there),
+    )
 
 -- ---- many entries
 
@@ -121,7 +131,6 @@ both-lead C a b c ms ns x y entries flaws later come woven =
 module _ {K : Type 0} (C : Type 0) (takes : K → List Event → K → Type 0) (failures : K → ℕ)
     (takes_none : (s : K) → takes s [] s)
     (takes_both : (a b c : K) (xs ys : List Event) → takes a xs b → takes b ys c → takes a (xs ++ ys) c) where
-
   pub none-woven : (w : WeavingView) (s : K) → HasWoven C takes failures w s [] w s
   none-woven w s = record { leads = none-leads C w; taken = takes_none s; seen = refl; counted = omega arith }
 
@@ -130,7 +139,7 @@ module _ {K : Type 0} (C : Type 0) (takes : K → List Event → K → Type 0) (
   both-woven a b c s t u ms ns x y = record {
     leads = both-lead C a b c ms ns x.leads y.leads;
     taken = subst (λ (es : List Event). takes s es u) (sym (events-append ms ns))
-      (takes_both s t u (events_of ms) (events_of ns) x.taken y.taken);
+        (takes_both s t u (events_of ms) (events_of ns) x.taken y.taken);
     seen = y.seen ∙ ap (λ (z : Seen). fold seen_after z ns) x.seen ∙ sym (fold-append seen_after a.seen ms ns);
     counted = omega (arith, x.counted, y.counted);
   }
@@ -150,7 +159,7 @@ module _ {K : Type 0} (C : Type 0) (takes : K → List Event → K → Type 0) (
   one-woven w mid new v e events s t turn noted passed same taken counted = record {
     leads = one-leads C w v e mid new turn noted passed;
     taken = subst (λ (es : List Event). takes s es t)
-      (same ∙ sym (append-nil (events_at (world_in w) w.gathering.queues v e))) taken;
+        (same ∙ sym (append-nil (events_at (world_in w) w.gathering.queues v e))) taken;
     seen = let (before, after, g, on, is) = passed in ap (λ (x : WeavingView). x.seen) is ∙ noted.seen;
     counted = counted;
   }
@@ -172,9 +181,16 @@ below-more n u l = omega (arith, l)
 ended : (C : Type 0) (rs : List NodeRecordView) → ((u : ℕ) → u < length rs → head_of (heads_in rs) u ≡ None)
     → AreToCome C rs (no_entries rs) (flaws_in rs)
 ended C [] none = (refl, refl)
-ended C (r ∷ rs) none =
-    ([], no_entries rs, listed r.earlier ++ listed r.flaw, flaws_in rs, ended-one C r (none zero (omega arith)),
-    ended C rs (λ u l. none (suc u) (below-more (length rs) u l)), refl, refl)
+ended C (r ∷ rs) none = (
+  [],
+  no_entries rs,
+  listed r.earlier ++ listed r.flaw,
+  flaws_in rs,
+  ended-one C r (none zero (omega arith)),
+  ended C rs (λ u l. none (suc u) (below-more (length rs) u l)),
+  refl,
+  refl,
+)
 
 -- all of what was to come was woven
 pub record WasAll (C : Type 0) (old : WeavingView) (ms : List Moment) (flaws : List Flaw) : Type 0 where
@@ -188,8 +204,8 @@ was-all C old new ms leads (none, number) =
     let rs = new.records in
     let come = ended C rs (λ u l. none u (subst (λ (n : ℕ). u < n) (sym number) l)) in
     let none_left : IsWoven (world_in new) new.gathering.queues (no_entries rs) [] =
-      NoneLeft (subst (λ (hs : List (Option Entry)). IsNext (world_in new) hs (world_in new).net.nodes None)
-      (sym (heads-agree C rs (no_entries rs) (flaws_in rs) come)) none) in
+    NoneLeft (subst (λ (hs : List (Option Entry)). IsNext (world_in new) hs (world_in new).net.nodes None)
+    (sym (heads-agree C rs (no_entries rs) (flaws_in rs) come)) none) in
     let (before, before_come, woven) = leads (no_entries rs) (flaws_in rs) [] come none_left in
     record {
       before = before;

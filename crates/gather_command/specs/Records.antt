@@ -62,9 +62,9 @@ pub record IsRecordOf (Reads : ℕ → Side → List Entry → Option FlawKind �
   pub flaws_are : flaws
       ≡ (if starts_earlier second first
       then listed (flaw_of (record { node = v; side = Second }) second second_kind)
-        ++ listed (flaw_of (record { node = v; side = First }) first first_kind)
+      ++ listed (flaw_of (record { node = v; side = First }) first first_kind)
       else listed (flaw_of (record { node = v; side = First }) first first_kind)
-        ++ listed (flaw_of (record { node = v; side = Second }) second second_kind))
+      ++ listed (flaw_of (record { node = v; side = Second }) second second_kind))
 
 -- the records of the nodes from v on give these entries, and have these flaws
 pub data AreRecordsOf (Reads : ℕ → Side → List Entry → Option FlawKind → Type 0) (mark : ℕ)

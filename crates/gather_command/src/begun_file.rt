@@ -126,4 +126,3 @@ pub fn begin_file<R: Records>(
         Opened::Unreadable => Err(GatherFault::Unreadable(file)),
     }
 }
-

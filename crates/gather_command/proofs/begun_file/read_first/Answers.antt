@@ -19,7 +19,7 @@ returns-in-Ok-next g c =
       name = refl;
       start = start;
       read = begins (MayFail g.S.Source.failures) (rest c.args.source) first c.args.mark c.args.file.node after left.reader start
-        (fresh rest pages.source c.args.source pages.page pages.reader (Ok first) after left.reader new.0 new.1 new.2 c.in-Ok-next.ensures.read);
+          (fresh rest pages.source c.args.source pages.page pages.reader (Ok first) after left.reader new.0 new.1 new.2 c.in-Ok-next.ensures.read);
     }
 
 pub returns-in-Err-End : goal.returns-in-Err-End
@@ -43,10 +43,12 @@ returns-in-Err-Torn g c =
     let left = c.next.new.self in
     let after = to_come (rest left.source) left.page in
     let s = c.in-Err-Torn.field-0 in
-    let new = c.in-Ok.ensures in
-    (refl, inl (stops-at (MayFail failures) 0 no_frames (rest c.args.source) s stop.Torn after left.reader c.in-Err-Torn.field-0-is
-    (fresh rest pages.source c.args.source pages.page pages.reader (Err s) after left.reader new.0 new.1 new.2 c.in-Err-Torn.ensures.read)
-    (may-fail failures pages.source left.source (Err s) c.in-Err-Torn.ensures.cause)))
+    let new = c.in-Ok.ensures in (
+      refl,
+      inl (stops-at (MayFail failures) 0 no_frames (rest c.args.source) s stop.Torn after left.reader c.in-Err-Torn.field-0-is
+          (fresh rest pages.source c.args.source pages.page pages.reader (Err s) after left.reader new.0 new.1 new.2 c.in-Err-Torn.ensures.read)
+          (may-fail failures pages.source left.source (Err s) c.in-Err-Torn.ensures.cause)),
+    )
 
 pub returns-in-Err-Invalid : goal.returns-in-Err-Invalid
 returns-in-Err-Invalid g c =
@@ -56,10 +58,12 @@ returns-in-Err-Invalid g c =
     let left = c.next.new.self in
     let after = to_come (rest left.source) left.page in
     let s = c.in-Err-Invalid.field-0 in
-    let new = c.in-Ok.ensures in
-    (refl, inr (inl (stops-at (MayFail failures) 0 no_frames (rest c.args.source) s stop.Invalid after left.reader c.in-Err-Invalid.field-0-is
-    (fresh rest pages.source c.args.source pages.page pages.reader (Err s) after left.reader new.0 new.1 new.2 c.in-Err-Invalid.ensures.read)
-    (may-fail failures pages.source left.source (Err s) c.in-Err-Invalid.ensures.cause))))
+    let new = c.in-Ok.ensures in (
+      refl,
+      inr (inl (stops-at (MayFail failures) 0 no_frames (rest c.args.source) s stop.Invalid after left.reader c.in-Err-Invalid.field-0-is
+          (fresh rest pages.source c.args.source pages.page pages.reader (Err s) after left.reader new.0 new.1 new.2 c.in-Err-Invalid.ensures.read)
+          (may-fail failures pages.source left.source (Err s) c.in-Err-Invalid.ensures.cause))),
+    )
 
 pub returns : goal.returns
 returns g c =
@@ -69,7 +73,9 @@ returns g c =
     let left = c.next.new.self in
     let after = to_come (rest left.source) left.page in
     let s = c.in-Err-Failed.field-0 in
-    let new = c.in-Ok.ensures in
-    (refl, stops-at (MayFail failures) 0 no_frames (rest c.args.source) s stop.Failed after left.reader c.in-Err-Failed.field-0-is
-    (fresh rest pages.source c.args.source pages.page pages.reader (Err s) after left.reader new.0 new.1 new.2 c.in-Err-Failed.ensures.read)
-    (may-fail failures pages.source left.source (Err s) c.in-Err-Failed.ensures.cause))
+    let new = c.in-Ok.ensures in (
+      refl,
+      stops-at (MayFail failures) 0 no_frames (rest c.args.source) s stop.Failed after left.reader c.in-Err-Failed.field-0-is
+          (fresh rest pages.source c.args.source pages.page pages.reader (Err s) after left.reader new.0 new.1 new.2 c.in-Err-Failed.ensures.read)
+          (may-fail failures pages.source left.source (Err s) c.in-Err-Failed.ensures.cause),
+    )

@@ -9,7 +9,7 @@ loop-event-preserved g c =
     let i = c.loop-event.event-index in
     record {
       taken = subst (λ (es : List Event). g.K.EventSink.takes c.args.sink.now es c.take.new.self)
-        (sym (take_more c.args.events.now i _ c.loop-event-test.true))
-        (g.met.K.EventSink.takes_both _ _ _ _ _ c.loop-event.invariant.taken more.taken);
+          (sym (take_more c.args.events.now i _ c.loop-event-test.true))
+          (g.met.K.EventSink.takes_both _ _ _ _ _ c.loop-event.invariant.taken more.taken);
       failures = omega (arith, c.loop-event.invariant.failures, more.cause);
     }

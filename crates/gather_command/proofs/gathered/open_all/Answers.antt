@@ -14,7 +14,7 @@ loop-node-init g c =
     let reads = Reads (g.R.Records.opens c.args.records.now) g.R.File.Source.rest fails in
     record {
       opened = λ rest x. subst (λ (l : List NodeRecordView). AreOpened fails reads (network_mark c.args.net.now) 0 (l ++ rest))
-        (sym c.new-nodes.ensures.items) x;
+          (sym c.new-nodes.ensures.items) x;
       all = ap length c.new-nodes.ensures.items;
       same = λ v side o x. x;
     }
@@ -30,12 +30,12 @@ loop-node-preserved g c =
     let held = c.loop-node.invariant in
     record {
       opened = next-opened fails (Reads before source fails) mark node c.loop-node.nodes.items c.add_record.new.nodes.items
-        c.in_ok-opened.opened held.opened
-        (λ es flaws x. subst (λ (n : ℕ). IsRecordOf (Reads before source fails) n node es flaws) c.network_mark-mark.ensures
-        (record-as (Reads now source fails) (Reads before source fails) c.network_mark-mark.result node es flaws
-        (λ s xs f y. reads-before before now source fails held.same node s xs f y)
-        (c.in_ok-opened.ensures.opened es flaws x)))
-        c.in_ok-add_record.ensures;
+          c.in_ok-opened.opened held.opened
+          (λ es flaws x. subst (λ (n : ℕ). IsRecordOf (Reads before source fails) n node es flaws) c.network_mark-mark.ensures
+          (record-as (Reads now source fails) (Reads before source fails) c.network_mark-mark.result node es flaws
+          (λ s xs f y. reads-before before now source fails held.same node s xs f y)
+          (c.in_ok-opened.ensures.opened es flaws x)))
+          c.in_ok-add_record.ensures;
       all = ap length c.in_ok-add_record.ensures ∙ length-append _ _ ∙ ap (λ (n : ℕ). n + 1) held.all;
       same = λ v side o x. held.same v side o (c.in_ok-opened.ensures.same v side o x);
     }

@@ -11,12 +11,13 @@ pub invariant_of-self : goal.invariant_of-self
 invariant_of-self g c =
     let nodes = c.self.inside.nodes.items in
     let i = c.from-place.result in
-    let after = c.advance.new.self in
-    (ap (λ (hs : List (Option Entry)). slice_set hs i c.head-head.result) c.self.invariant.0
-    ∙ ap (λ (o : Option Entry). slice_set (heads_in nodes) i o) c.head-head.ensures
-    ∙ sym (map-set (λ (r : NodeRecordView). r.head) nodes i after),
-    c.self.invariant.1 ∙ sym (length-set nodes i after),
-    c.self.invariant.2 ∙ sym (length-set nodes i after))
+    let after = c.advance.new.self in (
+      ap (λ (hs : List (Option Entry)). slice_set hs i c.head-head.result) c.self.invariant.0
+          ∙ ap (λ (o : Option Entry). slice_set (heads_in nodes) i o) c.head-head.ensures
+          ∙ sym (map-set (λ (r : NodeRecordView). r.head) nodes i after),
+      c.self.invariant.1 ∙ sym (length-set nodes i after),
+      c.self.invariant.2 ∙ sym (length-set nodes i after),
+    )
 
 pub returns : goal.returns
 returns g c =
@@ -29,6 +30,10 @@ returns g c =
       records = slice_set nodes n after;
       seen = c.self.inside.sight;
     } in
-    rw (← c.self.view_is)
-    (before, after, got nodes c.args.node c.from-place.result before c.from-place.ensures within c.index_mut-opened.ensures.value,
-    c.advance.ensures, ap now c.from-place.ensures)
+    rw (← c.self.view_is) (
+      before,
+      after,
+      got nodes c.args.node c.from-place.result before c.from-place.ensures within c.index_mut-opened.ensures.value,
+      c.advance.ensures,
+      ap now c.from-place.ensures,
+    )
