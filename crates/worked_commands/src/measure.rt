@@ -226,7 +226,7 @@ const LINK: Slow = Slow::Link { from: 0, to: 1 };
 /// that, so the ticks of the third round end the second sweep; and node 1 has its distance by its tick. So
 /// there are two sweeps in each two rounds.
 ///
-/// Who has all rounds is not slow, and who has none lets no sweep end.
+/// Whoever has all rounds is not slow, and whoever has none lets no sweep end.
 const SLOW: [SlowRow; 11] = [
     (NODE, 50, 0, (0, 1)),
     (NODE, 50, 1, (0, 1)),
