@@ -21,6 +21,7 @@ title "1. Damage, and recovery"
 "$tokentree" schedule ring.toml --scramble 7 --rounds 40 > run.txt
 "$tokentree" simulate ring.toml run.txt | grep -v '^link'
 "$tokentree" draw ring.toml run.txt > recovery.svg
+"$tokentree" draw ring.toml run.txt --film --page > recovery.html
 
 title "2. One layer above the other"
 for rounds in 0 2 4 6 8 10 15 20 30 40; do
@@ -58,6 +59,8 @@ for rounds in 1 2 3 4 5 6 7 8; do
     { cat six.txt; "$tokentree" schedule two.toml --rounds "$rounds"; } | "$tokentree" simulate two.toml - |
         awk -v rounds="$rounds" '$1 == "privileged" { print "rounds " rounds ": " $0 }'
 done
+"$tokentree" schedule two.toml --rounds 12 | cat six.txt - > values.txt
+"$tokentree" draw two.toml values.txt > values.svg
 
 title "4. The part of the distance"
 for kind in "line 16" "ring 16" "tree 16" "star 16" "complete 16"; do
@@ -66,15 +69,27 @@ for kind in "line 16" "ring 16" "tree 16" "star 16" "complete 16"; do
     "$tokentree" network $kind > network.toml
     echo "$kind: $(measured network.toml)"
 done
+for kind in line star; do
+    "$tokentree" network "$kind" 16 > network.toml
+    "$tokentree" measure network.toml --runs 200 --csv --plot "$kind-16.svg" > "$kind-16.csv"
+done
 
 title "5. The part of the capacity"
 for capacity in 1 4 16 64; do
     "$tokentree" network ring 5 --capacity "$capacity" > network.toml
     echo "capacity $capacity: $(measured network.toml)"
+    "$tokentree" measure network.toml --runs 200 --csv --plot "capacity-$capacity.svg" > "capacity-$capacity.csv"
 done
 
+title "6. How bad can it get?"
+"$tokentree" network line 4 > network.toml
+"$tokentree" worst network.toml --events late.txt | tee worst.txt
+"$tokentree" simulate network.toml late.txt | tail -n 1
+"$tokentree" draw network.toml late.txt > late.svg
+
 if [ "${1:-}" = --pictures ]; then
-    cp recovery.svg "$docs/recovery.svg"
-    cp layers.svg "$docs/layers.svg"
-    cp settled.svg "$docs/settled.svg"
+    mkdir -p "$docs/laboratory"
+    for picture in recovery layers settled values line-16 star-16 capacity-1 capacity-64 late; do
+        cp "$picture.svg" "$docs/laboratory/$picture.svg"
+    done
 fi

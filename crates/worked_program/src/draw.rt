@@ -4,12 +4,18 @@ use std::test::Fail;
 use test_parts::as_expected;
 
 /// A command line, and its status.
-const ROWS: [(&str, u8); 18] = [
+const ROWS: [(&str, u8); 26] = [
     ("tokentree draw drawn.toml drawn.events", 0),
     ("tokentree draw drawn.toml drawn.events --columns 1", 0),
     ("tokentree draw drawn.toml drawn.events --columns 1200", 0),
     ("tokentree draw --from 0 --to 9 drawn.toml drawn.events", 0),
     ("tokentree draw drawn.toml drawn.events --from 9", 0),
+    ("tokentree draw drawn.toml drawn.events --layers", 0),
+    ("tokentree draw drawn.toml drawn.events --film", 0),
+    (
+        "tokentree draw drawn.toml drawn.events --film --page --seconds 2",
+        0,
+    ),
     ("tokentree draw --help", 0),
     ("tokentree draw absent.toml drawn.events", 1),
     ("tokentree draw drawn.events drawn.events", 1),
@@ -22,6 +28,14 @@ const ROWS: [(&str, u8); 18] = [
     ("tokentree draw drawn.toml drawn.events --from 2 --to 1", 2),
     (
         "tokentree draw drawn.toml drawn.events --to 18446744073709551616",
+        2,
+    ),
+    ("tokentree draw drawn.toml drawn.events --film --layers", 2),
+    ("tokentree draw drawn.toml drawn.events --film --columns 9", 2),
+    ("tokentree draw drawn.toml drawn.events --page", 2),
+    ("tokentree draw drawn.toml drawn.events --seconds 5", 2),
+    (
+        "tokentree draw drawn.toml drawn.events --film --seconds 1",
         2,
     ),
     ("tokentree draw drawn.toml drawn-refused.events", 3),
