@@ -15,6 +15,8 @@
 //! [`are_links_stable`], [`is_tree_reached`], [`is_token_ring_good`] and [`are_loans_privileged`] ask
 //! for one layer, and look no further than the first thing that is wrong.
 //!
+//! [`first_stop`] and [`next_stop`] go along the Euler tour of the true tree, which the token ring follows.
+//!
 //! Nothing is changed, and no memory is taken.
 //!
 //! The traps: a layer may stand by chance before the one below it does, and then it need not stay;
@@ -33,8 +35,10 @@ mod whole;
 
 pub use configuration;
 pub use convergence;
+pub use euler_ring;
 pub use links::are_links_stable;
 pub use loans::are_loans_privileged;
 pub use token_ring::is_token_ring_good;
+pub use tour::{TourStop, first_stop, next_stop};
 pub use tree::is_tree_reached;
 pub use whole::Layers;

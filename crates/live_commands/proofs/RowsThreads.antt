@@ -9,7 +9,7 @@ use Rattle.run_model.specs.Sweep.{IsSweep}
 use Rattle.run_model.specs.Count.{IsSweepCount}
 use Rattle.run_model.proofs.RowsTwo.{two_nodes}
 use Rattle.run_model.specs.declared.event.Event.{Event}
-use Rattle.configuration.specs.ConfigurationView.{ConfigurationView, world_of}
+use Rattle.judge.specs.configuration.ConfigurationView.{ConfigurationView, world_of}
 use Rattle.judge.specs.Judging.{counted_up_to}
 use Rattle.command_parts.specs.world.StateText.{state_text}
 use Rattle.thread_net.specs.ThreadRun.{IsThreadRun}

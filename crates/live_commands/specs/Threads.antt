@@ -6,7 +6,7 @@ use Rattle.run_model.specs.World.{World}
 use Rattle.run_model.specs.Start.{default_world}
 use Rattle.run_model.specs.Count.{IsSweepCount}
 use Rattle.run_model.specs.declared.event.Event.{Event}
-use Rattle.configuration.specs.ConfigurationView.{world_of}
+use Rattle.judge.specs.configuration.ConfigurationView.{world_of}
 use Rattle.judge.specs.Judging.{counted_up_to}
 use Rattle.command_parts.specs.world.StateText.{state_text}
 use Rattle.thread_net.specs.declared.run.Woven.{Woven}

@@ -4,7 +4,7 @@ ghost use Rattle.std.specs.Prelude.{◌≡◌, [], IfOk, IfErr, OnOk};
 ghost use Rattle.std.specs.Io.Buffered.{writer_buffer, writer_contents};
 ghost use Rattle.byte_streams.specs.Streams.{CountsFailures, Rose};
 ghost use Rattle.run_model.specs.Start.{default_world};
-ghost use Rattle.configuration.specs.ConfigurationView.{world_of};
+ghost use Rattle.judge.specs.configuration.ConfigurationView.{world_of};
 ghost use Rattle.command_parts.specs.EventText.{GrowsByText};
 ghost use Rattle.live_commands.specs.Threads.{AllRan, IsStateWritten, IsUnwritten, refused};
 ghost use Rattle.std.specs.Process.{exit_status};

@@ -2,7 +2,7 @@
 use Rattle.std.specs.Prelude.{ℕ, ◌&&◌, ◌||◌, Bool, nat_lt}
 use Rattle.topology.specs.Network.{Network}
 use Rattle.topology.specs.Tree.{parent_of}
-use Rattle.euler_ring.specs.Cycle.{is_named}
+use Rattle.layers.specs.euler_ring.Cycle.{is_named}
 
 -- one of the network's nodes has the other as its parent
 abbrev pub has_parent : Network → ℕ → ℕ → Bool

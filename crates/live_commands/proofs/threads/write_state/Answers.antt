@@ -1,6 +1,6 @@
 use Rattle.std.proofs.Common.{sym, subst}
 use Rattle.run_model.specs.Count.{IsSweepCount}
-use Rattle.configuration.specs.ConfigurationView.{world_of}
+use Rattle.judge.specs.configuration.ConfigurationView.{world_of}
 use Rattle.judge.specs.Judging.{counted_up_to}
 use Rattle.byte_streams.specs.Streams.{Takes}
 use Rattle.command_parts.specs.world.StateText.{state_text}
