@@ -9,11 +9,14 @@ use Rattle.topology.specs.At.{at}
 use Rattle.world.specs.judge.node_core.State.{LocalState}
 use Rattle.world.specs.judge.node_core.Machines.{is_node_privileged}
 use Rattle.world.specs.judge.node_core.Site.{site_of}
+use Rattle.topology.specs.declared.frame.Payload.{Payload}
+use Rattle.world.specs.run_model.link_model.declared.item.Item.{Item}
 use Rattle.world.specs.run_model.World.{World}
 use Rattle.world.specs.run_model.Privilege.{is_privileged, is_lending}
 use Rattle.world.specs.run_model.NodeCounts.{privileged_count, lending_count}
 use Rattle.world.specs.run_model.Step.{step}
-use Rattle.world.specs.run_model.declared.event.Event.TheVariants.{Send, Take, Lose, Tick, Ask, Leave}
+use Rattle.world.specs.run_model.declared.event.Event.TheVariants.{Send, Take, Lose, Tick, Ask, Leave, Damage}
+use Rattle.world.specs.run_model.declared.event.Harm.TheVariants as harm
 use Rattle.film_stills.specs.declared.look.Place.{Place}
 use Rattle.run_recording.specs.declared.sight.Sight.{Sight}
 use Rattle.run_recording.specs.Seen.{is_at, look_at, look_by, look_of, looks_of, place_at, place_of, edges_of, mark_at, mark_of_look, marks_of, nothing, places_of, sight_of}
@@ -195,3 +198,53 @@ leave_differs w v t = record {
   nodes = λ x other. grind (arith, common_steps);
   nowhere = λ beyond. grind (arith, common_steps);
 }
+
+-- ---- so does damage, unless an edge joins or parts
+
+pub own_differs : (w : World) (v : ℕ) (d : ℕ) (p : Option ℕ) → DiffersAt v w (step w (Damage (harm.Own v d p)))
+own_differs w v d p = record {
+  net = grind (arith, common_steps);
+  nodes = λ x other. grind (arith, common_steps);
+  nowhere = λ beyond. grind (arith, common_steps);
+}
+
+pub counters_differs : (w : World) (v : ℕ) (u seq last : ℕ) → DiffersAt v w (step w (Damage (harm.Counters v u seq last)))
+counters_differs w v u seq last = record {
+  net = grind (arith, common_steps);
+  nodes = λ x other. grind (arith, common_steps);
+  nowhere = λ beyond. grind (arith, common_steps);
+}
+
+pub staged_differs : (w : World) (v : ℕ) (u : ℕ) (payload : Payload) → DiffersAt v w (step w (Damage (harm.Staged v u payload)))
+staged_differs w v u payload = record {
+  net = grind (arith, common_steps);
+  nodes = λ x other. grind (arith, common_steps);
+  nowhere = λ beyond. grind (arith, common_steps);
+}
+
+pub copy_differs : (w : World) (v : ℕ) (u : ℕ) (payload : Payload) → DiffersAt v w (step w (Damage (harm.Copy v u payload)))
+copy_differs w v u payload = record {
+  net = grind (arith, common_steps);
+  nodes = λ x other. grind (arith, common_steps);
+  nowhere = λ beyond. grind (arith, common_steps);
+}
+
+pub value_differs : (w : World) (v : ℕ) (u x : ℕ) → DiffersAt v w (step w (Damage (harm.Value v u x)))
+value_differs w v u x = record {
+  net = grind (arith, common_steps);
+  nodes = λ x other. grind (arith, common_steps);
+  nowhere = λ beyond. grind (arith, common_steps);
+}
+
+pub desk_differs : (w : World) (v : ℕ) (lent : Option ℕ) (left : ℕ) (served : Bool) → DiffersAt v w (step w (Damage (harm.Desk v lent left served)))
+desk_differs w v lent left served = record {
+  net = grind (arith, common_steps);
+  nodes = λ x other. grind (arith, common_steps);
+  nowhere = λ beyond. grind (arith, common_steps);
+}
+
+pub item_same : (w : World) (u v : ℕ) (item : Item) → sight_of w ≡ sight_of (step w (Damage (harm.Item u v item)))
+item_same w u v item = same_sight w (step w (Damage (harm.Item u v item))) (grind (arith, common_steps)) (grind (arith, common_steps))
+
+pub empty_same : (w : World) (u v : ℕ) → sight_of w ≡ sight_of (step w (Damage (harm.Empty u v)))
+empty_same w u v = same_sight w (step w (Damage (harm.Empty u v))) (grind (arith, common_steps)) (grind (arith, common_steps))

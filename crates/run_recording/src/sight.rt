@@ -3,6 +3,7 @@ ghost use Rattle.std.specs.Prelude.{◌≡◌, ◌<◌, map};
 ghost use Rattle.world.specs.judge.configuration.ConfigurationView.{world_of};
 ghost use Rattle.world.specs.run_model.World.{World};
 ghost use Rattle.world.specs.run_model.Step.{step};
+ghost use Rattle.world.specs.run_model.declared.event.Event.TheVariants.{Damage};
 ghost use Rattle.run_recording.specs.Seen.{place_at, places_of, look_at, looks_of};
 ghost use Rattle.run_recording.specs.Seen.{edge_at, edges_of};
 ghost use Rattle.run_recording.specs.Seen.{is_same, is_at, look_by, mark_of_look, sight_of};
@@ -12,12 +13,12 @@ use crate::mark::Mark;
 use film_stills::{Look, MOST_EDGES, NO_EDGE, Place};
 use std::alloc::Allocator;
 use topology::Net;
-use world::{Configuration, Event};
+use world::{Configuration, Event, Harm};
 
 /// What is seen of all nodes at one moment, by their ids.
 ///
-/// It is kept from event to event: most events change the look of at most one node, and only
-/// damage changes the true places.
+/// It is kept from event to event: an event changes the look of at most one node, unless it is
+/// damage to the edges, which alone changes the true places.
 #[derive(Clone, Copy)]
 pub struct Sight {
     /// The true places.
@@ -197,7 +198,7 @@ impl Sight {
     }
 
     /// Updates what is seen after an event led to this configuration. Looks at one node at most,
-    /// except after damage.
+    /// unless an edge has joined or parted.
     pub fn follow<A: Allocator + Copy>(&mut self, configuration: &Configuration<A>, event: &Event)
         ensures { (w : World) → self.old ≡ sight_of w
             → world_of configuration.now ≡ step w event.now
@@ -210,7 +211,27 @@ impl Sight {
             Event::Tick { node } => self.look_again(configuration, node),
             Event::Ask { node, .. } => self.look_again(configuration, node),
             Event::Leave { node, .. } => self.look_again(configuration, node),
-            Event::Damage(_) => *self = Sight::of(configuration),
+            Event::Damage(harm) => self.follow_harm(configuration, harm),
+        }
+    }
+
+    /// Updates what is seen after damage. Looks at all nodes only if an edge has joined or parted.
+    fn follow_harm<A: Allocator + Copy>(&mut self, configuration: &Configuration<A>, harm: Harm)
+        ensures { (w : World) → self.old ≡ sight_of w
+            → world_of configuration.now ≡ step w (Damage harm)
+            → self.new ≡ sight_of (world_of configuration.now) }
+    {
+        match harm {
+            Harm::Own { node, .. } => self.look_again(configuration, node),
+            Harm::Counters { node, .. } => self.look_again(configuration, node),
+            Harm::Staged { node, .. } => self.look_again(configuration, node),
+            Harm::Copy { node, .. } => self.look_again(configuration, node),
+            Harm::Value { node, .. } => self.look_again(configuration, node),
+            Harm::Desk { node, .. } => self.look_again(configuration, node),
+            Harm::Item { .. } => {}
+            Harm::Empty { .. } => {}
+            Harm::Join { .. } => *self = Sight::of(configuration),
+            Harm::Part { .. } => *self = Sight::of(configuration),
         }
     }
 

@@ -114,7 +114,11 @@ impl Best {
         let is_later = sweeps > self.sweeps;
         Best {
             searches: self.searches.saturating_add(count),
-            place: if is_later { self.searches.saturating_add(place) } else { self.place },
+            place: if is_later {
+                self.searches.saturating_add(place)
+            } else {
+                self.place
+            },
             sweeps: if is_later { sweeps } else { self.sweeps },
         }
     }
@@ -267,11 +271,7 @@ fn first_greatest(numbers: &[u64]) -> (u32, u64) {
 }
 
 /// The lines of a run that was found.
-pub fn worst_text(
-    alloc: Global,
-    net: &Net,
-    found: &Found,
-) -> Result<String, AllocError>
+pub fn worst_text(alloc: Global, net: &Net, found: &Found) -> Result<String, AllocError>
     ensures { IfOk result (λ text. string_bytes text
         ≡ worst_text net.now found.now.searches found.now.seed found.now.run.delay) }
 {

@@ -31,7 +31,10 @@ const ROWS: [(&str, u8); 26] = [
         2,
     ),
     ("tokentree draw drawn.toml drawn.events --film --layers", 2),
-    ("tokentree draw drawn.toml drawn.events --film --columns 9", 2),
+    (
+        "tokentree draw drawn.toml drawn.events --film --columns 9",
+        2,
+    ),
     ("tokentree draw drawn.toml drawn.events --page", 2),
     ("tokentree draw drawn.toml drawn.events --seconds 5", 2),
     (

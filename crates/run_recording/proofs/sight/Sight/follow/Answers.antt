@@ -30,3 +30,6 @@ pub returns-in-Leave : goal.returns-in-Leave
 returns-in-Leave g c =
     λ w seen stepped.
     c.look_again-in-Leave.ensures w seen (subst (DiffersAt c.in-Leave.node w) (sym (stepped ∙ ap (step w) c.in-Leave.is)) (leave_differs w c.in-Leave.node _))
+
+pub returns-in-Damage : goal.returns-in-Damage
+returns-in-Damage g c = λ w seen stepped. c.follow_harm.ensures w seen (stepped ∙ ap (step w) c.in-Damage.is)
