@@ -66,9 +66,9 @@ sed 's/^lease = .*/lease = 0/' examples/square.toml > "$folder/square.toml"
 "$program" draw "$folder/square.toml" "$folder/square" --film > docs/square-film.svg
 "$program" draw "$folder/square.toml" "$folder/scrambled-square" --film --seconds 40 > docs/edge-film.svg
 
-# The star of 64, scrambled: 540 rounds of 316 events.
+# The star of 64, scrambled: 298 rounds of 568 events.
 "$program" network star 64 > "$folder/star.toml"
-"$program" schedule "$folder/star.toml" --scramble 7 --rounds 540 > "$folder/star"
+"$program" schedule "$folder/star.toml" --scramble 7 --rounds 298 > "$folder/star"
 wc -l < "$folder/star"
 for form in "" --page; do
     TIMEFORMAT="star of 64 $form: %R s"
