@@ -40,7 +40,7 @@ pub returns-in-Desk : goal.returns-in-Desk
 returns-in-Desk g c =
     λ w seen stepped.
     c.look_again-in-Desk.ensures w seen
-    (subst (DiffersAt c.in-Desk.node w) (sym (stepped ∙ ap (λ h. step w (Damage h)) c.in-Desk.is)) (desk_differs w c.in-Desk.node _ _ _))
+    (subst (DiffersAt c.in-Desk.node w) (sym (stepped ∙ ap (λ h. step w (Damage h)) c.in-Desk.is)) (desk_differs w c.in-Desk.node c.in-Desk.lent c.in-Desk.left c.in-Desk.served))
 
 pub returns-in-Item : goal.returns-in-Item
 returns-in-Item g c = λ w seen stepped. seen ∙ item_same w _ _ _ ∙ ap sight_of (sym (stepped ∙ ap (λ h. step w (Damage h)) c.in-Item.is))
