@@ -1,0 +1,7 @@
+pub mod Files
+pub mod Opening
+pub mod Weaves
+pub mod Faithful
+pub mod Sights
+pub mod Gathers
+pub mod Rows
