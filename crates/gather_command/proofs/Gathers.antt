@@ -1,6 +1,6 @@
 -- What was opened and woven is gathered.
-use Rattle.std.proofs.Common.{◌≡◌, ◌∙◌, ap, sym, refl, subst, arith, ℕ, suc, ◌+◌, ◌<◌, ◌≤◌, List, [], ◌∷◌, ◌++◌, Option, Some, None, inl, inr, length, replicate, append_assoc}
-use Rattle.std.specs.Prelude.{fold}
+use Rattle.std.proofs.Common.{◌≡◌, ◌∙◌, ap, sym, refl, subst, arith, ℕ, suc, ◌+◌, ◌<◌, ◌≤◌, List, [], ◌∷◌, ◌++◌, Option, Some, None, Result, Ok, Err, inl, inr, length, replicate, append_assoc}
+use Rattle.std.specs.Prelude.{fold, IfErr, IsErrAnd}
 use Rattle.topology.specs.Network.{Network}
 use Rattle.record_pages.specs.byte_streams.Streams.{Rose}
 use Rattle.node_recorder.specs.Turns.{network_mark}
@@ -144,6 +144,13 @@ module _ {K : Type 0} (R : ℕ → Side → List Entry → Option FlawKind → T
   fault-refused (fault.NoRecord f) x e = (x, e)
   fault-refused (fault.OtherNetwork f) x e = (x, e)
   fault-refused (fault.OtherNode f v) x e = (x, e)
+
+-- ---- the exit of a `?`
+
+pub fails-with : {T : Type 0} (P : GatherFault → Type 0) (r : Result T GatherFault) (why : GatherFault)
+    → IsErrAnd r (λ y. y ≡ why) → P why → IfErr r P
+fails-with P (Ok x) why e p = tt
+fails-with P (Err y) why e p = subst P (sym e) p
 
 -- ---- all is gathered
 
