@@ -61,12 +61,15 @@ returns-in_err-opened-clause-refused g c =
     let same = c.loop-node.invariant.same in
     let below : node < c.args.net.now.nodes = omega (arith, c.loop-node-test.true, c.nodes-node-end.ensures.nodes) in
     fails-with (IsFault (Reads before source fails) (Begins before source) (network_mark c.args.net.now) c.args.net.now.nodes)
-    c.from_residual.result why c.from_residual.ensures.1
-    (node, below, subst (λ (n : ℕ). IsRecordFault (Reads before source fails) (Begins before source) n node why) c.network_mark-mark.ensures
-    (record-fault-as (Reads now source fails) (Reads before source fails) (Begins now source) (Begins before source) c.network_mark-mark.result node why
-    (λ s xs f y. reads-before before now source fails same node s xs f y)
-    (λ s e y. begins-before before now source same node s e y)
-    c.in_err-opened.ensures.opened))
+    c.from_residual.result why c.from_residual.ensures.1 (
+      node,
+      below,
+      subst (λ (n : ℕ). IsRecordFault (Reads before source fails) (Begins before source) n node why) c.network_mark-mark.ensures
+          (record-fault-as (Reads now source fails) (Reads before source fails) (Begins now source) (Begins before source) c.network_mark-mark.result node why
+          (λ s xs f y. reads-before before now source fails same node s xs f y)
+          (λ s e y. begins-before before now source same node s e y)
+          c.in_err-opened.ensures.opened),
+    )
 
 pub returns-in_err-add_record-clause-refused : goal.returns-in_err-add_record-clause-refused
 returns-in_err-add_record-clause-refused g c =
