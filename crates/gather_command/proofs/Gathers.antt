@@ -101,7 +101,7 @@ module _ (C : Type 0) (R : ℕ → Side → List Entry → Option FlawKind → T
 
 -- ---- weaving breaks off
 
-rose-later : (a b c : ℕ) → a ≤ b → Rose b c → Rose a c
+pub rose-later : (a b c : ℕ) → a ≤ b → Rose b c → Rose a c
 rose-later a b c l (inl x) = inl (omega (arith, l, x))
 rose-later a b c l (inr x) = inr x
 

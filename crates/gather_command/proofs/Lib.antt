@@ -4,4 +4,5 @@ pub mod Weaves
 pub mod Faithful
 pub mod Sights
 pub mod Gathers
+pub mod Text
 pub mod Rows

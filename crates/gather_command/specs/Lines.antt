@@ -37,28 +37,20 @@ flaw_text kind.Unreadable name instant =
 abbrev pub flaw_line : List ℕ → Flaw → List ℕ
 flaw_line dir flaw = flaw_text flaw.kind (file_name dir flaw.file) (decimal flaw.instant)
 
--- a number on a line of its own
-abbrev pub number_line : List ℕ → ℕ → List ℕ
-number_line name n = name ++ (codes " " ++ (decimal n ++ codes "\n"))
+-- how much was gathered
+abbrev pub stretch_line : Summary → List ℕ
+stretch_line s =
+    codes "nodes " ++ (decimal s.nodes ++ (codes ", events " ++ (decimal s.found.events
+    ++ (codes ", time " ++ (decimal s.stretch ++ codes " microseconds")))))
 
--- the numbers of events
-abbrev pub found_text : Found → List ℕ
-found_text f =
-    number_line (codes "events") f.events
-    ++ (number_line (codes "lost") f.lost
-    ++ (number_line (codes "harms") f.harms
-    ++ number_line (codes "forged") f.forged))
+-- what is wrong by the records, in numbers
+abbrev pub found_line : Found → List ℕ
+found_line f =
+    codes "frames lost " ++ (decimal f.lost ++ (codes ", harms " ++ (decimal f.harms
+    ++ (codes ", frames that nobody sent " ++ decimal f.forged))))
 
--- what was watched
-abbrev pub watch_text : Summary → List ℕ
-watch_text s =
-    number_line (codes "longest turn") s.longest_turn
-    ++ (number_line (codes "loans") s.loans
-    ++ number_line (codes "longest loan") s.longest_loan)
-
--- the numbers of a recording, a line each
-abbrev pub summary_text : Summary → List ℕ
-summary_text s =
-    number_line (codes "nodes") s.nodes
-    ++ (number_line (codes "microseconds") s.stretch
-    ++ (found_text s.found ++ watch_text s))
+-- how long turns and loans took
+abbrev pub loans_line : Summary → List ℕ
+loans_line s =
+    codes "loans " ++ (decimal s.loans ++ (codes ", longest loan " ++ (decimal s.longest_loan
+    ++ (codes " microseconds, longest turn " ++ (decimal s.longest_turn ++ codes " microseconds")))))

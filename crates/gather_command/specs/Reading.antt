@@ -46,11 +46,13 @@ pub data IsReadOn (Fails : Type 0) : ℕ → FramesView → Option (List ℕ) �
       → IsReadOn Fails e.instant (frames_after frames long) (Some left) es flaw
       → IsReadOn Fails last frames (Some bytes) (in_full e long ∷ es) flaw
 
--- The same of a file that was opened: one that is not there is read as an empty one.
+-- The same of a file that was opened: one that is not there is read as an empty one, and nothing is read if
+-- memory ran out.
 abbrev pub IsRead : {S : Type 0} → (S → Option (List ℕ)) → Type 0 → Opened S → List Entry → Option FlawKind → Type 0
 IsRead rest Fails (opened.File source) es flaw = IsReadOn Fails 0 no_frames (rest source) es flaw
 IsRead rest Fails opened.Absent es flaw = (es ≡ []) × (flaw ≡ None)
 IsRead rest Fails opened.Unreadable es flaw = (es ≡ []) × (flaw ≡ Some Unreadable)
+IsRead rest Fails opened.NoMemory es flaw = ⊥
 
 -- a file of a node's record may be opened, and is read so
 abbrev pub Reads : {S : Type 0} → (ℕ → Side → Opened S → Type 0) → (S → Option (List ℕ)) → Type 0
@@ -66,6 +68,7 @@ abbrev pub IsFirst : {S : Type 0} → (S → Option (List ℕ)) → Opened S →
 IsFirst rest (opened.File source) e = IsFirstOf (rest source) e
 IsFirst rest opened.Absent e = ⊥
 IsFirst rest opened.Unreadable e = ⊥
+IsFirst rest opened.NoMemory e = ⊥
 
 -- a file of a node's record may be opened, and begins with this entry
 abbrev pub Begins : {S : Type 0} → (ℕ → Side → Opened S → Type 0) → (S → Option (List ℕ))

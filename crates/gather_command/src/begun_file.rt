@@ -124,5 +124,6 @@ pub fn begin_file<R: Records>(
         Opened::File(source) => read_first(alloc, source, file, mark),
         Opened::Absent => Ok(None),
         Opened::Unreadable => Err(GatherFault::Unreadable(file)),
+        Opened::NoMemory => Err(GatherFault::Memory),
     }
 }

@@ -1,5 +1,5 @@
 //! The records of all nodes, woven into one list of events.
-ghost use Rattle.std.specs.Prelude.{◌≡◌, ◌++◌, ◌∷◌, [], Some, IfOk, IfErr, OnOk, length};
+ghost use Rattle.std.specs.Prelude.{◌≡◌, ◌≤◌, ◌++◌, ◌∷◌, [], Some, IfOk, IfErr, OnOk, length};
 ghost use Rattle.record_pages.specs.byte_streams.Streams.{CountsFailures};
 ghost use Rattle.node_recorder.specs.Turns.{network_mark};
 ghost use Rattle.gather_command.specs.Reading.{MayFail, Reads, Begins, OpensNoMore};
@@ -70,6 +70,7 @@ pub fn gather<R: Records, S: EventSink>(
     ensures gathered { IfOk result (λ g.
         IsGathered (Reads (R.opens records.old) R.File.rest (MayFail R.File.failures)) S.takes
         net.now sink.old g.summary g.flaws.items sink.new) }
+    ensures counted { OnOk result (S.failures sink.old ≤ S.failures sink.new) }
     ensures refused { IfErr result (λ fault.
         IsRefused (Reads (R.opens records.old) R.File.rest (MayFail R.File.failures))
         (Begins (R.opens records.old) R.File.rest) S.failures net.now sink.old fault sink.new) }

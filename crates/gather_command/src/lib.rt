@@ -6,8 +6,9 @@
 //! program and memory in a test:
 //!
 //! ```
-//! let gathered = gather(alloc, &net, &mut records, &mut sink)?;
-//! print!("{}", gathered.summary);                     // nodes 3, .., loans 12, ..
+//! let gathered = gather(alloc, &net, &mut FolderRecords::new(rt, "run"), &mut sink)?;
+//! println!("{}", StretchLine(gathered.summary));      // nodes 3, events 1200, time 5000000 microseconds
+//! let status = command::run(rt, "run", "ring.toml")?; // prints the events; 1 if a record is damaged
 //! ```
 //!
 //! A record that is missing, empty, of another network or of another node is a [`GatherFault`], before
@@ -19,7 +20,9 @@
 #![tactic(auto)]
 
 mod begun_file;
+pub mod command;
 mod fault;
+mod folder;
 mod gathered;
 pub mod laws;
 mod lines;
@@ -32,7 +35,8 @@ mod weaving;
 
 pub use fault::{Flaw, FlawKind, GatherFault, RecordFile};
 pub use flight_recorder::Side;
+pub use folder::FolderRecords;
 pub use gathered::{Gathered, gather};
-pub use lines::{FaultLine, FlawLine};
+pub use lines::{FaultLine, FlawLine, FoundLine, LoansLine, StretchLine};
 pub use records::{MemoryRecord, MemoryRecords, Opened, Records};
 pub use summary::Summary;

@@ -3,7 +3,9 @@ ghost use Rattle.std.specs.Prelude.{◌≡◌};
 ghost use Rattle.flight_recorder.specs.Names.{side_number};
 
 use crate::fault::{Flaw, FlawKind, GatherFault, RecordFile};
+use crate::summary::Summary;
 use flight_recorder::Side;
+use record_gathering::Found;
 use std::fmt;
 
 /// The number of a file of a record.
@@ -103,5 +105,62 @@ impl fmt::Display for FlawLine<'_> {
             FlawKind::Spoiled => write!(f, "{name} is damaged after microsecond {instant}"),
             FlawKind::Unreadable => write!(f, "cannot read {name} after microsecond {instant}"),
         }
+    }
+}
+
+/// How much was gathered, as a line without its end.
+#[derive(Clone, Copy)]
+pub struct StretchLine(pub Summary);
+
+impl fmt::Display for StretchLine {
+    ghost use Rattle.std.specs.Prelude.{Some};
+    ghost use Rattle.gather_command.specs.Lines.{stretch_line};
+
+    ghost output = { λ line. Some (stretch_line line.0) };
+
+    fn fmt<W: fmt::Write>(&self, f: &mut fmt::Formatter<W>) -> fmt::Result {
+        let (nodes, events, stretch) = (self.0.nodes, self.0.found.events, self.0.stretch);
+        write!(
+            f,
+            "nodes {nodes}, events {events}, time {stretch} microseconds"
+        )
+    }
+}
+
+/// What is wrong by the records, in numbers, as a line without its end.
+#[derive(Clone, Copy)]
+pub struct FoundLine(pub Found);
+
+impl fmt::Display for FoundLine {
+    ghost use Rattle.std.specs.Prelude.{Some};
+    ghost use Rattle.gather_command.specs.Lines.{found_line};
+
+    ghost output = { λ line. Some (found_line line.0) };
+
+    fn fmt<W: fmt::Write>(&self, f: &mut fmt::Formatter<W>) -> fmt::Result {
+        let (lost, harms, forged) = (self.0.lost, self.0.harms, self.0.forged);
+        write!(
+            f,
+            "frames lost {lost}, harms {harms}, frames that nobody sent {forged}"
+        )
+    }
+}
+
+/// How long turns and loans took, as a line without its end.
+#[derive(Clone, Copy)]
+pub struct LoansLine(pub Summary);
+
+impl fmt::Display for LoansLine {
+    ghost use Rattle.std.specs.Prelude.{Some};
+    ghost use Rattle.gather_command.specs.Lines.{loans_line};
+
+    ghost output = { λ line. Some (loans_line line.0) };
+
+    fn fmt<W: fmt::Write>(&self, f: &mut fmt::Formatter<W>) -> fmt::Result {
+        let (loans, loan, turn) = (self.0.loans, self.0.longest_loan, self.0.longest_turn);
+        write!(
+            f,
+            "loans {loans}, longest loan {loan} microseconds, longest turn {turn} microseconds"
+        )
     }
 }

@@ -16,6 +16,8 @@ pub enum Opened<F> {
     Absent,
     /// It cannot be opened.
     Unreadable,
+    /// Memory ran out.
+    NoMemory,
 }
 
 /// Where the files of records are.

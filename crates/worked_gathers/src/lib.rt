@@ -5,4 +5,8 @@
 #![tactic(auto)]
 
 #[cfg(test)]
+mod folders;
+#[cfg(test)]
 mod rows;
+#[cfg(test)]
+mod shelf;

@@ -16,9 +16,20 @@ use topology::{Frame, Net, Payload};
 
 /// Keeps the events that it takes.
 #[derive(Drop)]
-struct Kept {
-    events: Vec<Event>,
+pub struct Kept {
+    /// The events.
+    pub events: Vec<Event>,
     failures: u64,
+}
+
+impl Kept {
+    /// Keeps nothing yet.
+    pub fn new(alloc: Global) -> Kept {
+        Kept {
+            events: Vec::new(alloc),
+            failures: 0,
+        }
+    }
 }
 
 impl EventSink for Kept {
@@ -41,7 +52,7 @@ impl EventSink for Kept {
 
 /// The number of a network of two nodes, with root 0, capacity 1 and lease 0: 2, 0, 1 and 0 as digits
 /// to the base 65599, of which as much is kept as 32 bits hold.
-const MARK: u32 = 1561239997;
+pub const MARK: u32 = 1561239997;
 
 /// What a node of two says at its start.
 const ALONE: Payload = Payload {
@@ -51,7 +62,7 @@ const ALONE: Payload = Payload {
 };
 
 /// The first frame of node 0.
-const FRAME: Frame = Frame {
+pub const FRAME: Frame = Frame {
     seq: 0,
     ack: 0,
     payload: ALONE,
@@ -87,7 +98,7 @@ fn record_of(alloc: Global, entries: &[(u64, Noted)]) -> Result<Vec<u8>, Fail> {
 }
 
 /// The record of node 0: it ticks, and sends its first frame.
-fn sender(alloc: Global) -> Result<Vec<u8>, Fail> {
+pub fn sender(alloc: Global) -> Result<Vec<u8>, Fail> {
     record_of(
         alloc,
         &[
@@ -105,7 +116,7 @@ fn sender(alloc: Global) -> Result<Vec<u8>, Fail> {
 }
 
 /// The record of node 1, whose clock is behind: it takes a frame, and ticks twice.
-fn taker(alloc: Global, network: u32, node: u16, frame: Frame) -> Result<Vec<u8>, Fail> {
+pub fn taker(alloc: Global, network: u32, node: u16, frame: Frame) -> Result<Vec<u8>, Fail> {
     record_of(
         alloc,
         &[
@@ -126,10 +137,7 @@ fn gathered(alloc: Global, first: MemoryRecord, second: MemoryRecord) -> Result<
     let net = Net::make(alloc, 2, 0, 1, 0, &[(0, 1)])?;
     let both = [first, second];
     let mut records = MemoryRecords::new(&both, 7);
-    let mut kept = Kept {
-        events: Vec::new(alloc),
-        failures: 0,
-    };
+    let mut kept = Kept::new(alloc);
     match gather(alloc, &net, &mut records, &mut kept) {
         Ok(gathered) => {
             let numbers = gathered.summary;
@@ -155,7 +163,7 @@ fn gathered(alloc: Global, first: MemoryRecord, second: MemoryRecord) -> Result<
 }
 
 /// A record whose first file has these bytes, and whose second is not there.
-fn one(bytes: &[u8]) -> MemoryRecord<'_> {
+pub fn one(bytes: &[u8]) -> MemoryRecord<'_> {
     MemoryRecord {
         first: Some(bytes),
         second: None,
@@ -169,7 +177,7 @@ const NONE: MemoryRecord<'static> = MemoryRecord {
 };
 
 /// The first file of node 1.
-const FILE: RecordFile = RecordFile {
+pub const FILE: RecordFile = RecordFile {
     node: 1,
     side: Side::First,
 };
@@ -182,7 +190,7 @@ fn taken(alloc: Global, frame: Frame) -> Result<Found, Fail> {
 }
 
 /// Node 0 ticked and sent before node 1 took the frame, whatever the clocks say.
-const IN_ORDER: [Event; 5] = [
+pub const IN_ORDER: [Event; 5] = [
     Event::Tick { node: 0 },
     Event::Send { from: 0, to: 1 },
     Event::Take { from: 0, to: 1 },
