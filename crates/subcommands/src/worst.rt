@@ -24,19 +24,18 @@ use std::thread::Threads;
 use std::time::{Clock, Instant};
 use topology::Net;
 
-/// The most searches of one command.
-pub const MOST_SEARCHES: u32 = 1_000_000;
-
 /// How many searches are begun together, as long as there is time.
 const BATCH: u32 = 16;
+
+/// How often that is done at most: for a million searches.
+const MOST_BATCHES: u32 = 62_500;
 
 /// How many searches there are.
 #[derive(Clone, Copy, Debug, PartialEq, Eq)]
 pub enum Extent {
     /// This many; 0 counts as 1.
     Searches(u32),
-    /// 16, and again 16 until so many minutes have passed; at most [`MOST_SEARCHES`] and 15 more. Without a clock
-    /// there are 16.
+    /// 16, and again 16 until so many minutes have passed; at most a million. Without a clock there are 16.
     Minutes(u32),
 }
 
@@ -186,14 +185,16 @@ fn until<R: Eprint + Clock + Threads + Sync>(
     progress: &Option<Progress>,
 ) -> Result<Best, AllocError> {
     let started = Instant::now(rt).ok();
-    let mut latest = batch(rt, alloc, net, plan, Best::NONE, BATCH, &None)?;
-    let mut passed = minutes_since(rt, started);
-    while passed < minutes && latest.searches < MOST_SEARCHES {
+    let mut latest = Best::NONE;
+    for _ in 0..MOST_BATCHES {
+        latest = batch(rt, alloc, net, plan, latest, BATCH, &None)?;
+        let passed = minutes_since(rt, started);
+        if passed >= minutes {
+            return Ok(latest);
+        }
         if let Some(progress) = progress {
             progress.tell(rt, u64::from(passed));
         }
-        latest = batch(rt, alloc, net, plan, latest, BATCH, &None)?;
-        passed = minutes_since(rt, started);
     }
     Ok(latest)
 }
