@@ -47,7 +47,7 @@ _tokentree() {
     network) flags='--root --capacity --lease --edges --seed --help' valued='--root --capacity --lease --edges --seed' places='KIND N M' ;;
     schedule) flags='--scramble --rounds --random --seed --loss --clients --give-back --help' valued='--scramble --rounds --random --seed --loss --give-back' places='FILE' ;;
     measure) flags='--runs --seed --rounds --random --schedule --share --table --csv --plot --json --help' valued='--runs --seed --schedule --share --plot' places='FILE' ;;
-    worst) flags='--searches --steps --seed --events --help' valued='--searches --steps --seed --events' places='FILE' ;;
+    worst) flags='--searches --minutes --steps --seed --events --help' valued='--searches --minutes --steps --seed --events' places='FILE' ;;
     draw) flags='--columns --from --to --layers --film --page --seconds --help' valued='--columns --from --to --seconds' places='FILE EVENTS' ;;
     threads) flags='--events --help' valued='--events' places='FILE TURNS' ;;
     help)

@@ -80,6 +80,7 @@ complete -c tokentree -n '__fish_seen_subcommand_from measure; and not contains 
 complete -c tokentree -n '__fish_seen_subcommand_from measure; and not contains -- -- (commandline -opc)' -l json -d 'Print one JSON object, on one line'
 complete -c tokentree -n __fish_use_subcommand -f -a worst -d 'Searches for runs that recover late, and shows after how many sweeps'
 complete -c tokentree -n '__fish_seen_subcommand_from worst; and not contains -- -- (commandline -opc)' -l searches -x -d 'How many searches, 1 to 1000000 [default: 16]'
+complete -c tokentree -n '__fish_seen_subcommand_from worst; and not contains -- -- (commandline -opc)' -l minutes -x -d 'In place of a number: how long it searches, 1 to 10080'
 complete -c tokentree -n '__fish_seen_subcommand_from worst; and not contains -- -- (commandline -opc)' -l steps -x -d 'Changes in each search, 0 to 1000000000 [default: 10000]'
 complete -c tokentree -n '__fish_seen_subcommand_from worst; and not contains -- -- (commandline -opc)' -l seed -x -d 'The first seed; each search has the next one [default: 0]'
 complete -c tokentree -n '__fish_seen_subcommand_from worst; and not contains -- -- (commandline -opc)' -l events -x -d 'Write the latest run to this file, as an events text'

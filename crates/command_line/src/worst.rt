@@ -1,15 +1,17 @@
 //! The words of `worst`.
 ghost use Rattle.std.specs.Prelude.{IfOk, IfErr};
 ghost use Rattle.clap.specs.Matches.{found_of};
-ghost use Rattle.command_line.specs.Worst.{IsSearchOf, IsSearchRefused};
+ghost use Rattle.command_line.specs.Worst.{IsExtentOf, IsExtentRefused, IsSearchOf, IsSearchRefused};
 
 use crate::program::{NETWORK_FILE, Runtime};
 use crate::refusal::Refusal;
 use clap::{ArgMatches, Command};
-use command_grammar::{Grammar, Number, Parameter, WordFault, given_number, with_command, word};
+use command_grammar::{
+    Grammar, Number, Parameter, WordFault, given_number, number_if_given, with_command, word,
+};
 use std::alloc::{AllocError, Global};
 use std::process::ExitCode;
-use subcommands::worst::{self, Plan};
+use subcommands::worst::{self, Extent, Plan};
 
 /// What `worst` takes.
 const WORST: Grammar<'static> = Grammar {
@@ -19,6 +21,11 @@ const WORST: Grammar<'static> = Grammar {
     parameters: &[
         Parameter::Place("FILE", NETWORK_FILE),
         Parameter::ValueOr("searches", "N", "16", "How many searches, 1 to 1000000"),
+        Parameter::Value(
+            "minutes",
+            "M",
+            "In place of a number: how long it searches, 1 to 10080",
+        ),
         Parameter::ValueOr(
             "steps",
             "N",
@@ -38,7 +45,7 @@ const WORST: Grammar<'static> = Grammar {
         ),
     ],
     needs: &[],
-    excludes: &[],
+    excludes: &[("minutes", "searches")],
     choice: None,
 };
 
@@ -70,6 +77,10 @@ the lock gives it back.
 The same words find the same run, on any machine. More searches, or more steps,
 may find a later one; if they find none, that says nothing.
 
+With --minutes it begins 16 searches at a time until that time has passed, and
+ends those that it began. 'searches' says how many there were. With that number
+as --searches, and the same seed and steps, the same run is found again.
+
 Statuses: 0 done; 1 a file, memory or standard output was refused, and a line on
 standard error says which; 2 invalid arguments.";
 
@@ -79,6 +90,14 @@ const SEARCHES: Number<'static> = Number {
     name: "--searches",
     least: 1,
     most: 1_000_000,
+};
+
+/// How many minutes a search may take: up to a week.
+const MINUTES: Number<'static> = Number {
+    id: "minutes",
+    name: "--minutes",
+    least: 1,
+    most: 10_080,
 };
 
 /// How many changes a search tries.
@@ -112,9 +131,23 @@ fn plan(given: &ArgMatches, progress: bool) -> Result<Plan, WordFault<'static>>
     ensures err { IfErr result (IsSearchRefused (found_of given.now)) }
 {
     Ok(Plan {
-        searches: given_number(given, SEARCHES)? as u32,
+        extent: extent(given)?,
         seed: given_number(given, SEED)? as u32,
         steps: given_number(given, STEPS)? as u32,
         progress,
     })
+}
+
+/// How long it searches, by the words of `worst`.
+///
+/// # Errors
+/// If a word spells no number in its range.
+fn extent(given: &ArgMatches) -> Result<Extent, WordFault<'static>>
+    ensures ok { IfOk result (IsExtentOf (found_of given.now)) }
+    ensures err { IfErr result (IsExtentRefused (found_of given.now)) }
+{
+    match number_if_given(given, MINUTES)? {
+        Some(minutes) => Ok(Extent::Minutes(minutes as u32)),
+        None => Ok(Extent::Searches(given_number(given, SEARCHES)? as u32)),
+    }
 }

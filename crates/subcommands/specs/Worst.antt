@@ -1,10 +1,12 @@
 -- The text of a search for a run that serves late.
-use Rattle.std.specs.Prelude.{ℕ, List, ◌++◌, Some, codes}
+use Rattle.std.specs.Prelude.{◌≡◌, ◌≤◌, ℕ, List, ◌++◌, Some, codes}
 use Rattle.topology.specs.Network.{Network, bound_of}
 use Rattle.topology.specs.Eccentricity.{sharp_of}
 use Rattle.slow_runs.specs.experiments.Delays.{IsReplayed}
 use Rattle.slow_runs.specs.experiments.declared.delay.Delay.{Delay}
 use Rattle.subcommands.specs.Bound.{number_line}
+use Rattle.subcommands.specs.declared.worst.Extent.{Extent}
+use Rattle.subcommands.specs.declared.worst.Extent.TheVariants.{Searches, Minutes}
 use Rattle.subcommands.specs.declared.worst.Found.{Found}
 
 -- how many searches there were, the seed of the one that found the latest run, after how many sweeps that run served, and both bounds
@@ -18,3 +20,8 @@ worst_text net searches seed delay =
 -- the delay of a run that was found is that of its events, judged from their start
 abbrev pub IsJudged : Network → Found → Type 0
 IsJudged net found = IsReplayed net found.run.harms.items found.run.events.items (Some found.run.delay)
+
+-- there were as many searches as were asked for; of those that go on for minutes there are at least 16
+abbrev pub AreAsMany : Extent → ℕ → Type 0
+AreAsMany (Searches asked) searches = searches ≡ asked
+AreAsMany (Minutes minutes) searches = 16 ≤ searches

@@ -1,11 +1,12 @@
 //! `worst FILE`: how late a network can serve, as far as a search finds.
-ghost use Rattle.std.specs.Prelude.{◌≡◌, ◌⊎◌, ◌++◌, [], Err, IfOk, OnOk, string_bytes};
+ghost use Rattle.std.specs.Prelude.{◌≡◌, ◌⊎◌, ◌++◌, ◌+◌, ◌-◌, ◌^◌, min, [], Err, IfOk, OnOk, string_bytes};
 ghost use Rattle.std.specs.Io.Buffered.{writer_buffer, writer_contents};
 ghost use Rattle.std.specs.Process.{exit_status};
 ghost use Rattle.byte_streams.specs.Streams.{CountsFailures};
 ghost use Rattle.command_parts.specs.EventText.{GrowsByText};
 ghost use Rattle.subcommands.specs.Bound.{number_line};
-ghost use Rattle.subcommands.specs.Worst.{worst_text, IsJudged};
+ghost use Rattle.subcommands.specs.declared.worst.Extent.TheVariants.{Minutes};
+ghost use Rattle.subcommands.specs.Worst.{worst_text, AreAsMany, IsJudged};
 
 use crate::bound::{done, push_number};
 use byte_streams::Failed;
@@ -21,25 +22,42 @@ use std::io::{BufWriter, Write};
 use std::process::ExitCode;
 use std::rt::Files;
 use std::thread::Threads;
-use std::time::Clock;
+use std::time::{Clock, Instant};
 use topology::Net;
+
+/// How many searches are begun together, as long as there is time.
+const BATCH: u32 = 16;
+
+/// How often that is done at most: for a million searches.
+const MOST_BATCHES: u32 = 62_500;
+
+/// How many searches there are.
+#[derive(Clone, Copy, Debug, PartialEq, Eq)]
+pub enum Extent {
+    /// This many; 0 counts as 1.
+    Searches(u32),
+    /// 16, and again 16 until so many minutes have passed; at most a million. Without a clock there are 16.
+    Minutes(u32),
+}
 
 /// What is searched.
 #[derive(Clone, Copy, Debug, PartialEq, Eq)]
 pub struct Plan {
-    /// How many searches there are; 0 counts as 1.
-    pub searches: u32,
+    /// How many searches there are.
+    pub extent: Extent,
     /// The first one's seed; each other has the next one.
     pub seed: u32,
     /// How many changes each tries.
     pub steps: u32,
-    /// Whether standard error shows how many searches are done.
+    /// Whether standard error shows how many searches, or minutes, are over.
     pub progress: bool,
 }
 
 /// The latest run that was found.
 #[derive(Drop)]
 pub struct Found {
+    /// How many searches there were.
+    pub searches: u32,
     /// The seed of the search that found it.
     pub seed: u64,
     /// The run.
@@ -62,11 +80,48 @@ pub fn run<R: Files + Print + Eprint + Clock + AllocGlobal + Threads + Sync>(
 {
     let net = read_network(rt, network)?;
     let found = latest(rt, rt.alloc(), &net, plan).map_err(|_| Fault::Memory)?;
-    let text = worst_text(rt.alloc(), &net, plan.searches, &found).map_err(|_| Fault::Memory)?;
+    let text = worst_text(rt.alloc(), &net, &found).map_err(|_| Fault::Memory)?;
     if let Some(path) = events {
         save_run(rt, path, &found.run)?;
     }
     done(rt.print(text.as_str()))
+}
+
+/// Which of some searches found the latest run, the first of the like.
+#[derive(Clone, Copy)]
+struct Best {
+    /// How many searches there were.
+    searches: u32,
+    /// Which of them found it.
+    place: u32,
+    /// After how many sweeps it serves.
+    sweeps: u64,
+}
+
+impl Best {
+    /// No search yet.
+    const NONE: Best = Best {
+        searches: 0,
+        place: 0,
+        sweeps: 0,
+    };
+
+    /// Adds `count` more searches, with the delays that they found.
+    fn and(self, count: u32, delays: &[u64]) -> Best
+        ensures { result.searches ≡ min (self.searches + count) (2 ^ 32 - 1) }
+    {
+        let (place, sweeps) = first_greatest(delays);
+        let is_later = sweeps > self.sweeps;
+        Best {
+            searches: self.searches.saturating_add(count),
+            place: if is_later {
+                self.searches.saturating_add(place)
+            } else {
+                self.place
+            },
+            sweeps: if is_later { sweeps } else { self.sweeps },
+        }
+    }
 }
 
 /// The latest run of all searches, the first of the like.
@@ -77,43 +132,122 @@ pub(crate) fn latest<R: Eprint + Clock + Threads + Sync>(
     plan: Plan,
 ) -> Result<Found, AllocError>
     // It is judged again from its start, whatever the searches did.
-    ensures { IfOk result (IsJudged net.now) }
+    ensures judged { IfOk result (IsJudged net.now) }
+    ensures searches { IfOk result (λ found. AreAsMany plan.extent found.searches) }
 {
-    let progress = if plan.progress {
-        Progress::begin(rt, "searches", plan.searches)
-    } else {
-        None
-    };
-    let delays = searched(rt, alloc, net, plan, &progress);
-    if let Some(progress) = &progress {
-        progress.end(rt);
-    }
-    let best = first_greatest(delays?.as_slice());
-    let seed = u64::from(plan.seed) + u64::from(best);
+    let latest = all_searched(rt, alloc, net, plan)?;
+    let seed = u64::from(plan.seed) + u64::from(latest.place);
     let search = Search {
         seed,
         steps: plan.steps,
     };
     Ok(Found {
+        searches: latest.searches,
         seed,
         run: climb(alloc, net, search)?,
     })
 }
 
-/// Makes all searches, over as many threads as there are processors. After how many sweeps the latest run of
-/// each serves.
+/// Makes all searches, and shows its progress if that is asked for.
+fn all_searched<R: Eprint + Clock + Threads + Sync>(
+    rt: &R,
+    alloc: Global,
+    net: &Net,
+    plan: Plan,
+) -> Result<Best, AllocError>
+    ensures { IfOk result (λ best. AreAsMany plan.extent best.searches) }
+{
+    let progress = begin_progress(rt, plan);
+    let latest = match plan.extent {
+        Extent::Searches(count) => batch(rt, alloc, net, plan, Best::NONE, count, &progress),
+        Extent::Minutes(minutes) => until(rt, alloc, net, plan, minutes, &progress),
+    };
+    if let Some(progress) = &progress {
+        progress.end(rt);
+    }
+    latest
+}
+
+/// Begins the line that shows the progress, if it is asked for.
+fn begin_progress<R: Clock>(rt: &R, plan: Plan) -> Option<Progress> {
+    if !plan.progress {
+        return None;
+    }
+    match plan.extent {
+        Extent::Searches(count) => Progress::begin(rt, "searches", count),
+        Extent::Minutes(minutes) => Progress::begin(rt, "minutes", minutes),
+    }
+}
+
+/// Makes searches, a batch at a time, until so many minutes have passed.
+fn until<R: Eprint + Clock + Threads + Sync>(
+    rt: &R,
+    alloc: Global,
+    net: &Net,
+    plan: Plan,
+    minutes: u32,
+    progress: &Option<Progress>,
+) -> Result<Best, AllocError>
+    ensures { IfOk result (λ best. AreAsMany (Minutes minutes) best.searches) }
+{
+    let started = Instant::now(rt).ok();
+    let mut latest = batch(rt, alloc, net, plan, Best::NONE, BATCH, &None)?;
+    for _ in 1..MOST_BATCHES {
+        let passed = minutes_since(rt, started);
+        if passed >= minutes {
+            return Ok(latest);
+        }
+        if let Some(progress) = progress {
+            progress.tell(rt, u64::from(passed));
+        }
+        latest = batch(rt, alloc, net, plan, latest, BATCH, &None)?;
+    }
+    Ok(latest)
+}
+
+/// How many whole minutes have passed since then; the greatest number if the clock does not say it.
+fn minutes_since<R: Clock>(rt: &R, started: Option<Instant>) -> u32 {
+    let Some(started) = started else {
+        return u32::MAX;
+    };
+    match started.elapsed(rt) {
+        Ok(elapsed) => u32::try_from(elapsed.as_secs() / 60).unwrap_or(u32::MAX),
+        Err(_) => u32::MAX,
+    }
+}
+
+/// Makes `count` searches more.
+fn batch<R: Eprint + Clock + Threads + Sync>(
+    rt: &R,
+    alloc: Global,
+    net: &Net,
+    plan: Plan,
+    latest: Best,
+    count: u32,
+    progress: &Option<Progress>,
+) -> Result<Best, AllocError>
+    ensures { IfOk result (λ more. more.searches ≡ min (latest.searches + count) (2 ^ 32 - 1)) }
+{
+    let delays = searched(rt, alloc, net, plan, latest.searches, count, progress)?;
+    Ok(latest.and(count, delays.as_slice()))
+}
+
+/// Makes `count` searches from the `first` of them on, over as many threads as there are processors. After how
+/// many sweeps the latest run of each serves.
 fn searched<R: Eprint + Clock + Threads + Sync>(
     rt: &R,
     alloc: Global,
     net: &Net,
     plan: Plan,
+    first: u32,
+    count: u32,
     progress: &Option<Progress>,
 ) -> Result<Vec<u64>, AllocError> {
-    (0..plan.searches)
+    (0..count)
         .into_par_iter()
         .map(|i: u32| -> Result<u64, AllocError> {
             let search = Search {
-                seed: u64::from(plan.seed) + u64::from(i),
+                seed: u64::from(plan.seed) + u64::from(first) + u64::from(i),
                 steps: plan.steps,
             };
             let run = climb(alloc, net, search)?;
@@ -125,15 +259,13 @@ fn searched<R: Eprint + Clock + Threads + Sync>(
         .collect(rt, alloc)?
 }
 
-/// The place of the first of the greatest numbers; 0 if there is none.
-fn first_greatest(numbers: &[u64]) -> u32 {
-    let mut best = 0u32;
-    let mut most = 0u64;
+/// The place of the first of the greatest numbers, and that number; both 0 if there is none.
+fn first_greatest(numbers: &[u64]) -> (u32, u64) {
+    let mut best = (0u32, 0u64);
     let mut place = 0u32;
     for number in numbers {
-        if *number > most {
-            most = *number;
-            best = place;
+        if *number > best.1 {
+            best = (place, *number);
         }
         place = place.saturating_add(1);
     }
@@ -141,17 +273,12 @@ fn first_greatest(numbers: &[u64]) -> u32 {
 }
 
 /// The lines of a run that was found.
-pub fn worst_text(
-    alloc: Global,
-    net: &Net,
-    searches: u32,
-    found: &Found,
-) -> Result<String, AllocError>
+pub fn worst_text(alloc: Global, net: &Net, found: &Found) -> Result<String, AllocError>
     ensures { IfOk result (λ text. string_bytes text
-        ≡ worst_text net.now searches found.now.seed found.now.run.delay) }
+        ≡ worst_text net.now found.now.searches found.now.seed found.now.run.delay) }
 {
     let mut text = String::new(alloc);
-    push_number(&mut text, "searches", searches)?;
+    push_number(&mut text, "searches", found.searches)?;
     push_count(&mut text, "seed", found.seed)?;
     push_count(&mut text, "sweeps", found.run.delay.sweeps)?;
     push_number(&mut text, "sharp", net.sharp_bound())?;

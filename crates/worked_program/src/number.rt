@@ -12,7 +12,7 @@ type Row = (&'static str, &'static str, &'static str, &'static str, u8);
 
 /// The files of these lines do not exist: so the status of an accepted number is 1, or 0 if the
 /// line prints no junk.
-const NUMBERS: [Row; 22] = [
+const NUMBERS: [Row; 23] = [
     ("draw absent.toml - --columns ", "", "1200", "1201", 1),
     (
         "draw absent.toml - --from ",
@@ -40,6 +40,7 @@ const NUMBERS: [Row; 22] = [
     ),
     ("measure absent.toml --runs ", "", "1000000", "1000001", 1),
     ("worst absent.toml --searches ", "", "1000000", "1000001", 1),
+    ("worst absent.toml --minutes ", "", "10080", "10081", 1),
     (
         "worst absent.toml --steps ",
         "",

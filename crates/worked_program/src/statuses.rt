@@ -10,7 +10,7 @@ use subcommands::bound;
 use test_parts::{as_expected, is_expected};
 
 /// A command line, and its status.
-const ROWS: [(&str, u8); 102] = [
+const ROWS: [(&str, u8); 104] = [
     ("tokentree bound two.toml", 0),
     ("tokentree bound -- two.toml", 0),
     ("tokentree bound --sharp two.toml", 0),
@@ -124,6 +124,8 @@ const ROWS: [(&str, u8); 102] = [
     ),
     ("tokentree worst bad.toml", 1),
     ("tokentree worst two.toml --searches 0", 2),
+    ("tokentree worst two.toml --minutes 0", 2),
+    ("tokentree worst two.toml --minutes 1 --searches 2", 2),
     ("tokentree measure two.toml --rounds --random", 2),
     ("tokentree measure two.toml --runs 1 --schedule random", 0),
     (

@@ -21,4 +21,4 @@ returns c =
     (c.in_ok-push_number-2.ensures ∙ ap (λ n. three ++ number_line (codes "sharp") n) c.sharp_bound.ensures)
     (c.in_ok-push_number-3.ensures ∙ ap (λ n. four ++ number_line (codes "sweeps-bound") n) c.bound.ensures)
     ∙ ap (λ x. x ++ (seed ++ (sweeps ++ (sharp ++ bound))))
-    (c.in_ok-push_number.ensures ∙ ap (λ x. x ++ number_line (codes "searches") c.args.searches) c.new-text.ensures.bytes)
+    (c.in_ok-push_number.ensures ∙ ap (λ x. x ++ number_line (codes "searches") found.searches) c.new-text.ensures.bytes)
