@@ -11,4 +11,5 @@ pub mod RunsOfMarks
 pub mod Rows
 mod RowsTwo
 mod RowsMarks
+mod RowsChanges
 mod RowsSights

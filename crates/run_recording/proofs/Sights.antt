@@ -1,5 +1,5 @@
 -- What is seen of a world, and what an event changes in it.
-use Rattle.std.proofs.Common.{◌≡◌, ◌≢◌, ◌∙◌, ap, sym, refl, ℕ, zero, suc, ◌+◌, ◌<◌, ◌≤◌, cond, Bool, true, false, is_some, List, [], ◌∷◌, Option, map, slice_set, slice_index_or, arith}
+use Rattle.std.proofs.Common.{◌≡◌, ◌≢◌, ◌∙◌, ap, sym, refl, ℕ, zero, suc, ◌+◌, ◌<◌, ◌≤◌, cond, Bool, true, false, is_some, List, [], ◌∷◌, length, Option, map, slice_set, slice_index_or, arith}
 use Rattle.std.specs.List.{range_with_len, count_by}
 use Rattle.std.proofs.lemmas.Grind.{common_steps}
 use Rattle.std.proofs.lemmas.List.Sums.{count_by-le-length}
@@ -18,6 +18,8 @@ use Rattle.world.specs.run_model.Step.{step}
 use Rattle.world.specs.run_model.declared.event.Event.TheVariants.{Send, Take, Lose, Tick, Ask, Leave, Damage}
 use Rattle.world.specs.run_model.declared.event.Harm.TheVariants as harm
 use Rattle.film_stills.specs.declared.look.Place.{Place}
+use Rattle.run_recording.specs.declared.mark.Mark.{Mark}
+use Rattle.run_recording.specs.declared.mark.Mark.TheVariants.{Settled}
 use Rattle.run_recording.specs.declared.sight.Sight.{Sight}
 use Rattle.run_recording.specs.Seen.{is_at, look_at, look_by, look_of, looks_of, place_at, place_of, edges_of, mark_at, mark_of_look, marks_of, nothing, places_of, sight_of}
 use Rattle.run_recording.specs.SightSteps.{DiffersAt, recounted, with_look}
@@ -248,3 +250,9 @@ item_same w u v item = same_sight w (step w (Damage (harm.Item u v item))) (grin
 
 pub empty_same : (w : World) (u v : ℕ) → sight_of w ≡ sight_of (step w (Damage (harm.Empty u v)))
 empty_same w u v = same_sight w (step w (Damage (harm.Empty u v))) (grind (arith, common_steps)) (grind (arith, common_steps))
+
+-- a mark that is written is the one that is read there
+pub changed_at : (marks : List Mark) (v : ℕ) (m : Mark) → v < length marks → slice_set marks v m ≡ slice_set marks v (slice_index_or (slice_set marks v m) v Settled)
+changed_at [] v m there = grind (arith, common_steps)
+changed_at (a ∷ marks) zero m there = refl
+changed_at (a ∷ marks) (suc v) m there = ap (λ ms. a ∷ ms) (changed_at marks v m (omega (arith, there)))

@@ -1,8 +1,9 @@
 //! What is seen of a network at a moment, or at several.
 ghost use Rattle.std.specs.Prelude.{◌≡◌, ◌∷◌, ◌++◌};
 ghost use Rattle.run_recording.specs.Marks.{worse_marks};
-ghost use Rattle.run_recording.specs.Columns.{worse_column, is_even, with_last};
+ghost use Rattle.run_recording.specs.Columns.{column_of, worse_column, is_even, with_last, ArisesFrom, Follows};
 
+use crate::change::Change;
 use crate::mark::Mark;
 
 /// The most nodes of a network.
@@ -27,6 +28,23 @@ pub struct Column {
     pub bound: bool,
 }
 
+/// What is seen of a network at a moment, apart from the marks of its nodes.
+#[derive(Clone, Copy, Debug, PartialEq, Eq)]
+pub struct Counts {
+    /// How many nodes are privileged.
+    pub privileged: usize,
+    /// How many nodes lend.
+    pub lending: usize,
+    /// How many sweeps end at the moment.
+    pub sweeps: u64,
+    /// Whether damage was accepted.
+    pub damaged: bool,
+    /// Whether the sweeps since the last damage reached `Net::sharp_bound`.
+    pub sharp: bool,
+    /// Whether they reached `Net::bound`.
+    pub bound: bool,
+}
+
 impl Column {
     /// The worst of these moments and later ones: for each node the worse mark, the greater
     /// counts, all sweeps, and what happened at any of the moments.
@@ -42,6 +60,48 @@ impl Column {
             sharp: self.sharp | later.sharp,
             bound: self.bound | later.bound,
         }
+    }
+
+    /// The column of one moment.
+    pub fn of(marks: &[Mark; 64], counts: &Counts) -> Column
+        ensures { result ≡ column_of marks.now counts.now }
+    {
+        Column {
+            marks: *marks,
+            privileged: counts.privileged,
+            lending: counts.lending,
+            sweeps: counts.sweeps,
+            damaged: counts.damaged,
+            sharp: counts.sharp,
+            bound: counts.bound,
+        }
+    }
+
+    /// Makes this the worst of its moments and one more. Looks only at the marks that the change
+    /// names, since the column is at least as bad as the moment before.
+    fn worsen(&mut self, marks: &[Mark; 64], change: Change, counts: &Counts)
+        requires { ArisesFrom self.old.marks change marks.now }
+        ensures { self.new ≡ worse_column self.old (column_of marks.now counts.now) }
+    {
+        worsen_marks(&mut self.marks, marks, change);
+        self.privileged = self.privileged.max(counts.privileged);
+        self.lending = self.lending.max(counts.lending);
+        self.sweeps = self.sweeps.saturating_add(counts.sweeps);
+        self.damaged |= counts.damaged;
+        self.sharp |= counts.sharp;
+        self.bound |= counts.bound;
+    }
+}
+
+/// Makes each mark the worse of itself and the later one.
+fn worsen_marks(worst: &mut [Mark; 64], marks: &[Mark; 64], change: Change)
+    requires { ArisesFrom worst.old change marks.now }
+    ensures { worst.new ≡ worse_marks worst.old marks.now }
+{
+    match change {
+        Change::Nothing => {}
+        Change::At { node } => worst[node] = worst[node].worse(marks[node]),
+        Change::All => *worst = worse_marks(worst, marks),
     }
 }
 
@@ -64,12 +124,13 @@ pub fn is_even(columns: &[Column]) -> bool
 }
 
 /// The last column, if there is one, shows one moment more.
-pub fn worsen_last(columns: &mut [Column], moment: &Column)
-    ensures { columns.new ≡ with_last columns.old moment.now }
+pub fn worsen_last(columns: &mut [Column], marks: &[Mark; 64], change: Change, counts: &Counts)
+    requires { Follows columns.old change marks.now }
+    ensures { columns.new ≡ with_last columns.old (column_of marks.now counts.now) }
 {
     if columns.is_empty() {
         return;
     }
     let place = columns.len() - 1;
-    columns[place] = columns[place].worse(moment);
+    columns[place].worsen(marks, change, counts);
 }

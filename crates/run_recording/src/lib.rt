@@ -17,6 +17,7 @@
 //! join and go; [`first_visits`] and [`is_tree_edge`] use the given network.
 #![tactic(auto)]
 
+mod change;
 mod column;
 mod lanes;
 mod mark;
@@ -28,7 +29,8 @@ mod tour;
 mod under_way;
 mod window;
 
-pub use column::Column;
+pub use change::Change;
+pub use column::{Column, Counts};
 pub use film_stills;
 pub use film_stills::{Look, MOST_EDGES, MOST_FRAMED, MOST_WAYS, NO_EDGE, Place, Reel, Still};
 pub use lanes::Lanes;

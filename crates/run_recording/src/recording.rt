@@ -1,12 +1,14 @@
 //! What is kept of a run for its picture.
 ghost use Rattle.std.specs.Prelude.{◌≡◌, ◌+◌, ◌^◌, ◌<◌, ◌≤◌, ℕ, List, [], ◌∷◌, ◌++◌, Some, IfOk};
-ghost use Rattle.std.specs.Prelude.{length, is_some, option_map, if◌then◌else◌, IfSome};
+ghost use Rattle.std.specs.Prelude.{true, length, is_some, option_map, if◌then◌else◌, IfSome};
 ghost use Rattle.world.specs.judge.configuration.ConfigurationView.{world_of};
 ghost use Rattle.run_recording.specs.Filmed.{room_of, IsReeled};
 ghost use Rattle.world.specs.judge.Judging.{counted_up_to};
 ghost use Rattle.world.specs.judge.JudgeView.{AreSweepsSeen};
 ghost use Rattle.world.specs.SimulatedText.{events_of, simulated_start, said_events};
+ghost use Rattle.run_recording.specs.declared.change.Change.TheVariants.{All};
 ghost use Rattle.run_recording.specs.declared.column.Column.{Column};
+ghost use Rattle.run_recording.specs.Columns.{column_of, Follows, IsCovered};
 ghost use Rattle.run_recording.specs.Strips.{Shows};
 ghost use Rattle.run_recording.specs.Recordings.{shown_if, RecordsNext, IsRecorded};
 ghost use Rattle.run_recording.specs.Recordings.{IsReading};
@@ -16,8 +18,10 @@ ghost use Rattle.run_recording.specs.Laned.{IsLaned, KeepsWorld, lane_moments, l
 ghost use Rattle.run_recording.specs.Held.{is_held};
 ghost use Rattle.layers.specs.LayersOf.{AreLayersOf};
 
-use crate::column::Column;
+use crate::change::Change;
+use crate::column::Counts;
 use crate::lanes::Lanes;
+use crate::mark::Mark;
 use crate::sight::Sight;
 use crate::strip::Strip;
 use crate::under_way::under_way_of;
@@ -70,9 +74,11 @@ pub struct Recording<A: Allocator + Copy = Global> {
 }
 
 impl<A: Allocator + Copy> Model for Recording<A> {
-    ghost use Rattle.std.specs.Prelude.{◌+◌, ◌≤◌};
+    ghost use Rattle.std.specs.Prelude.{◌≡◌, ◌+◌, ◌≤◌, true};
     ghost use Rattle.world.specs.judge.configuration.ConfigurationView.{world_of};
     ghost use Rattle.run_recording.specs.Recordings.{RecordingView};
+    ghost use Rattle.run_recording.specs.Columns.{IsCovered};
+    ghost use Rattle.run_recording.specs.Held.{is_held};
     ghost use Rattle.run_recording.specs.Laned.{lane_moments};
     ghost use Rattle.run_recording.specs.Seen.{IsSightOf};
 
@@ -93,7 +99,8 @@ impl<A: Allocator + Copy> Model for Recording<A> {
 
     ghost invariant = { λ r. (r.strip.moments ≤ r.events + 1)
         × (lane_moments r.lanes ≤ r.events + 1)
-        × IsSightOf (world_of r.judge.configuration) r.sight };
+        × IsSightOf (world_of r.judge.configuration) r.sight
+        × (is_held r.window r.ended ≡ true → IsCovered r.strip.columns r.sight.marks) };
 }
 
 /// Reads an events text, lets its events happen on a network, from fresh nodes, empty links and 8
@@ -248,19 +255,19 @@ fn keep_layers<A: Allocator + Copy>(
     }
 }
 
-/// The column of a moment at which the sweeps since the last damage went from `before` to `after`.
-fn moment_of<A: Allocator + Copy>(
+/// What is seen, apart from the marks, at a moment at which the sweeps since the last damage went from
+/// `before` to `after`.
+fn counts_of<A: Allocator + Copy>(
     sight: &Sight,
     net: &Net<A>,
     damaged: bool,
     before: u64,
     after: u64,
-) -> Column
-    ensures { IsMomentSeen sight.now net.now damaged before after result }
+) -> Counts
+    ensures { IsMomentSeen sight.now net.now damaged before after (column_of sight.now.marks result) }
 {
     let ends = before < after;
-    Column {
-        marks: sight.marks,
+    Counts {
         privileged: sight.privileged,
         lending: sight.lending,
         sweeps: u64::from(ends),
@@ -303,8 +310,8 @@ impl<A: Allocator + Copy> Recording<A> {
     {
         let judge = Judge::new(world);
         let sight = Sight::of(judge.configuration());
-        let start = moment_of(&sight, judge.configuration().net(), false, 0, 0);
-        keep(&mut strip, window, 0, &start);
+        let start = counts_of(&sight, judge.configuration().net(), false, 0, 0);
+        keep(&mut strip, window, 0, &sight.marks, Change::All, &start);
         let take = Take {
             event: None,
             events: 0,
@@ -425,10 +432,10 @@ impl<A: Allocator + Copy> Recording<A> {
     {
         let before = self.judge.sweeps();
         let accepted = self.judge.step(event).is_ok();
-        self.sight.follow(self.judge.configuration(), event);
+        let change = self.sight.follow(self.judge.configuration(), event);
         let sweeps = self.judge.sweeps();
         let damaged = is_damage(event, accepted);
-        let moment = moment_of(
+        let counts = counts_of(
             &self.sight,
             self.judge.configuration().net(),
             damaged,
@@ -441,8 +448,16 @@ impl<A: Allocator + Copy> Recording<A> {
             sweeps: self.ended,
         };
         self.before = now_where(self.strip.columns().is_empty(), now, self.before);
-        self.ended = self.ended.saturating_add(moment.sweeps);
-        keep(&mut self.strip, self.window, self.ended, &moment);
+        let change = change_where(self.window.holds(self.ended), change);
+        self.ended = self.ended.saturating_add(counts.sweeps);
+        keep(
+            &mut self.strip,
+            self.window,
+            self.ended,
+            &self.sight.marks,
+            change,
+            &counts,
+        );
         let take = Take {
             event: Some(*event),
             events: self.events,
@@ -543,15 +558,31 @@ fn now_where(is_first: bool, now: Before, was: Before) -> Before
     if is_first { now } else { was }
 }
 
+/// What has changed since the last moment that was kept, if that is the moment before.
+fn change_where(was_kept: bool, change: Change) -> Change
+    ensures { result ≡ (if was_kept then change else All) }
+{
+    if was_kept { change } else { Change::All }
+}
+
 /// Keeps a moment, if the window holds it.
-fn keep<A: Allocator + Copy>(strip: &mut Strip<A>, window: Window, ended: u64, moment: &Column)
-    requires { strip.old.moments < 2 ^ 62 }
+fn keep<A: Allocator + Copy>(
+    strip: &mut Strip<A>,
+    window: Window,
+    ended: u64,
+    marks: &[Mark; 64],
+    change: Change,
+    counts: &Counts,
+)
+    requires few { strip.old.moments < 2 ^ 62 }
+    requires follows { Follows strip.old.columns change marks.now }
     ensures shows { (moments : List Column) → Shows strip.old moments
-        → Shows strip.new (moments ++ shown_if window ended moment.now) }
+        → Shows strip.new (moments ++ shown_if window ended (column_of marks.now counts.now)) }
+    ensures covers { is_held window ended ≡ true → IsCovered strip.new.columns marks.now }
     ensures limit { strip.new.limit ≡ strip.old.limit }
     ensures moments { strip.new.moments ≤ strip.old.moments + 1 }
 {
     if window.holds(ended) {
-        strip.push(moment);
+        strip.push(marks, change, counts);
     }
 }

@@ -7,8 +7,10 @@ ghost use Rattle.world.specs.run_model.declared.event.Event.TheVariants.{Damage}
 ghost use Rattle.run_recording.specs.Seen.{place_at, places_of, look_at, looks_of};
 ghost use Rattle.run_recording.specs.Seen.{edge_at, edges_of};
 ghost use Rattle.run_recording.specs.Seen.{is_same, is_at, look_by, mark_of_look, sight_of};
+ghost use Rattle.run_recording.specs.Columns.{AreChangedBy};
 ghost use Rattle.run_recording.specs.SightSteps.{DiffersAt, recounted, with_look};
 
+use crate::change::Change;
 use crate::mark::Mark;
 use film_stills::{Look, MOST_EDGES, NO_EDGE, Place};
 use std::alloc::Allocator;
@@ -197,16 +199,21 @@ impl Sight {
         }
     }
 
-    /// Updates what is seen after an event led to this configuration. Looks at one node at most,
-    /// unless an edge has joined or parted.
-    pub fn follow<A: Allocator + Copy>(&mut self, configuration: &Configuration<A>, event: &Event)
-        ensures { (w : World) → self.old ≡ sight_of w
+    /// Updates what is seen after an event led to this configuration, and says which marks may have
+    /// changed. Looks at one node at most, unless an edge has joined or parted.
+    pub fn follow<A: Allocator + Copy>(
+        &mut self,
+        configuration: &Configuration<A>,
+        event: &Event,
+    ) -> Change
+        ensures sight { (w : World) → self.old ≡ sight_of w
             → world_of configuration.now ≡ step w event.now
             → self.new ≡ sight_of (world_of configuration.now) }
+        ensures change { AreChangedBy result self.old.marks self.new.marks }
     {
         match *event {
-            Event::Send { .. } => {}
-            Event::Lose { .. } => {}
+            Event::Send { .. } => Change::Nothing,
+            Event::Lose { .. } => Change::Nothing,
             Event::Take { to, .. } => self.look_again(configuration, to),
             Event::Tick { node } => self.look_again(configuration, node),
             Event::Ask { node, .. } => self.look_again(configuration, node),
@@ -216,10 +223,15 @@ impl Sight {
     }
 
     /// Updates what is seen after damage. Looks at all nodes only if an edge has joined or parted.
-    fn follow_harm<A: Allocator + Copy>(&mut self, configuration: &Configuration<A>, harm: Harm)
-        ensures { (w : World) → self.old ≡ sight_of w
+    fn follow_harm<A: Allocator + Copy>(
+        &mut self,
+        configuration: &Configuration<A>,
+        harm: Harm,
+    ) -> Change
+        ensures sight { (w : World) → self.old ≡ sight_of w
             → world_of configuration.now ≡ step w (Damage harm)
             → self.new ≡ sight_of (world_of configuration.now) }
+        ensures change { AreChangedBy result self.old.marks self.new.marks }
     {
         match harm {
             Harm::Own { node, .. } => self.look_again(configuration, node),
@@ -228,21 +240,38 @@ impl Sight {
             Harm::Copy { node, .. } => self.look_again(configuration, node),
             Harm::Value { node, .. } => self.look_again(configuration, node),
             Harm::Desk { node, .. } => self.look_again(configuration, node),
-            Harm::Item { .. } => {}
-            Harm::Empty { .. } => {}
-            Harm::Join { .. } => *self = Sight::of(configuration),
-            Harm::Part { .. } => *self = Sight::of(configuration),
+            Harm::Item { .. } => Change::Nothing,
+            Harm::Empty { .. } => Change::Nothing,
+            Harm::Join { .. } => self.look_at_all(configuration),
+            Harm::Part { .. } => self.look_at_all(configuration),
         }
     }
 
+    /// Looks at all nodes.
+    fn look_at_all<A: Allocator + Copy>(&mut self, configuration: &Configuration<A>) -> Change
+        ensures sight { self.new ≡ sight_of (world_of configuration.now) }
+        ensures change { AreChangedBy result self.old.marks self.new.marks }
+    {
+        *self = Sight::of(configuration);
+        Change::All
+    }
+
     /// Updates what is seen if only this node changed.
-    fn look_again<A: Allocator + Copy>(&mut self, configuration: &Configuration<A>, v: u16)
-        ensures { (w : World) → self.old ≡ sight_of w → DiffersAt v w (world_of configuration.now)
+    fn look_again<A: Allocator + Copy>(
+        &mut self,
+        configuration: &Configuration<A>,
+        v: u16,
+    ) -> Change
+        ensures sight { (w : World) → self.old ≡ sight_of w → DiffersAt v w (world_of configuration.now)
             → self.new ≡ sight_of (world_of configuration.now) }
+        ensures change { AreChangedBy result self.old.marks self.new.marks }
     {
         if v < configuration.net().nodes() {
-            let place = usize::from(v);
-            self.put(place, look_by(configuration, self.places[place], v));
+            let node = usize::from(v);
+            self.put(node, look_by(configuration, self.places[node], v));
+            Change::At { node }
+        } else {
+            Change::Nothing
         }
     }
 

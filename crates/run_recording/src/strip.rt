@@ -1,11 +1,15 @@
 //! The columns of a picture, from left to right.
 ghost use Rattle.std.specs.Prelude.{◌≡◌, ◌+◌, ◌^◌, ◌<◌, ◌≤◌, List, [], ◌∷◌, ◌++◌, length, IfOk};
 ghost use Rattle.std.specs.Vec.{vec_capacity};
+ghost use Rattle.run_recording.specs.declared.change.Change.{Change};
 ghost use Rattle.run_recording.specs.declared.column.Column.{Column};
-ghost use Rattle.run_recording.specs.Columns.{folded, last_folded};
+ghost use Rattle.run_recording.specs.declared.mark.Mark.{Mark};
+ghost use Rattle.run_recording.specs.Columns.{column_of, folded, last_folded, Follows, IsCovered};
 ghost use Rattle.run_recording.specs.Strips.{Shows};
 
-use crate::column::{Column, is_even, worsen_last};
+use crate::change::Change;
+use crate::column::{Column, Counts, is_even, worsen_last};
+use crate::mark::Mark;
 use std::alloc::{AllocError, Allocator, Global};
 use std::marker::Model;
 use std::mem;
@@ -86,36 +90,41 @@ impl<A: Allocator + Copy> Strip<A> {
         self.width
     }
 
-    /// Adds one more moment, at most 2^62 in all.
-    pub fn push(&mut self, moment: &Column)
-        requires { self.old.moments < 2 ^ 62 }
+    /// Adds one more moment, at most 2^62 in all. The change is that since the moment before, or
+    /// [`Change::All`] if this one was not added.
+    pub fn push(&mut self, marks: &[Mark; 64], change: Change, counts: &Counts)
+        requires few { self.old.moments < 2 ^ 62 }
+        requires follows { Follows self.old.columns change marks.now }
         ensures shows { (moments : List Column)
-            → Shows self.old moments → Shows self.new (moments ++ moment.now ∷ []) }
+            → Shows self.old moments → Shows self.new (moments ++ column_of marks.now counts.now ∷ []) }
+        ensures covers { IsCovered self.new.columns marks.now }
         ensures limit { self.new.limit ≡ self.old.limit }
         ensures moments { self.new.moments ≡ self.old.moments + 1 }
     {
         if self.last == self.width && self.columns.len() == self.limit {
             self.fold();
         }
-        self.add(moment);
+        self.add(marks, change, counts);
     }
 
     /// Adds one more moment, if there is room for it.
-    fn add(&mut self, moment: &Column)
+    fn add(&mut self, marks: &[Mark; 64], change: Change, counts: &Counts)
         requires few { self.old.moments < 2 ^ 62 }
+        requires follows { Follows self.old.columns change marks.now }
         requires room { self.old.last ≡ self.old.width
             → length self.old.columns < self.old.limit }
         ensures shows { (moments : List Column)
-            → Shows self.old moments → Shows self.new (moments ++ moment.now ∷ []) }
+            → Shows self.old moments → Shows self.new (moments ++ column_of marks.now counts.now ∷ []) }
+        ensures covers { IsCovered self.new.columns marks.now }
         ensures limit { self.new.limit ≡ self.old.limit }
         ensures moments { self.new.moments ≡ self.old.moments + 1 }
     {
         self.moments += 1;
         if self.last == self.width {
-            self.columns.push_reserved(*moment);
+            self.columns.push_reserved(Column::of(marks, counts));
             self.last = 1;
         } else {
-            worsen_last(self.columns.as_mut_slice(), moment);
+            worsen_last(self.columns.as_mut_slice(), marks, change, counts);
             self.last += 1;
         }
     }
@@ -126,6 +135,8 @@ impl<A: Allocator + Copy> Strip<A> {
         requires some { 0 < length self.old.columns }
         requires few { self.old.moments < 2 ^ 62 }
         ensures shows { (moments : List Column) → Shows self.old moments → Shows self.new moments }
+        ensures follows { (change : Change) (marks : List Mark)
+            → Follows self.old.columns change marks → Follows self.new.columns change marks }
         ensures limit { self.new.limit ≡ self.old.limit }
         ensures moments { self.new.moments ≡ self.old.moments }
         ensures room { self.new.last ≡ self.new.width

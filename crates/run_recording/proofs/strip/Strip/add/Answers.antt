@@ -1,6 +1,7 @@
 use Rattle.std.proofs.Common.{◌≡◌, ◌∙◌, ap, ◌+◌, ◌<◌, ◌++◌, [], ◌∷◌, length, rules, arith}
 use Rattle.std.proofs.lemmas.Grind.{common_steps}
-use Rattle.run_recording.specs.Columns.{with_last}
+use Rattle.run_recording.specs.Columns.{column_of, with_last, Follows}
+use Rattle.run_recording.proofs.Columns.{covered_new, covered_last}
 use Rattle.run_recording.proofs.Strips.{shown_new, shown_last, last_within, written_back, with_last-length}
 use Rattle.run_recording.proofs.strip.Strip.add.Goals as goal
 
@@ -8,16 +9,17 @@ pub returns-then-self-clause-shows : goal.returns-then-self-clause-shows
 returns-then-self-clause-shows g c =
     λ moments h.
     let now = rw (← c.self.view_is) at h in
-    let long : length (moments ++ c.args.moment.now ∷ []) ≡ c.self.inside.moments + 1 = grind (arith, common_steps) in
-    (rw c.push_reserved.ensures.items (shown_new _ _ moments _ c.args.moment.now c.self.invariant.5.1 c.if-self.true now.0), long)
+    let long : length (moments ++ column_of c.args.marks.now c.args.counts.now ∷ []) ≡ c.self.inside.moments + 1 = grind (arith, common_steps) in
+    let new_is = c.push_reserved.ensures.items ∙ ap (λ x. c.self.inside.columns.items ++ x ∷ []) c.of.ensures in
+    (rw new_is (shown_new _ _ moments _ (column_of c.args.marks.now c.args.counts.now) c.self.invariant.5.1 c.if-self.true now.0), long)
 
 pub invariant_of-self : goal.invariant_of-self
 invariant_of-self g c =
-    let m = c.args.moment.now in
+    let m = column_of c.args.marks.now c.args.counts.now in
     let moments = c.self.invariant.5.0.0 in
     let now = c.self.invariant.5.0.1 in
     let free = (rw (← c.self.view_is) at c.requires.room) c.if-self.true in
-    let new_is = c.push_reserved.ensures.items in
+    let new_is = c.push_reserved.ensures.items ∙ ap (λ x. c.self.inside.columns.items ++ x ∷ []) c.of.ensures in
     let long : length (moments ++ m ∷ []) ≡ c.self.inside.moments + 1 = grind (arith, common_steps) in (
       c.self.invariant.0,
       grind (arith, common_steps),
@@ -39,7 +41,7 @@ overflow_add-self-else-self g c =
 pub returns-else-self-clause-shows : goal.returns-else-self-clause-shows
 returns-else-self-clause-shows g c =
     λ moments h.
-    let m = c.args.moment.now in
+    let m = column_of c.args.marks.now c.args.counts.now in
     let now = rw (← c.self.view_is) at h in
     let within = last_within _ _ _ _ now.0 in
     let room : c.self.inside.last < c.self.inside.width = grind (arith, common_steps) in
@@ -50,7 +52,7 @@ returns-else-self-clause-shows g c =
 
 pub invariant_of-self-else-self : goal.invariant_of-self-else-self
 invariant_of-self-else-self g c =
-    let m = c.args.moment.now in
+    let m = column_of c.args.marks.now c.args.counts.now in
     let moments = c.self.invariant.5.0.0 in
     let now = c.self.invariant.5.0.1 in
     let within = last_within _ _ _ _ now.0 in
@@ -71,3 +73,18 @@ invariant_of-self-else-self g c =
         omega (arith, c.self.invariant.5.2),
       ),
     )
+
+pub returns-then-self-clause-covers : goal.returns-then-self-clause-covers
+returns-then-self-clause-covers g c =
+    rw (c.push_reserved.ensures.items, c.of.ensures) (covered_new c.self.inside.columns.items c.args.marks.now c.args.counts.now)
+
+pub worsen_last-requires : goal.worsen_last-requires
+worsen_last-requires g c =
+    rw c.as_mut_slice.ensures.value (rw (← c.self.view_is) at c.requires.follows)
+
+pub returns-else-self-clause-covers : goal.returns-else-self-clause-covers
+returns-else-self-clause-covers g c =
+    let m = column_of c.args.marks.now c.args.counts.now in
+    let is = c.worsen_last.ensures ∙ ap (λ xs. with_last xs m) c.as_mut_slice.ensures.value in
+    let all : c.self.inside.columns.len ≡ length c.self.inside.columns.items = search (rules, arith) in
+    rw (written_back _ _ _ m all is) (covered_last c.self.inside.columns.items c.args.marks.now c.args.counts.now)

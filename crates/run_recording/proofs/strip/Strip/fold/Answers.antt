@@ -1,6 +1,7 @@
 use Rattle.std.proofs.Common.{◌∙◌, ap, sym, length, rules, arith}
 use Rattle.std.proofs.lemmas.Grind.{common_steps}
 use Rattle.run_recording.specs.Columns.{folded, is_even, last_folded}
+use Rattle.run_recording.proofs.Columns.{follows_folded}
 use Rattle.run_recording.proofs.Strips.{shown_folded, last_few, folded_room, full_room}
 use Rattle.run_recording.proofs.strip.Strip.fold.Goals as goal
 
@@ -52,3 +53,10 @@ returns-clause-room g c =
     ∙ ap (λ even. last_folded even c.self.inside.width c.self.inside.last) (c.is_even.ensures ∙ ap is_even c.as_slice-2.ensures.value) in
     let old_are = ap (λ s. length s.columns) c.self.view_is in
     rw (items_are, ← old_are) (full_room columns _ _ c.self.invariant.5.1 full some (sym last_is ∙ all))
+
+pub returns-clause-follows : goal.returns-clause-follows
+returns-clause-follows g c =
+    λ change marks h.
+    let now = rw (← c.self.view_is) at h in
+    let items_are = ap (λ v. v.items) c.swap.ensures.x_after ∙ c.fold_into.ensures.folded ∙ ap folded c.as_slice.ensures.value in
+    rw items_are (follows_folded c.self.inside.columns.items change marks now)
