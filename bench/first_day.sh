@@ -170,6 +170,14 @@ seconds() { bash -c 'TIMEFORMAT="%U"; time "$@" >output 2>said' bash "$@" 2>&1; 
 "$program" schedule large.toml --scramble 1 --random 174000 --seed 1 >large.txt
 drawn=$(seconds "$program" draw large.toml large.txt)
 awk -v d="$drawn" 'BEGIN { exit !(d <= 1) }' || wrong "174,000 events of a ring of 64 are drawn in $drawn s"
+# Ten times as many events are drawn in at most twice the time of their simulation; of each the best of five counts.
+"$program" schedule large.toml --scramble 1 --random 1740000 --seed 1 >larger.txt
+best() { for _ in 1 2 3 4 5; do seconds "$program" "$@"; done | sort -n | head -n 1; }
+drawn=$(best draw large.toml larger.txt)
+simulated=$(best simulate large.toml larger.txt)
+awk -v d="$drawn" -v s="$simulated" 'BEGIN { exit !(d <= 2 * s) }' ||
+    wrong "1,740,000 events of a ring of 64 are drawn in $drawn s, and simulated in $simulated s"
+rm larger.txt
 # A drawing of more than two seconds shows its progress on a terminal, and then removes the line.
 if command -v python3 >/dev/null; then
     python3 - "$program" <<'PYTHON' || wrong "a long drawing shows nothing on a terminal: $(cat said)"

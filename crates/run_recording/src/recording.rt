@@ -217,6 +217,7 @@ fn still_of(sight: &Sight, under_way: [u16; MOST_WAYS], take: Take) -> Still
 }
 
 /// Keeps a still, if a film is made and the window holds the moment.
+#[inline(always)]
 fn keep_still<A: Allocator + Copy>(
     reel: &mut Option<Reel<A>>,
     window: Window,
@@ -237,6 +238,7 @@ fn keep_still<A: Allocator + Copy>(
 
 /// Keeps what has settled, if that is asked for and the window holds the moment. It looks at the
 /// network only if the moment is the last one of its column.
+#[inline(always)]
 fn keep_layers<A: Allocator + Copy>(
     lanes: &mut Option<Lanes<A>>,
     window: Window,
@@ -257,6 +259,7 @@ fn keep_layers<A: Allocator + Copy>(
 
 /// What is seen, apart from the marks, at a moment at which the sweeps since the last damage went from
 /// `before` to `after`.
+#[inline(always)]
 fn counts_of<A: Allocator + Copy>(
     sight: &Sight,
     net: &Net<A>,
@@ -559,6 +562,7 @@ fn now_where(is_first: bool, now: Before, was: Before) -> Before
 }
 
 /// What has changed since the last moment that was kept, if that is the moment before.
+#[inline(always)]
 fn change_where(was_kept: bool, change: Change) -> Change
     ensures { result ≡ (if was_kept then change else All) }
 {
@@ -566,6 +570,7 @@ fn change_where(was_kept: bool, change: Change) -> Change
 }
 
 /// Keeps a moment, if the window holds it.
+#[inline(always)]
 fn keep<A: Allocator + Copy>(
     strip: &mut Strip<A>,
     window: Window,

@@ -248,6 +248,7 @@ impl Sight {
     }
 
     /// Looks at all nodes.
+    #[inline(never)]
     fn look_at_all<A: Allocator + Copy>(&mut self, configuration: &Configuration<A>) -> Change
         ensures sight { self.new ≡ sight_of (world_of configuration.now) }
         ensures change { AreChangedBy result self.old.marks self.new.marks }

@@ -92,6 +92,7 @@ impl<A: Allocator + Copy> Strip<A> {
 
     /// Adds one more moment, at most 2^62 in all. The change is that since the moment before, or
     /// [`Change::All`] if this one was not added.
+    #[inline(always)]
     pub fn push(&mut self, marks: &[Mark; 64], change: Change, counts: &Counts)
         requires few { self.old.moments < 2 ^ 62 }
         requires follows { Follows self.old.columns change marks.now }
@@ -108,6 +109,7 @@ impl<A: Allocator + Copy> Strip<A> {
     }
 
     /// Adds one more moment, if there is room for it.
+    #[inline(always)]
     fn add(&mut self, marks: &[Mark; 64], change: Change, counts: &Counts)
         requires few { self.old.moments < 2 ^ 62 }
         requires follows { Follows self.old.columns change marks.now }
@@ -130,6 +132,7 @@ impl<A: Allocator + Copy> Strip<A> {
     }
 
     /// Folds the columns in pairs, so that there is room for one more moment.
+    #[inline(never)]
     fn fold(&mut self)
         requires full { self.old.last ≡ self.old.width }
         requires some { 0 < length self.old.columns }
