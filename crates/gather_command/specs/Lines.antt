@@ -1,0 +1,56 @@
+-- What is said of records, in lines: which files are refused or damaged, and the numbers of a recording.
+use Rattle.std.specs.Prelude.{ℕ, List, [], ◌∷◌, ◌++◌, codes, decimal}
+use Rattle.flight_recorder.specs.Names.{record_name}
+use Rattle.record_gathering.specs.declared.found.Found.{Found}
+use Rattle.gather_command.specs.declared.fault.RecordFile.{RecordFile}
+use Rattle.gather_command.specs.declared.fault.Flaw.{Flaw}
+use Rattle.gather_command.specs.declared.fault.FlawKind.{FlawKind}
+use Rattle.gather_command.specs.declared.fault.FlawKind.TheVariants as kind
+use Rattle.gather_command.specs.declared.fault.GatherFault.{GatherFault}
+use Rattle.gather_command.specs.declared.fault.GatherFault.TheVariants as fault
+use Rattle.gather_command.specs.declared.summary.Summary.{Summary}
+
+-- the path of a file of a record, in its folder
+abbrev pub file_name : List ℕ → RecordFile → List ℕ
+file_name dir file = record_name dir file.node file.side
+
+-- why the records of a folder give no list of events
+abbrev pub fault_line : List ℕ → GatherFault → List ℕ
+fault_line dir (fault.Absent v) = codes "node " ++ (decimal v ++ (codes " has no record in " ++ dir))
+fault_line dir (fault.Unreadable file) = codes "cannot read " ++ file_name dir file
+fault_line dir (fault.NoRecord file) = file_name dir file ++ codes " is no record of this version"
+fault_line dir (fault.OtherNetwork file) = file_name dir file ++ codes " is of another network"
+fault_line dir (fault.OtherNode file v) =
+    file_name dir file ++ (codes " is the record of node " ++ decimal v)
+fault_line dir fault.Output = codes "output Refused"
+fault_line dir fault.Memory = codes "memory Refused"
+fault_line dir fault.TooMany = codes "too many entries in " ++ dir
+
+-- where a file was not read to its end, and why
+abbrev pub flaw_text : FlawKind → List ℕ → List ℕ → List ℕ
+flaw_text kind.Torn name instant =
+    name ++ (codes " ends within an entry, after microsecond " ++ instant)
+flaw_text kind.Spoiled name instant = name ++ (codes " is damaged after microsecond " ++ instant)
+flaw_text kind.Unreadable name instant =
+    codes "cannot read " ++ (name ++ (codes " after microsecond " ++ instant))
+
+abbrev pub flaw_line : List ℕ → Flaw → List ℕ
+flaw_line dir flaw = flaw_text flaw.kind (file_name dir flaw.file) (decimal flaw.instant)
+
+-- how much was gathered
+abbrev pub stretch_line : Summary → List ℕ
+stretch_line s =
+    codes "nodes " ++ (decimal s.nodes ++ (codes ", events " ++ (decimal s.found.events
+    ++ (codes ", time " ++ (decimal s.stretch ++ codes " microseconds")))))
+
+-- what is wrong by the records, in numbers
+abbrev pub found_line : Found → List ℕ
+found_line f =
+    codes "frames lost " ++ (decimal f.lost ++ (codes ", harms " ++ (decimal f.harms
+    ++ (codes ", frames that nobody sent " ++ decimal f.forged))))
+
+-- how long turns and loans took
+abbrev pub loans_line : Summary → List ℕ
+loans_line s =
+    codes "loans " ++ (decimal s.loans ++ (codes ", longest loan " ++ (decimal s.longest_loan
+    ++ (codes " microseconds, longest turn " ++ (decimal s.longest_turn ++ codes " microseconds")))))
