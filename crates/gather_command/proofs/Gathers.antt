@@ -13,6 +13,7 @@ use Rattle.gather_command.specs.declared.fault.Flaw.{Flaw}
 use Rattle.gather_command.specs.declared.fault.FlawKind.{FlawKind}
 use Rattle.gather_command.specs.declared.fault.GatherFault.{GatherFault}
 use Rattle.gather_command.specs.declared.fault.GatherFault.TheVariants as fault
+use Rattle.gather_command.specs.declared.damage.Difference.{Difference}
 use Rattle.gather_command.specs.declared.summary.Summary.{Summary}
 use Rattle.gather_command.specs.View.{NodeRecordView}
 use Rattle.gather_command.specs.WeavingView.{WeavingView}
@@ -20,7 +21,7 @@ use Rattle.gather_command.specs.declared.records.Opened.{Opened}
 use Rattle.gather_command.specs.Reading.{Reads, Begins, OpensNoMore}
 use Rattle.gather_command.specs.Records.{IsFileOf, IsRecordOf, AreRecordsOf, NoMore, OneMore, IsToCome, AreToCome, IsRecordFault, IsFault, flaws_in}
 use Rattle.gather_command.specs.Weave.{Moment, events_of, IsWoven}
-use Rattle.gather_command.specs.Watch.{Seen, seen_after, nothing_seen, numbers_of}
+use Rattle.gather_command.specs.Watch.{Seen, seen_after, nothing_seen, seen_of, numbers_of}
 use Rattle.gather_command.specs.Woven.{world_in, IsAtStart, IsTurn, HasWoven, IsBroken}
 use Rattle.gather_command.specs.Gathered.{AreOpened, IsGathered, IsRefused}
 use Rattle.gather_command.proofs.Files.{fault-as}
@@ -156,18 +157,19 @@ fails-with P (Err y) why e p = subst P (sym e) p
 
 pub gathered : {K : Type 0} (C : Type 0) (R : ℕ → Side → List Entry → Option FlawKind → Type 0)
     (takes : K → List Event → K → Type 0) (failures : K → ℕ) (net : Network) (nodes : List NodeRecordView)
-    (start final : WeavingView) (before after : K) (ms : List Moment) (summary : Summary) (flaws : List Flaw)
-    → AreOpened C R (network_mark net) 0 nodes → length nodes ≡ net.nodes → IsAtStart net nodes start
+    (start final : WeavingView) (before after : K) (ms : List Moment) (summary : Summary)
+    (differences : List Difference) (flaws : List Flaw) → AreOpened C R (network_mark net) 0 nodes → length nodes ≡ net.nodes → IsAtStart net nodes start
     → HasWoven C takes failures start before ms final after → IsTurn final None
-    → summary ≡ numbers_of net.nodes final.seen → flaws ≡ flaws_in final.records
-    → IsGathered R takes net before summary flaws after
-gathered C R takes failures net nodes start final before after ms summary flaws opened number at has none sum same =
+    → summary ≡ numbers_of net.nodes final.seen → differences ≡ final.seen.damage.shown → flaws ≡ flaws_in final.records
+    → IsGathered R takes net before summary differences flaws after
+gathered C R takes failures net nodes start final before after ms summary differences flaws opened number at has none sum shown same =
     let all = was-all C start final ms has.leads none in
     let come : AreToCome C nodes all.before (flaws_in final.records) =
     subst (λ (l : List NodeRecordView). AreToCome C l all.before (flaws_in final.records)) at.records_are all.come in
     let (records, n) = opened all.before (flaws_in final.records) come in
     let from_queues : IsWoven (world_in start) (replicate net.nodes []) all.before ms =
     subst (λ (q : List (List ℕ)). IsWoven (world_in start) q all.before ms) at.queues all.woven in
+    let seen : final.seen ≡ seen_of net.nodes ms = has.seen ∙ ap (λ (s : Seen). fold seen_after s ms) at.seen in
     record {
       entries = all.before;
       moments = ms;
@@ -175,5 +177,6 @@ gathered C R takes failures net nodes start final before after ms summary flaws 
       all = n ∙ number;
       woven = subst (λ (w : World). IsWoven w (replicate net.nodes []) all.before ms) at.world from_queues;
       taken = has.taken;
-      numbers = sum ∙ ap (numbers_of net.nodes) (has.seen ∙ ap (λ (s : Seen). fold seen_after s ms) at.seen);
+      numbers = sum ∙ ap (numbers_of net.nodes) seen;
+      differences_are = shown ∙ ap (λ (s : Seen). s.damage.shown) seen;
     }

@@ -7,6 +7,9 @@ use Rattle.record_pages.specs.flight_records.declared.entry.Entry.{Entry}
 use Rattle.record_pages.specs.flight_records.declared.entry.Noted.{Noted}
 use Rattle.record_pages.specs.flight_records.declared.entry.Noted.TheVariants as noted
 use Rattle.record_pages.specs.flight_records.declared.entry.Deed.TheVariants.{Ticks}
+use Rattle.record_pages.specs.flight_records.declared.entry.StatePart.TheVariants.{Own, Whole}
+use Rattle.record_gathering.specs.declared.fields.Field.{Field}
+use Rattle.record_gathering.specs.declared.fields.Field.TheVariants.{Distance, Parent}
 use Rattle.record_pages.specs.flight_records.Reading.{entry_at, count_of, checked, entry_of, candidate}
 use Rattle.record_pages.specs.flight_records.leb128.Reading.{number_at}
 use Rattle.record_pages.specs.flight_records.Again.{no_frames}
@@ -53,7 +56,7 @@ at-once e = cc e
 
 -- node 1 ticks twice, 50 microseconds apart; node 0 lends for 30
 abbrev moment : ℕ → Entry → Option ℕ → Moment
-moment v e lent = record { node = v; entry = e; events = []; lent = lent }
+moment v e lent = record { node = v; entry = e; events = []; lent = lent; fields = [] }
 
 abbrev seen : Seen
 seen = fold seen_after (nothing_seen 2)
@@ -65,7 +68,7 @@ turn = refl
 loans : seen.watch.loans ≡ 1
 loans = refl
 
-loan : seen.watch.longest_loan ≡ 30
+loan : seen.watch.longest_loan ≡ Some (record { node = 0; ticket = 7; time = 30 })
 loan = refl
 
 not-of-two-nodes : seen.watch.longest_turn ≡ 30 → ⊥
@@ -74,3 +77,25 @@ not-of-two-nodes e = cc e
 -- weaving does not end while an entry is left
 none-left-out : (w : World) → w.net.nodes ≡ 1 → IsWoven w [] ((tick 9 ∷ []) ∷ []) [] → ⊥
 none-left-out w n (NoneLeft none) = cc (none 0 (grind (arith, n)))
+
+-- node 1's whole state is noted at 910; a field that differs before that is no damage, one after it is
+abbrev differs : ℕ → Noted → List (Option Field) → Moment
+differs instant n fields =
+    record { node = 1; entry = record { instant = instant; noted = n }; events = []; lent = None; fields = fields }
+
+abbrev harmed : Seen
+harmed = fold seen_after (nothing_seen 2)
+    (differs 910 (noted.State (Own 1 None)) (Some Distance ∷ None ∷ []) ∷ differs 910 (noted.State Whole) []
+    ∷ differs 990 (noted.State (Own 2 (Some 0))) (None ∷ Some Parent ∷ []) ∷ [])
+
+one-difference : harmed.damage.shown ≡ record { node = 1; instant = 990; field = Parent } ∷ []
+one-difference = refl
+
+counted : harmed.damage.count ≡ 1
+counted = refl
+
+not-both : harmed.damage.count ≡ 2 → ⊥
+not-both e = cc e
+
+not-the-distance : harmed.damage.shown ≡ record { node = 1; instant = 990; field = Distance } ∷ [] → ⊥
+not-the-distance e = cc e

@@ -8,7 +8,10 @@ use Rattle.gather_command.specs.declared.fault.Flaw.{Flaw}
 use Rattle.gather_command.specs.View.{NodeRecordView, heads_in}
 use Rattle.gather_command.specs.Records.{flaws_of, flaws_in}
 use Rattle.gather_command.specs.Weave.{Moment}
-use Rattle.gather_command.specs.Watch.{WatchView, with_tick, with_lent, with_moment, is_tick}
+use Rattle.gather_command.specs.Watch.{WatchView, with_state, with_tick, with_lent, with_end, with_turn, with_moment, is_tick, is_whole}
+
+state-length : (w : WatchView) (v : ℕ) → length (with_state w v).nodes ≡ length w.nodes
+state-length w v = length-set w.nodes v _
 
 tick-length : (w : WatchView) (v instant : ℕ) → length (with_tick w v instant).nodes ≡ length w.nodes
 tick-length w v instant = length-set w.nodes v _
@@ -28,8 +31,12 @@ either-length false w x e = refl
 
 pub watch-length : (w : WatchView) (m : Moment) → length (with_moment w m).nodes ≡ length w.nodes
 watch-length w m =
-    lent-length (if is_tick m.entry.noted then with_tick w m.node m.entry.instant else w) m.node m.lent m.entry.instant
-    ∙ either-length (is_tick m.entry.noted) w (with_tick w m.node m.entry.instant) (tick-length w m.node m.entry.instant)
+    let v = m.node in
+    let e = m.entry in
+    let x = with_end w v e in
+    lent-length (with_turn x v e) v m.lent e.instant
+    ∙ either-length (is_tick e.noted) x (with_tick x v e.instant) (tick-length x v e.instant)
+    ∙ either-length (is_whole e.noted) w (with_state w v) (state-length w v)
 
 pub flaws-more : (rs : List NodeRecordView) (r : NodeRecordView) → flaws_in (rs ++ r ∷ []) ≡ flaws_in rs ++ flaws_of r
 flaws-more [] r = append-nil (flaws_of r)

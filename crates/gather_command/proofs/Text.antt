@@ -6,6 +6,7 @@ use Rattle.command_parts.specs.EventText.{GrowsByText}
 use Rattle.record_gathering.specs.configuration.run_model.declared.event.Event.{Event}
 use Rattle.record_gathering.specs.flight_records.declared.entry.Entry.{Entry}
 use Rattle.flight_recorder.specs.declared.recorder.Side.{Side}
+use Rattle.gather_command.specs.declared.damage.Difference.{Difference}
 use Rattle.gather_command.specs.declared.fault.Flaw.{Flaw}
 use Rattle.gather_command.specs.declared.fault.FlawKind.{FlawKind}
 use Rattle.gather_command.specs.declared.summary.Summary.{Summary}
@@ -21,10 +22,10 @@ grows-kept (Some xs) (Some ys) (Some zs) es grown kept = kept ∙ grown
 
 -- a sink that has taken the same events
 pub gathered-later : {K : Type 0} (R : ℕ → Side → List Entry → Option FlawKind → Type 0) (takes : K → List Event → K → Type 0)
-    (net : Network) (before mid after : K) (summary : Summary) (flaws : List Flaw)
-    → ((es : List Event) → takes before es mid → takes before es after)
-    → IsGathered R takes net before summary flaws mid → IsGathered R takes net before summary flaws after
-gathered-later R takes net before mid after summary flaws more x = record {
+    (net : Network) (before mid after : K) (summary : Summary) (differences : List Difference)
+    (flaws : List Flaw) → ((es : List Event) → takes before es mid → takes before es after)
+    → IsGathered R takes net before summary differences flaws mid → IsGathered R takes net before summary differences flaws after
+gathered-later R takes net before mid after summary differences flaws more x = record {
   entries = x.entries;
   moments = x.moments;
   records = x.records;
@@ -32,4 +33,5 @@ gathered-later R takes net before mid after summary flaws more x = record {
   woven = x.woven;
   taken = more (events_of x.moments) x.taken;
   numbers = x.numbers;
+  differences_are = x.differences_are;
 }

@@ -11,18 +11,19 @@ use Rattle.gather_command.specs.declared.fault.Flaw.{Flaw}
 use Rattle.gather_command.specs.declared.fault.FlawKind.{FlawKind}
 use Rattle.gather_command.specs.declared.fault.GatherFault.{GatherFault}
 use Rattle.gather_command.specs.declared.fault.GatherFault.TheVariants as fault
+use Rattle.gather_command.specs.declared.damage.Difference.{Difference}
 use Rattle.gather_command.specs.declared.summary.Summary.{Summary}
 use Rattle.gather_command.specs.View.{NodeRecordView}
 use Rattle.gather_command.specs.Records.{AreRecordsOf, AreToCome, IsFault}
 use Rattle.gather_command.specs.Weave.{Moment, events_of, IsWoven}
-use Rattle.gather_command.specs.Watch.{summary_of}
+use Rattle.gather_command.specs.Watch.{seen_of, summary_of}
 
 -- The records of all nodes were read to their ends, or to their first flaws, and woven from the network
--- as it starts. A sink took the events of what was woven, and they are counted. `Reads` says how the
--- files are read, and `takes` what the sink took.
+-- as it starts. A sink took the events of what was woven, and they are counted; the first differences are
+-- listed. `Reads` says how the files are read, and `takes` what the sink took.
 pub record IsGathered {K : Type 0} (Reads : ℕ → Side → List Entry → Option FlawKind → Type 0)
-    (takes : K → List Event → K → Type 0) (net : Network) (before : K) (summary : Summary) (flaws : List Flaw)
-    (after : K) : Type 0 where
+    (takes : K → List Event → K → Type 0) (net : Network) (before : K) (summary : Summary)
+    (differences : List Difference) (flaws : List Flaw) (after : K) : Type 0 where
   pub entries : List (List Entry)
   pub moments : List Moment
   pub records : AreRecordsOf Reads (network_mark net) 0 entries flaws
@@ -30,6 +31,7 @@ pub record IsGathered {K : Type 0} (Reads : ℕ → Side → List Entry → Opti
   pub woven : IsWoven (world_with_spares net 8) (replicate net.nodes []) entries moments
   pub taken : takes before (events_of moments) after
   pub numbers : summary ≡ summary_of net.nodes moments
+  pub differences_are : differences ≡ (seen_of net.nodes moments).damage.shown
 
 -- why nothing was gathered: the sink failed, or memory ran out, or there are too many entries; or a record
 -- is refused, and then the sink is as it was

@@ -10,6 +10,7 @@ pub mod Folder
 pub mod View
 pub mod Records
 pub mod Weave
+pub mod Damage
 pub mod Watch
 pub mod WeavingView
 pub mod Woven

@@ -13,6 +13,8 @@ use Rattle.record_gathering.specs.Accepted.{accepted}
 use Rattle.record_gathering.specs.Counts.{with_events, nothing}
 use Rattle.record_gathering.specs.declared.found.Found.{Found}
 use Rattle.record_gathering.specs.Entries.{entry_events}
+use Rattle.record_gathering.specs.Fields.{fields_of}
+use Rattle.record_gathering.specs.declared.fields.Field.{Field}
 use Rattle.record_gathering.specs.Order.{IsNext, head_of}
 use Rattle.record_gathering.specs.Queues.{queue_of, queues_after}
 
@@ -37,13 +39,14 @@ events_at w queues v e = accepted w (entry_events w (queue_of queues v) v e.note
 abbrev pub world_after : World → List (List ℕ) → ℕ → Entry → World
 world_after w queues v e = run w (events_at w queues v e)
 
--- An entry that was woven: of whose record it is, the events that it became, and whom its node lends the
--- lock to after them.
+-- An entry that was woven: of whose record it is, the events that it became, whom its node lends the lock
+-- to after them, and which fields of the node stood otherwise before them.
 pub record Moment : Type 0 where
   pub node : ℕ
   pub entry : Entry
   pub events : List Event
   pub lent : Option ℕ
+  pub fields : List (Option Field)
 
 abbrev pub moment_at : World → List (List ℕ) → ℕ → Entry → Moment
 moment_at w queues v e = record {
@@ -51,6 +54,7 @@ moment_at w queues v e = record {
   entry = e;
   events = events_at w queues v e;
   lent = ((world_after w queues v e).node v).desk.lent;
+  fields = fields_of w (queue_of queues v) v e.noted;
 }
 
 -- the events of all of them

@@ -7,11 +7,14 @@ ghost use Rattle.gather_command.specs.Reading.{MayFail, Reads, Begins};
 ghost use Rattle.gather_command.specs.Gathered.{IsGathered, IsRefused};
 ghost use Rattle.gather_command.specs.Ends.{EndsWith, flaws_status};
 
+use crate::damage::Difference;
 use crate::fault::{Flaw, GatherFault};
 use crate::folder::{FolderRecords, is_folder};
 use crate::gathered::{Gathered, gather};
-use crate::lines::{FaultLine, FlawLine, FoundLine, LoansLine, StretchLine};
+use crate::lines::{DifferenceLine, DifferencesLine, FaultLine, FlawLine};
+use crate::lines::{FoundLine, LoansLine, StretchLine};
 use crate::records::Records;
+use crate::summary::Summary;
 use command_parts::{EventText, Fault, read_network};
 use std::alloc::Global;
 use std::io::{BufWriter, Write, writer};
@@ -20,9 +23,10 @@ use std::rt::Files;
 use topology::Net;
 
 /// Prints what the nodes of a file's network did, as their records in a folder say, as a list of
-/// events: a line each. Then a line on standard error names each file that was not read to its end, and
-/// three lines say in numbers what the records show. The status is 1 if a file was not read to its
-/// end, or if a record gives no events; then a line on standard error says which and why.
+/// events: a line each. Then a line on standard error names each file that was not read to its end, one
+/// each of the first fields that stood otherwise than what their nodes' records led to, and four lines say
+/// in numbers what the records show. The status is 1 if a file was not read to its end, or if a record
+/// gives no events; then a line on standard error says which and why.
 ///
 /// What is unproved: that the entries that are woven are those of the folder's files, and that the
 /// text reaches standard output; neither says what its bytes are. [`gather_text`] says all the rest.
@@ -79,7 +83,7 @@ pub fn gather_text<R: Records, W: Write + Drop>(
         IsGathered (Reads (R.opens records.old) R.File.rest (MayFail R.File.failures))
         (λ a events b. GrowsByText (writer_contents W.contents a.writer) events
         (writer_contents W.contents b.writer))
-        net.now text.old g.summary g.flaws.items text.new) }
+        net.now text.old g.summary g.differences.items g.flaws.items text.new) }
     ensures written { OnOk result (writer_buffer text.new.writer ≡ []) }
     ensures refused { IfErr result (λ fault.
         IsRefused (Reads (R.opens records.old) R.File.rest (MayFail R.File.failures))
@@ -92,20 +96,40 @@ pub fn gather_text<R: Records, W: Write + Drop>(
     }
 }
 
-/// Says which files were not read to their ends, and what the records show, in numbers.
+/// Says which files were not read to their ends, which fields of nodes stood otherwise than what their
+/// records led to, and what the records show, in numbers.
 fn say_gathered<R: Eprint>(rt: &R, dir: &str, gathered: &Gathered) {
     for flaw in &gathered.flaws {
         say_flaw(rt, dir, *flaw);
     }
-    let summary = gathered.summary;
+    for difference in &gathered.differences {
+        say_difference(rt, *difference);
+    }
+    let named = gathered.differences.len();
+    say_summary(rt, gathered.summary, named);
+}
+
+/// Says what the records show, in numbers; so many differences are named.
+fn say_summary<R: Eprint>(rt: &R, summary: Summary, named: usize) {
     let (stretch, found, loans) = (
         StretchLine(summary),
         FoundLine(summary.found),
         LoansLine(summary),
     );
+    let differences = DifferencesLine {
+        count: summary.differences,
+        named,
+    };
     let _ = eprintln!(rt; "tokentree: {stretch}");
     let _ = eprintln!(rt; "tokentree: {found}");
+    let _ = eprintln!(rt; "tokentree: {differences}");
     let _ = eprintln!(rt; "tokentree: {loans}");
+}
+
+/// Says which field of a node stood otherwise.
+fn say_difference<R: Eprint>(rt: &R, difference: Difference) {
+    let line = DifferenceLine(difference);
+    let _ = eprintln!(rt; "tokentree: {line}");
 }
 
 /// Says where a file was not read to its end.

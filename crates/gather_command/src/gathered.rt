@@ -9,6 +9,7 @@ ghost use Rattle.gather_command.specs.Woven.{IsOneWoven, AreAllWoven, IsTurn, Ha
 ghost use Rattle.gather_command.specs.Woven.{world_in};
 ghost use Rattle.gather_command.specs.Gathered.{IsGathered, IsRefused, AreOpened};
 
+use crate::damage::Difference;
 use crate::fault::{Flaw, GatherFault};
 use crate::node_record::NodeRecord;
 use crate::records::Records;
@@ -27,6 +28,8 @@ use topology::Net;
 pub struct Gathered {
     /// What it shows, in numbers.
     pub summary: Summary,
+    /// The first fields that stood otherwise than what their nodes' records led to, 64 at most.
+    pub differences: Vec<Difference>,
     /// The files that were not read to their ends.
     pub flaws: Vec<Flaw>,
 }
@@ -66,10 +69,10 @@ pub fn gather<R: Records, S: EventSink>(
     records: &mut R,
     sink: &mut S,
 ) -> Result<Gathered, GatherFault>
-    // The summary counts the events, and each flaw is one of a file.
+    // The summary counts the events; each difference is one of a node, and each flaw one of a file.
     ensures gathered { IfOk result (λ g.
         IsGathered (Reads (R.opens records.old) R.File.rest (MayFail R.File.failures)) S.takes
-        net.now sink.old g.summary g.flaws.items sink.new) }
+        net.now sink.old g.summary g.differences.items g.flaws.items sink.new) }
     ensures counted { OnOk result (S.failures sink.old ≤ S.failures sink.new) }
     ensures refused { IfErr result (λ fault.
         IsRefused (Reads (R.opens records.old) R.File.rest (MayFail R.File.failures))
@@ -80,6 +83,7 @@ pub fn gather<R: Records, S: EventSink>(
     weave_all(alloc, &mut weaving, sink)?;
     Ok(Gathered {
         summary: weaving.numbers(net.nodes()),
+        differences: weaving.differences(alloc)?,
         flaws: weaving.flaws(alloc)?,
     })
 }

@@ -21,6 +21,7 @@
 
 mod begun_file;
 pub mod command;
+mod damage;
 mod fault;
 mod folder;
 mod gathered;
@@ -33,10 +34,14 @@ mod summary;
 mod watch;
 mod weaving;
 
+pub use damage::Difference;
 pub use fault::{Flaw, FlawKind, GatherFault, RecordFile};
 pub use flight_recorder::Side;
 pub use folder::FolderRecords;
 pub use gathered::{Gathered, gather};
-pub use lines::{FaultLine, FlawLine, FoundLine, LoansLine, StretchLine};
+pub use lines::{
+    DifferenceLine, DifferencesLine, FaultLine, FlawLine, FoundLine, LoansLine, StretchLine,
+};
 pub use records::{MemoryRecord, MemoryRecords, Opened, Records};
-pub use summary::Summary;
+pub use record_gathering::Field;
+pub use summary::{Lasted, Summary};

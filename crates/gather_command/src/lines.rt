@@ -2,10 +2,11 @@
 ghost use Rattle.std.specs.Prelude.{◌≡◌};
 ghost use Rattle.flight_recorder.specs.Names.{side_number};
 
+use crate::damage::Difference;
 use crate::fault::{Flaw, FlawKind, GatherFault, RecordFile};
-use crate::summary::Summary;
+use crate::summary::{Lasted, Summary};
 use flight_recorder::Side;
-use record_gathering::Found;
+use record_gathering::{Field, Found};
 use std::fmt;
 
 /// The number of a file of a record.
@@ -146,6 +147,28 @@ impl fmt::Display for FoundLine {
     }
 }
 
+/// Which loan was the longest, if there is one.
+#[derive(Clone, Copy)]
+struct LastedText(Option<Lasted>);
+
+impl fmt::Display for LastedText {
+    ghost use Rattle.std.specs.Prelude.{Some};
+    ghost use Rattle.gather_command.specs.Lines.{lasted_text};
+
+    ghost output = { λ text. Some (lasted_text text.0) };
+
+    fn fmt<W: fmt::Write>(&self, f: &mut fmt::Formatter<W>) -> fmt::Result {
+        let Some(lasted) = self.0 else {
+            return Ok(());
+        };
+        let (time, ticket, node) = (lasted.time, lasted.ticket, lasted.node);
+        write!(
+            f,
+            ", longest loan {time} microseconds to ticket {ticket} at node {node}"
+        )
+    }
+}
+
 /// How long turns and loans took, as a line without its end.
 #[derive(Clone, Copy)]
 pub struct LoansLine(pub Summary);
@@ -157,10 +180,92 @@ impl fmt::Display for LoansLine {
     ghost output = { λ line. Some (loans_line line.0) };
 
     fn fmt<W: fmt::Write>(&self, f: &mut fmt::Formatter<W>) -> fmt::Result {
-        let (loans, loan, turn) = (self.0.loans, self.0.longest_loan, self.0.longest_turn);
+        let (turn, loans) = (self.0.longest_turn, self.0.loans);
+        let lasted = LastedText(self.0.longest_loan);
         write!(
             f,
-            "loans {loans}, longest loan {loan} microseconds, longest turn {turn} microseconds"
+            "longest turn {turn} microseconds, loans {loans}{lasted}"
         )
+    }
+}
+
+/// A field, by its name.
+#[derive(Clone, Copy)]
+struct FieldText(Field);
+
+impl fmt::Display for FieldText {
+    ghost use Rattle.std.specs.Prelude.{Some};
+    ghost use Rattle.gather_command.specs.Lines.{field_text};
+
+    ghost output = { λ text. Some (field_text text.0) };
+
+    fn fmt<W: fmt::Write>(&self, f: &mut fmt::Formatter<W>) -> fmt::Result {
+        match self.0 {
+            Field::Distance => f.write_str("distance"),
+            Field::Parent => f.write_str("parent"),
+            Field::Number { neighbour } => {
+                write!(f, "number of what it sends to node {neighbour}")
+            }
+            Field::Last { neighbour } => write!(f, "last number from node {neighbour}"),
+            Field::Staged { neighbour } => write!(f, "payload for node {neighbour}"),
+            Field::Copied { neighbour } => write!(f, "payload from node {neighbour}"),
+            Field::Value { neighbour } => write!(f, "ring value from node {neighbour}"),
+            Field::Waiting => f.write_str("tickets that wait"),
+            Field::Lent => f.write_str("ticket of the loan"),
+            Field::Left => f.write_str("ticks left of the loan"),
+            Field::Served => f.write_str("whether it served"),
+            Field::Taken { neighbour } => {
+                write!(f, "a frame that node {neighbour} did not send")
+            }
+        }
+    }
+}
+
+/// Which field of which node stood otherwise than what the node's record led to, and when, as a line
+/// without its end.
+#[derive(Clone, Copy)]
+pub struct DifferenceLine(pub Difference);
+
+impl fmt::Display for DifferenceLine {
+    ghost use Rattle.std.specs.Prelude.{Some};
+    ghost use Rattle.gather_command.specs.Lines.{difference_line};
+
+    ghost output = { λ line. Some (difference_line line.0) };
+
+    fn fmt<W: fmt::Write>(&self, f: &mut fmt::Formatter<W>) -> fmt::Result {
+        let (node, instant) = (self.0.node, self.0.instant);
+        let field = FieldText(self.0.field);
+        write!(
+            f,
+            "node {node} differs at microsecond {instant}: {field}"
+        )
+    }
+}
+
+/// How many fields stood otherwise, and how many of them are named, as a line without its end.
+#[derive(Clone, Copy)]
+pub struct DifferencesLine {
+    /// How many stood otherwise.
+    pub count: u64,
+    /// How many of them are named.
+    pub named: usize,
+}
+
+impl fmt::Display for DifferencesLine {
+    ghost use Rattle.std.specs.Prelude.{Some};
+    ghost use Rattle.gather_command.specs.Lines.{differences_line};
+
+    ghost output = { λ line. Some (differences_line line.count line.named) };
+
+    fn fmt<W: fmt::Write>(&self, f: &mut fmt::Formatter<W>) -> fmt::Result {
+        let (count, named) = (self.count, self.named);
+        if count == named as u64 {
+            write!(f, "differences {count}")
+        } else {
+            write!(
+                f,
+                "differences {count}, of which the first {named} are named"
+            )
+        }
     }
 }

@@ -1,9 +1,11 @@
 //! What is watched of each node while its record is read: its turns and its loans.
 ghost use Rattle.std.specs.Prelude.{◌≡◌, ◌<◌, IfOk, option_map, length};
-ghost use Rattle.gather_command.specs.Watch.{unwatched, with_tick, with_lent, since, loan_to};
-ghost use Rattle.gather_command.specs.Watch.{with_loan, with_instant, length_of};
+ghost use Rattle.gather_command.specs.Watch.{unwatched, watched_of, with_state, with_tick};
+ghost use Rattle.gather_command.specs.Watch.{with_lent, since, loan_to, with_loan, ended_loan};
+ghost use Rattle.gather_command.specs.Watch.{longer, with_instant, length_of};
 ghost use Rattle.record_pages.specs.flight_records.Again.{same_node};
 
+use crate::summary::Lasted;
 use std::alloc::{AllocError, Global};
 use std::marker::Model;
 
@@ -19,6 +21,8 @@ struct Loan {
 /// What is watched of one node.
 #[derive(Clone, Copy, Debug, PartialEq, Eq)]
 struct Watched {
+    /// Its whole state was noted.
+    is_known: bool,
     /// The instant of its last tick.
     ticked: Option<u64>,
     /// Its loan, if it lends to anybody.
@@ -34,7 +38,7 @@ pub struct Watch {
     /// How many loans began.
     loans: u64,
     /// The longest one that ended.
-    longest_loan: u64,
+    longest_loan: Option<Lasted>,
 }
 
 impl Model for Watch {
@@ -95,13 +99,28 @@ fn is_to(loan: Option<Loan>, lent: Option<u16>) -> bool
     }
 }
 
-/// When a loan began, if there is one.
-fn start_of(loan: Option<Loan>) -> Option<u64>
-    ensures { result ≡ option_map (λ l. l.since) loan }
+/// A node's loan, if there is one, which ends at this instant.
+fn ended_loan(node: u16, loan: Option<Loan>, instant: u64) -> Option<Lasted>
+    ensures { result ≡ ended_loan node loan instant }
 {
     match loan {
-        Some(loan) => Some(loan.since),
+        Some(loan) => Some(Lasted {
+            node,
+            ticket: loan.ticket,
+            time: instant.saturating_sub(loan.since),
+        }),
         None => None,
+    }
+}
+
+/// The longer of two loans, of which each may be none.
+fn longer(first: Option<Lasted>, more: Option<Lasted>) -> Option<Lasted>
+    ensures { result ≡ longer first more }
+{
+    match (first, more) {
+        (Some(first), Some(more)) if first.time < more.time => Some(more),
+        (Some(first), _) => Some(first),
+        (None, more) => more,
     }
 }
 
@@ -111,6 +130,7 @@ impl Watch {
         ensures { IfOk result (λ w. w ≡ unwatched nodes) }
     {
         let unknown = Watched {
+            is_known: false,
             ticked: None,
             loan: None,
         };
@@ -118,8 +138,24 @@ impl Watch {
             nodes: vec![in alloc; unknown; usize::from(nodes)]?,
             longest_turn: 0,
             loans: 0,
-            longest_loan: 0,
+            longest_loan: None,
         })
+    }
+
+    /// Whether a node's whole state was noted.
+    pub fn is_known(&self, node: u16) -> bool
+        requires { node < length self.now.nodes }
+        ensures { result ≡ (watched_of self.now node).is_known }
+    {
+        self.nodes[usize::from(node)].is_known
+    }
+
+    /// A node's whole state was noted.
+    pub fn noted_whole(&mut self, node: u16)
+        requires { node < length self.old.nodes }
+        ensures { self.new ≡ with_state self.old node }
+    {
+        self.nodes[usize::from(node)].is_known = true;
     }
 
     /// A node ticked at an instant.
@@ -143,7 +179,7 @@ impl Watch {
         if is_to(before, lent) {
             return;
         }
-        self.longest_loan = self.longest_loan.max(since(start_of(before), instant));
+        self.longest_loan = longer(self.longest_loan, ended_loan(node, before, instant));
         self.nodes[place].loan = loan_to(lent, instant);
         self.loans = with_loan(lent, self.loans);
     }
@@ -162,8 +198,8 @@ impl Watch {
         self.loans
     }
 
-    /// The longest loan that ended.
-    pub fn longest_loan(&self) -> u64
+    /// The longest loan that ended, if one did.
+    pub fn longest_loan(&self) -> Option<Lasted>
         ensures { result ≡ self.now.longest_loan }
     {
         self.longest_loan

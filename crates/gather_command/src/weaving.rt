@@ -7,6 +7,7 @@ ghost use Rattle.gather_command.specs.Watch.{numbers_of};
 ghost use Rattle.gather_command.specs.View.{heads_in};
 ghost use Rattle.gather_command.specs.Woven.{world_in, IsAtStart, IsTurn, IsNoted, HasPassed};
 
+use crate::damage::Difference;
 use crate::fault::Flaw;
 use crate::node_record::NodeRecord;
 use crate::sight::Sight;
@@ -148,9 +149,10 @@ impl<S: Source + Drop> Weaving<S> {
             ≡ events_at (world_in self.old) self.old.gathering.queues node entry.now) }
     {
         record_gathering::run_model::laws::runs();
+        let fields = self.gathering.fields(node, &entry.noted);
         self.gathering.notes(node, &entry.noted, events)?;
         let lent = self.gathering.world().node(node).lent();
-        self.sight.sees(node, entry, events, lent);
+        self.sight.sees(node, entry, events, lent, &fields);
         Ok(())
     }
 
@@ -171,6 +173,13 @@ impl<S: Source + Drop> Weaving<S> {
         ensures { IfOk result (λ flaws. flaws.items ≡ flaws_in self.now.records) }
     {
         flaws_in(alloc, &self.nodes)
+    }
+
+    /// The first fields that stood otherwise than what their nodes' records led to, 64 at most.
+    pub fn differences(&self, alloc: Global) -> Result<Vec<Difference>, AllocError>
+        ensures { IfOk result (λ shown. shown.items ≡ self.now.seen.damage.shown) }
+    {
+        self.sight.differences(alloc)
     }
 
     /// What was seen of so many nodes, in numbers.

@@ -11,7 +11,7 @@ use Rattle.gather_command.proofs.command.gather_text.Goals as goal
 
 pub returns-in-Ok-clause-gathered : goal.returns-in-Ok-clause-gathered
 returns-in-Ok-clause-gathered g c =
-    gathered-later _ _ _ _ _ _ _ _ (λ (es : List Event) grown. grows-kept _ _ _ es grown c.flush.ensures.bytes)
+    gathered-later _ _ _ _ _ _ _ _ _ (λ (es : List Event) grown. grows-kept _ _ _ es grown c.flush.ensures.bytes)
     c.in_ok-gathered.ensures.gathered
 
 pub returns-in-Err-clause-refused : goal.returns-in-Err-clause-refused

@@ -40,8 +40,10 @@ returns-clause-gathered g c =
     let sink = g.S.EventSink in
     let (ms, has, none) = c.in_ok-weave_all.ensures in
     gathered fails reads sink.takes sink.failures c.args.net.now c.in_ok-nodes.nodes.items c.in_ok-weaving.weaving c.weave_all.new.weaving
-    c.args.sink.now c.weave_all.new.sink ms c.numbers.result c.in_ok-flaws.field-0.items
-    c.in_ok-nodes.ensures.opened c.in_ok-nodes.ensures.all c.in_ok-weaving.ensures has none c.numbers.ensures c.in_ok-flaws.ensures
+    c.args.sink.now c.weave_all.new.sink ms c.numbers.result c.in_ok-differences.field-0.items
+    c.in_ok-flaws.field-0.items
+    c.in_ok-nodes.ensures.opened c.in_ok-nodes.ensures.all c.in_ok-weaving.ensures has none c.numbers.ensures
+    c.in_ok-differences.ensures c.in_ok-flaws.ensures
 
 pub returns-clause-counted : goal.returns-clause-counted
 returns-clause-counted g c = let (ms, has, none) = c.in_ok-weave_all.ensures in has.counted
