@@ -2,7 +2,8 @@
 ghost use Rattle.std.specs.Prelude.{⊤};
 
 use gather_command::{
-    Flaw, FlawKind, GatherFault, MemoryRecord, MemoryRecords, RecordFile, Side, gather,
+    Difference, Field, Flaw, FlawKind, GatherFault, Lasted, MemoryRecord, MemoryRecords, RecordFile,
+    Side, gather,
 };
 use node_recorder::network_mark;
 use record_gathering::configuration::run_model::{Event, Harm};
@@ -130,7 +131,15 @@ pub fn taker(alloc: Global, network: u32, node: u16, frame: Frame) -> Result<Vec
 
 /// What is gathered of these records: the events; what is wrong, if nothing was gathered; the numbers,
 /// in the order of the lines; and the first flaw.
-type Found = (Vec<Event>, Option<GatherFault>, [u64; 9], Option<Flaw>);
+type Found = (Vec<Event>, Option<GatherFault>, [u64; 10], Option<Flaw>);
+
+/// How long a loan was; 0 if there is none.
+fn time_of(loan: Option<Lasted>) -> u64 {
+    match loan {
+        Some(loan) => loan.time,
+        None => 0,
+    }
+}
 
 /// Gathers the records of two nodes, given in pieces of seven bytes.
 fn gathered(alloc: Global, first: MemoryRecord, second: MemoryRecord) -> Result<Found, Fail> {
@@ -151,14 +160,15 @@ fn gathered(alloc: Global, first: MemoryRecord, second: MemoryRecord) -> Result<
                     numbers.found.lost,
                     numbers.found.harms,
                     numbers.found.forged,
+                    numbers.differences,
                     numbers.longest_turn,
                     numbers.loans,
-                    numbers.longest_loan,
+                    time_of(numbers.longest_loan),
                 ],
                 gathered.flaws.first().copied(),
             ))
         }
-        Err(fault) => Ok((kept.events, Some(fault), [0; 9], None)),
+        Err(fault) => Ok((kept.events, Some(fault), [0; 10], None)),
     }
 }
 
@@ -209,7 +219,7 @@ fn a_frame_is_taken_after_it_was_sent(rt: HostRuntime) -> Result<(), Fail> {
             numbers,
             flaw,
         )),
-        &(true, None, [2, 200, 5, 0, 0, 0, 50, 0, 0], None),
+        &(true, None, [2, 200, 5, 0, 0, 0, 0, 50, 0, 0], None),
     )
 }
 
@@ -242,7 +252,7 @@ fn a_forged_frame_is_a_harm(rt: HostRuntime) -> Result<(), Fail> {
             numbers,
             flaw,
         )),
-        &(true, None, [2, 200, 7, 1, 1, 1, 50, 0, 0], None),
+        &(true, None, [2, 200, 7, 1, 1, 1, 0, 50, 0, 0], None),
     )
 }
 
@@ -374,4 +384,104 @@ fn the_earlier_file_comes_first(rt: HostRuntime) -> Result<(), Fail> {
 fn the_number_of_the_network(rt: HostRuntime) -> Result<(), Fail> {
     let net = Net::make(rt.alloc(), 2, 0, 1, 0, &[(0, 1)])?;
     as_expected(Ok(network_mark(&net)), &MARK)
+}
+
+/// The record of node 1, which has the distance 1 when it begins, and another parent later; then it lends
+/// to ticket 7 for 25 microseconds.
+fn harmed(alloc: Global) -> Result<Vec<u8>, Fail> {
+    let own = |parent| Noted::State(StatePart::Own {
+        distance: 1,
+        parent,
+    });
+    let loan = |lent| Noted::State(StatePart::Loan {
+        lent,
+        left: 0,
+        served: false,
+    });
+    record_of(
+        alloc,
+        &[
+            (900, start(MARK, 1)),
+            (900, own(None)),
+            (900, Noted::State(StatePart::Whole)),
+            (950, own(Some(0))),
+            (960, loan(Some(7))),
+            (985, loan(None)),
+        ],
+    )
+}
+
+/// The harms of node 1, in the order in which its record shows them, and what node 0 did after them.
+const HARMED: [Event; 6] = [
+    Event::Damage(Harm::Own {
+        node: 1,
+        distance: 1,
+        parent: None,
+    }),
+    Event::Damage(Harm::Own {
+        node: 1,
+        distance: 1,
+        parent: Some(0),
+    }),
+    Event::Damage(Harm::Desk {
+        node: 1,
+        lent: Some(7),
+        left: 0,
+        served: false,
+    }),
+    Event::Damage(Harm::Desk {
+        node: 1,
+        lent: None,
+        left: 0,
+        served: false,
+    }),
+    Event::Tick { node: 0 },
+    Event::Send { from: 0, to: 1 },
+];
+
+/// A field of node 1 differs at this instant.
+const fn difference(instant: u64, field: Field) -> Difference {
+    Difference {
+        node: 1,
+        instant,
+        field,
+    }
+}
+
+/// The distance is no difference: the record begins with it.
+const DIFFERENCES: [Difference; 3] = [
+    difference(950, Field::Parent),
+    difference(960, Field::Lent),
+    difference(985, Field::Lent),
+];
+
+/// The loan of node 1.
+const LOAN: Lasted = Lasted {
+    node: 1,
+    ticket: 7,
+    time: 25,
+};
+
+/// Whether the harms are as above, and the differences; the longest loan, and how many there were.
+fn harms_of(alloc: Global) -> Result<(bool, bool, Option<Lasted>, u64), Fail> {
+    let net = Net::make(alloc, 2, 0, 1, 0, &[(0, 1)])?;
+    let first = sender(alloc)?;
+    let second = harmed(alloc)?;
+    let both = [one(&first), one(&second)];
+    let mut records = MemoryRecords::new(&both, 7);
+    let mut kept = Kept::new(alloc);
+    let Ok(gathered) = gather(alloc, &net, &mut records, &mut kept) else {
+        return Ok((false, false, None, 0));
+    };
+    Ok((
+        kept.events.as_slice() == HARMED.as_slice(),
+        gathered.differences.as_slice() == DIFFERENCES.as_slice(),
+        gathered.summary.longest_loan,
+        gathered.summary.loans,
+    ))
+}
+
+#[test]
+fn damage_is_named_by_its_field(rt: HostRuntime) -> Result<(), Fail> {
+    as_expected(harms_of(rt.alloc()), &(true, true, Some(LOAN), 1))
 }
