@@ -386,18 +386,26 @@ fn the_number_of_the_network(rt: HostRuntime) -> Result<(), Fail> {
     as_expected(Ok(network_mark(&net)), &MARK)
 }
 
-/// The record of node 1, which has the distance 1 when it begins, and another parent later; then it lends
-/// to ticket 7 for 25 microseconds.
-fn harmed(alloc: Global) -> Result<Vec<u8>, Fail> {
-    let own = |parent| Noted::State(StatePart::Own {
+/// A node has the distance 1 and this parent.
+fn own(parent: Option<u16>) -> Noted {
+    Noted::State(StatePart::Own {
         distance: 1,
         parent,
-    });
-    let loan = |lent| Noted::State(StatePart::Loan {
+    })
+}
+
+/// A node lends to this ticket, with no end.
+fn loan(lent: Option<u16>) -> Noted {
+    Noted::State(StatePart::Loan {
         lent,
         left: 0,
         served: false,
-    });
+    })
+}
+
+/// The record of node 1, which has the distance 1 when it begins, and another parent later; then it lends
+/// to ticket 7 for 25 microseconds.
+fn harmed(alloc: Global) -> Result<Vec<u8>, Fail> {
     record_of(
         alloc,
         &[
@@ -439,20 +447,23 @@ const HARMED: [Event; 6] = [
     Event::Send { from: 0, to: 1 },
 ];
 
-/// A field of node 1 differs at this instant.
-const fn difference(instant: u64, field: Field) -> Difference {
-    Difference {
-        node: 1,
-        instant,
-        field,
-    }
-}
-
 /// The distance is no difference: the record begins with it.
 const DIFFERENCES: [Difference; 3] = [
-    difference(950, Field::Parent),
-    difference(960, Field::Lent),
-    difference(985, Field::Lent),
+    Difference {
+        node: 1,
+        instant: 950,
+        field: Field::Parent,
+    },
+    Difference {
+        node: 1,
+        instant: 960,
+        field: Field::Lent,
+    },
+    Difference {
+        node: 1,
+        instant: 985,
+        field: Field::Lent,
+    },
 ];
 
 /// The loan of node 1.
