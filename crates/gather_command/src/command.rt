@@ -11,8 +11,9 @@ use crate::damage::Difference;
 use crate::fault::{Flaw, GatherFault};
 use crate::folder::{FolderRecords, is_folder};
 use crate::gathered::{Gathered, gather};
-use crate::lines::{DifferenceLine, DifferencesLine, FaultLine, FlawLine};
-use crate::lines::{FoundLine, LoansLine, StretchLine};
+use crate::lines::{
+    DifferenceLine, DifferencesLine, FaultLine, FlawLine, FoundLine, LoansLine, StretchLine,
+};
 use crate::records::Records;
 use crate::summary::Summary;
 use command_parts::{EventText, Fault, read_network};

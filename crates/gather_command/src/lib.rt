@@ -42,6 +42,6 @@ pub use gathered::{Gathered, gather};
 pub use lines::{
     DifferenceLine, DifferencesLine, FaultLine, FlawLine, FoundLine, LoansLine, StretchLine,
 };
-pub use records::{MemoryRecord, MemoryRecords, Opened, Records};
 pub use record_gathering::Field;
+pub use records::{MemoryRecord, MemoryRecords, Opened, Records};
 pub use summary::{Lasted, Summary};

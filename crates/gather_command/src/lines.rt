@@ -182,10 +182,7 @@ impl fmt::Display for LoansLine {
     fn fmt<W: fmt::Write>(&self, f: &mut fmt::Formatter<W>) -> fmt::Result {
         let (turn, loans) = (self.0.longest_turn, self.0.loans);
         let lasted = LastedText(self.0.longest_loan);
-        write!(
-            f,
-            "longest turn {turn} microseconds, loans {loans}{lasted}"
-        )
+        write!(f, "longest turn {turn} microseconds, loans {loans}{lasted}")
     }
 }
 
@@ -235,10 +232,7 @@ impl fmt::Display for DifferenceLine {
     fn fmt<W: fmt::Write>(&self, f: &mut fmt::Formatter<W>) -> fmt::Result {
         let (node, instant) = (self.0.node, self.0.instant);
         let field = FieldText(self.0.field);
-        write!(
-            f,
-            "node {node} differs at microsecond {instant}: {field}"
-        )
+        write!(f, "node {node} differs at microsecond {instant}: {field}")
     }
 }
 

@@ -1,6 +1,6 @@
 pub mod Accepted
 pub mod Desks
-pub mod Fields
+pub mod Differ
 pub mod Links
 pub mod Orders
 pub mod Places

@@ -1,10 +1,11 @@
 //! Which fields of a node of the world stand otherwise than was noted.
-ghost use Rattle.std.specs.Prelude.{◌≡◌, ◌<◌};
+ghost use Rattle.std.specs.Prelude.{◌≡◌, ◌<◌, if◌then◌else◌};
 ghost use Rattle.configuration.specs.ConfigurationView.{world_of};
 ghost use Rattle.configuration.specs.node_core.View.{site_in, state_of};
 ghost use Rattle.record_gathering.specs.Fields.{differing, own_fields, port_fields, frame_fields};
 ghost use Rattle.record_gathering.specs.Fields.{loan_fields, taken_fields, part_fields, deed_fields};
-ghost use Rattle.record_gathering.specs.Fields.{fields_of};
+ghost use Rattle.record_gathering.specs.Entries.{is_of_link};
+ghost use Rattle.record_gathering.specs.Fields.{fields_of, no_fields};
 
 use crate::differences::{LoanNoted, PortNoted, same_truth};
 use crate::entries::{is_link, is_of_link};
@@ -116,11 +117,7 @@ fn frame_fields<A: Allocator>(node: &Node<A>, to: u16, frame: &Frame) -> [Option
 }
 
 /// Of a node's desk, what is otherwise, if these tickets wait.
-fn loan_fields<A: Allocator>(
-    node: &Node<A>,
-    queue: &[u16],
-    loan: &LoanNoted,
-) -> [Option<Field>; 5]
+fn loan_fields<A: Allocator>(node: &Node<A>, queue: &[u16], loan: &LoanNoted) -> [Option<Field>; 5]
     ensures { result ≡ loan_fields (state_of node.now).desk queue.now loan.now.lent loan.now.left
         loan.now.served }
 {
@@ -154,6 +151,23 @@ fn taken_fields<A: Allocator + Copy>(
         None,
         None,
     ]
+}
+
+/// The same, if the frame may be on the link.
+fn linked_fields<A: Allocator + Copy>(
+    world: &Configuration<A>,
+    from: u16,
+    to: u16,
+    frame: &Frame,
+) -> [Option<Field>; 5]
+    ensures { result ≡ (if is_of_link (world_of world.now) from to frame.now
+        then taken_fields (world_of world.now) from to frame.now else no_fields) }
+{
+    if is_of_link(world, from, to, frame) {
+        taken_fields(world, from, to, frame)
+    } else {
+        [None; 5]
+    }
 }
 
 /// Of a part of a node's state, what is otherwise.
@@ -205,14 +219,11 @@ fn deed_fields<A: Allocator + Copy>(
     ensures { result ≡ deed_fields (world_of world.now) node deed.now }
 {
     match *deed {
-        Deed::Takes { from, frame } if is_of_link(world, from, node, &frame) => {
-            taken_fields(world, from, node, &frame)
-        }
+        Deed::Takes { from, frame } => linked_fields(world, from, node, &frame),
         Deed::Sends { to, frame } if is_of_link(world, node, to, &frame) => {
             frame_fields(world.node(node), to, &frame)
         }
         Deed::Ticks
-        | Deed::Takes { .. }
         | Deed::Sends { .. }
         | Deed::TakesAgain { .. }
         | Deed::SendsAgain { .. }

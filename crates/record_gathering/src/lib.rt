@@ -34,7 +34,7 @@ mod queue;
 
 pub use configuration;
 pub use configuration::run_model;
-pub use flight_records;
 pub use fields::Field;
+pub use flight_records;
 pub use found::Found;
 pub use gathering::Gathering;

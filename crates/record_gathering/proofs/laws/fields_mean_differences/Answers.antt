@@ -1,4 +1,4 @@
-use Rattle.record_gathering.proofs.Fields.{fields-said, fields-quiet, fields-whole}
+use Rattle.record_gathering.proofs.Differ.{fields-said, fields-quiet, fields-whole}
 use Rattle.record_gathering.proofs.laws.fields_mean_differences.Goals as goal
 
 pub returns : goal.returns
