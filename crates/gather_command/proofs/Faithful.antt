@@ -1,6 +1,5 @@
 -- None of the events is refused, and each entry is woven once.
-use Rattle.std.proofs.Common.{◌≡◌, ◌≢◌, ◌∙◌, ap, sym, refl, subst, arith, ℕ, zero, suc, ◌<◌, ◌==◌, List, [], ◌∷◌, ◌++◌, Option, Some, None, Bool, true, false, map, drop}
-use Rattle.std.proofs.lemmas.Bool.{cond_both}
+use Rattle.std.proofs.Common.{◌≡◌, ◌≢◌, ◌∙◌, ap, sym, refl, subst, arith, ℕ, zero, suc, ◌<◌, ◌==◌, List, [], ◌∷◌, ◌++◌, Some, None, Bool, true, false, drop}
 use Rattle.std.proofs.lemmas.Grind.{common_steps}
 use Rattle.std.proofs.lemmas.List.{append-nil}
 use Rattle.std.specs.Prelude.{if◌then◌else◌, is_some, slice_index_or, slice_set}
@@ -13,7 +12,7 @@ use Rattle.record_gathering.specs.flight_records.declared.entry.Entry.{Entry}
 use Rattle.record_gathering.specs.Accepted.{accepted}
 use Rattle.record_gathering.specs.Laws.{AcceptedIsEnough}
 use Rattle.record_gathering.specs.Entries.{entry_events}
-use Rattle.record_gathering.specs.Order.{IsNext, head_of}
+use Rattle.record_gathering.specs.Order.{head_of}
 use Rattle.record_gathering.specs.Queues.{queue_of, queues_after}
 use Rattle.gather_command.specs.Weave.{Moment, moment_at, events_at, world_after, events_of, next_of, heads_of, without_next, IsWoven, NoneLeft, Next}
 use Rattle.gather_command.specs.Laws.{entries_of}

@@ -16,7 +16,7 @@ use Rattle.gather_command.specs.declared.fault.GatherFault.{GatherFault}
 use Rattle.gather_command.specs.declared.fault.GatherFault.TheVariants as fault
 use Rattle.gather_command.specs.Reading.{MayFail, IsReadOn, Unsaid, Ends, Tears, Spoils, Nameless, Stops, Further, in_full, start_of, IsFirstOf}
 use Rattle.gather_command.specs.View.{FileView, NodeRecordView}
-use Rattle.gather_command.specs.Records.{listed, flaw_at, flaw_of, IsFileFault, IsBegun, IsBegunAs, ComesOf, ComesFrom, IsToCome, IsReadBy, after_file_with, after_file, GoesOn}
+use Rattle.gather_command.specs.Records.{listed, flaw_at, flaw_of, IsFileFault, IsBegun, ComesOf, ComesFrom, IsToCome, after_file_with, GoesOn}
 
 -- ---- one file
 

@@ -1,5 +1,5 @@
 -- What was opened and woven is gathered.
-use Rattle.std.proofs.Common.{◌≡◌, ◌∙◌, ap, sym, refl, subst, arith, ℕ, suc, ◌+◌, ◌<◌, ◌≤◌, List, [], ◌∷◌, ◌++◌, Option, Some, None, Result, Ok, Err, inl, inr, length, replicate, append_assoc}
+use Rattle.std.proofs.Common.{◌≡◌, ◌∙◌, ap, sym, subst, arith, ℕ, suc, ◌+◌, ◌≤◌, List, [], ◌∷◌, ◌++◌, Option, None, Result, Ok, Err, inl, inr, length, replicate, append_assoc}
 use Rattle.std.specs.Prelude.{fold, IfErr, IsErrAnd}
 use Rattle.topology.specs.Network.{Network}
 use Rattle.record_pages.specs.byte_streams.Streams.{Rose}
@@ -20,8 +20,8 @@ use Rattle.gather_command.specs.WeavingView.{WeavingView}
 use Rattle.gather_command.specs.declared.records.Opened.{Opened}
 use Rattle.gather_command.specs.Reading.{Reads, Begins, OpensNoMore}
 use Rattle.gather_command.specs.Records.{IsFileOf, IsRecordOf, AreRecordsOf, NoMore, OneMore, IsToCome, AreToCome, IsRecordFault, IsFault, flaws_in}
-use Rattle.gather_command.specs.Weave.{Moment, events_of, IsWoven}
-use Rattle.gather_command.specs.Watch.{Seen, seen_after, nothing_seen, seen_of, numbers_of}
+use Rattle.gather_command.specs.Weave.{Moment, IsWoven}
+use Rattle.gather_command.specs.Watch.{Seen, seen_after, seen_of, numbers_of}
 use Rattle.gather_command.specs.Woven.{world_in, IsAtStart, IsTurn, HasWoven, IsBroken}
 use Rattle.gather_command.specs.Gathered.{AreOpened, IsGathered, IsRefused}
 use Rattle.gather_command.proofs.Files.{fault-as}

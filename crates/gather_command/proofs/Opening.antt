@@ -1,5 +1,5 @@
 -- A record of two files, of which each may be none.
-use Rattle.std.proofs.Common.{◌≡◌, ◌≢◌, ◌∙◌, ap, sym, refl, subst, ℕ, List, [], ◌∷◌, ◌++◌, Result, Ok, Err, Option, Some, None, Bool, true, false, inl, inr}
+use Rattle.std.proofs.Common.{◌≡◌, ◌≢◌, ◌∙◌, ap, sym, refl, subst, ℕ, List, [], ◌∷◌, ◌++◌, Ok, Option, Some, None, Bool, true, false, inr}
 use Rattle.std.proofs.lemmas.List.{append-nil}
 use Rattle.std.specs.Prelude.{if◌then◌else◌, nat_lt}
 use Rattle.record_pages.specs.flight_records.declared.entry.Entry.{Entry}
@@ -9,10 +9,9 @@ use Rattle.flight_recorder.specs.declared.recorder.Side.TheVariants.{First, Seco
 use Rattle.gather_command.specs.declared.fault.RecordFile.{RecordFile}
 use Rattle.gather_command.specs.declared.fault.Flaw.{Flaw}
 use Rattle.gather_command.specs.declared.fault.FlawKind.{FlawKind}
-use Rattle.gather_command.specs.declared.fault.GatherFault.{GatherFault}
-use Rattle.gather_command.specs.Reading.{IsReadOn, start_of}
-use Rattle.gather_command.specs.View.{FileView, NodeRecordView}
-use Rattle.gather_command.specs.Records.{listed, flaw_of, starts_earlier, IsFileOf, IsRecordOf, IsBegun, IsBegunAs, IsToCome, IsOpened, at_first, of_files}
+use Rattle.gather_command.specs.Reading.{IsReadOn}
+use Rattle.gather_command.specs.View.{FileView}
+use Rattle.gather_command.specs.Records.{listed, flaw_of, IsFileOf, IsBegun, IsBegunAs, IsOpened, at_first, of_files}
 
 -- ---- files of a record
 

@@ -1,6 +1,5 @@
 -- What is read, and what is watched, by rows that are small enough to see through.
-use Rattle.std.proofs.Common.{◌≡◌, ℕ, zero, suc, List, [], ◌∷◌, Option, Some, None, true, false, refl, arith}
-use Rattle.std.proofs.lemmas.Grind.{common_steps}
+use Rattle.std.proofs.Common.{◌≡◌, ◌∙◌, ap, sym, ℕ, List, [], ◌∷◌, Option, Some, None, true, refl, arith}
 use Rattle.std.specs.Prelude.{fold}
 use Rattle.record_gathering.specs.configuration.run_model.World.{World}
 use Rattle.record_pages.specs.flight_records.declared.entry.Entry.{Entry}
@@ -13,6 +12,7 @@ use Rattle.record_gathering.specs.declared.fields.Field.TheVariants.{Distance, P
 use Rattle.record_pages.specs.flight_records.Reading.{entry_at, count_of, checked, entry_of, candidate}
 use Rattle.record_pages.specs.flight_records.leb128.Reading.{number_at}
 use Rattle.record_pages.specs.flight_records.Again.{no_frames}
+use Rattle.gather_command.specs.declared.damage.Difference.{Difference}
 use Rattle.gather_command.specs.declared.fault.FlawKind.TheVariants as kind
 use Rattle.gather_command.specs.Reading.{IsReadOn, Ends, Tears, Nameless, Stops, Further, start_of}
 use Rattle.gather_command.specs.Records.{starts_earlier}
@@ -97,5 +97,11 @@ counted = refl
 not-both : harmed.damage.count ≡ 2 → ⊥
 not-both e = cc e
 
+other-field : Parent ≡ Distance → ⊥
+other-field e = cc e
+
+first-same : {d e : Difference} → d ∷ [] ≡ e ∷ [] → d ≡ e
+first-same e = cc e
+
 not-the-distance : harmed.damage.shown ≡ record { node = 1; instant = 990; field = Distance } ∷ [] → ⊥
-not-the-distance e = cc e
+not-the-distance e = other-field (ap (λ (d : Difference). d.field) (first-same (sym one-difference ∙ e)))

@@ -1,11 +1,10 @@
 -- What is watched stays watched, and flaws are listed one after the other.
-use Rattle.std.proofs.Common.{◌≡◌, ◌∙◌, ap, sym, refl, subst, ℕ, Bool, true, false, List, [], ◌∷◌, ◌++◌, Option, Some, ◌<◌, ◌+◌, length, take, append_assoc, map}
+use Rattle.std.proofs.Common.{◌≡◌, ◌∙◌, ap, sym, refl, subst, ℕ, Bool, true, false, List, [], ◌∷◌, ◌++◌, Option, Some, ◌<◌, ◌+◌, length, take, append_assoc}
 use Rattle.std.proofs.lemmas.List.{length-set, append-nil, take_more}
 use Rattle.std.proofs.lemmas.Option.{slice_get-get_or}
-use Rattle.std.specs.Prelude.{if◌then◌else◌, slice_set, slice_get, slice_index_or}
-use Rattle.record_gathering.specs.flight_records.declared.entry.Entry.{Entry}
+use Rattle.std.specs.Prelude.{if◌then◌else◌, slice_get, slice_index_or}
 use Rattle.gather_command.specs.declared.fault.Flaw.{Flaw}
-use Rattle.gather_command.specs.View.{NodeRecordView, heads_in}
+use Rattle.gather_command.specs.View.{NodeRecordView}
 use Rattle.gather_command.specs.Records.{flaws_of, flaws_in}
 use Rattle.gather_command.specs.Weave.{Moment}
 use Rattle.gather_command.specs.Watch.{WatchView, with_state, with_tick, with_lent, with_end, with_turn, with_moment, is_tick, is_whole}

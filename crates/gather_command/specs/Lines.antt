@@ -1,5 +1,5 @@
 -- What is said of records, in lines: which files are refused or damaged, and the numbers of a recording.
-use Rattle.std.specs.Prelude.{ℕ, ◌==◌, if◌then◌else◌, List, [], ◌∷◌, ◌++◌, Option, Some, None, codes, decimal}
+use Rattle.std.specs.Prelude.{ℕ, ◌==◌, if◌then◌else◌, List, [], ◌++◌, Option, Some, None, codes, decimal}
 use Rattle.flight_recorder.specs.Names.{record_name}
 use Rattle.record_gathering.specs.declared.found.Found.{Found}
 use Rattle.record_gathering.specs.declared.fields.Field.{Field}

@@ -1,5 +1,5 @@
 -- What is watched of the nodes while their records are woven: turns, loans, and the stretch of time.
-use Rattle.std.specs.Prelude.{ℕ, ◌-◌, ◌==◌, min, max, Bool, true, false, if◌then◌else◌, List, [], ◌∷◌, Option, Some, None, option_map, slice_index_or, slice_set, nat_lt, length, fold, replicate}
+use Rattle.std.specs.Prelude.{ℕ, ◌-◌, min, max, Bool, true, false, if◌then◌else◌, List, Option, Some, None, option_map, slice_index_or, slice_set, nat_lt, fold, replicate}
 use Rattle.record_gathering.specs.flight_records.Again.{same_node}
 use Rattle.record_gathering.specs.flight_records.declared.entry.Entry.{Entry}
 use Rattle.record_gathering.specs.flight_records.declared.entry.Noted.{Noted}

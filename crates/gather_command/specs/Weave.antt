@@ -1,17 +1,10 @@
 -- The records of all nodes, woven: which entry comes when, and the events that it becomes.
-use Rattle.std.specs.Prelude.{◌≡◌, ℕ, List, [], ◌∷◌, ◌++◌, Option, Some, None, drop, map, replicate, length, slice_index_or, slice_set, fold, min, max, ◌-◌}
-use Rattle.topology.specs.Network.{Network}
+use Rattle.std.specs.Prelude.{◌≡◌, ℕ, List, [], ◌∷◌, ◌++◌, Option, Some, None, drop, map, slice_index_or, slice_set}
 use Rattle.record_gathering.specs.configuration.run_model.World.{World}
 use Rattle.record_gathering.specs.configuration.run_model.Run.{run}
-use Rattle.record_gathering.specs.configuration.run_model.Start.{world_with_spares}
 use Rattle.record_gathering.specs.configuration.run_model.declared.event.Event.{Event}
 use Rattle.record_gathering.specs.flight_records.declared.entry.Entry.{Entry}
-use Rattle.record_gathering.specs.flight_records.declared.entry.Noted.{Noted}
-use Rattle.record_gathering.specs.flight_records.declared.entry.Noted.TheVariants as noted
-use Rattle.record_gathering.specs.flight_records.declared.entry.Deed.TheVariants as deed
 use Rattle.record_gathering.specs.Accepted.{accepted}
-use Rattle.record_gathering.specs.Counts.{with_events, nothing}
-use Rattle.record_gathering.specs.declared.found.Found.{Found}
 use Rattle.record_gathering.specs.Entries.{entry_events}
 use Rattle.record_gathering.specs.Fields.{fields_of}
 use Rattle.record_gathering.specs.declared.fields.Field.{Field}

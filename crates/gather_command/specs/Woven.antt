@@ -1,5 +1,5 @@
 -- One step of a weaving after the other.
-use Rattle.std.specs.Prelude.{◌≡◌, ℕ, ◌<◌, ◌≤◌, Bool, true, false, List, [], ◌∷◌, ◌++◌, Option, Some, None, Result, Ok, Err, map, replicate, length, slice_set, slice_get, fold}
+use Rattle.std.specs.Prelude.{◌≡◌, ℕ, ◌≤◌, Bool, true, false, List, [], ◌∷◌, ◌++◌, Option, Some, None, Result, Ok, Err, replicate, length, slice_set, slice_get, fold}
 use Rattle.topology.specs.Network.{Network}
 use Rattle.record_pages.specs.byte_streams.Streams.{Rose}
 use Rattle.record_gathering.specs.View.{gathered}
@@ -9,9 +9,7 @@ use Rattle.record_gathering.specs.configuration.run_model.declared.event.Event.{
 use Rattle.record_gathering.specs.flight_records.declared.entry.Entry.{Entry}
 use Rattle.record_gathering.specs.Order.{IsNext, head_of}
 use Rattle.record_gathering.specs.Queues.{queues_after}
-use Rattle.flight_recorder.specs.declared.recorder.Side.{Side}
 use Rattle.gather_command.specs.declared.fault.Flaw.{Flaw}
-use Rattle.gather_command.specs.declared.fault.FlawKind.{FlawKind}
 use Rattle.gather_command.specs.declared.fault.GatherFault.{GatherFault}
 use Rattle.gather_command.specs.declared.fault.GatherFault.TheVariants as fault
 use Rattle.gather_command.specs.View.{NodeRecordView, heads_in}

@@ -2,7 +2,6 @@
 ghost use Rattle.std.specs.Prelude.{◌≡◌, IfOk};
 ghost use Rattle.gather_command.specs.Damage.{no_damage, with_difference, with_field, with_fields};
 
-use arrayvec::ArrayVec;
 use record_gathering::Field;
 use std::alloc::{AllocError, Global};
 use std::marker::Model;
@@ -21,27 +20,32 @@ pub struct Difference {
 /// The first differences that were found, and how many there are.
 #[derive(Drop)]
 pub struct Damage {
-    shown: ArrayVec<Difference, 64>,
+    /// The first of them, 64 at most.
+    shown: Vec<Difference>,
     count: u64,
 }
 
 impl Model for Damage {
+    ghost use Rattle.std.specs.Prelude.{◌≤◌};
+    ghost use Rattle.std.specs.Vec.{vec_capacity};
     ghost use Rattle.gather_command.specs.Damage.{DamageView};
 
     ghost Value = { DamageView };
 
     ghost view = { λ d. record { shown = d.shown.items; count = d.count } };
+
+    ghost invariant = { λ d. 64 ≤ vec_capacity d.shown };
 }
 
 impl Damage {
-    /// None is found.
-    pub fn new() -> Damage
-        ensures { result ≡ no_damage }
+    /// None is found. All memory is reserved here.
+    pub fn new(alloc: Global) -> Result<Damage, AllocError>
+        ensures { IfOk result (λ damage. damage ≡ no_damage) }
     {
-        Damage {
-            shown: ArrayVec::new(),
+        Ok(Damage {
+            shown: Vec::with_capacity(alloc, 64)?,
             count: 0,
-        }
+        })
     }
 
     /// These fields of a node differ too, at an instant.
@@ -71,8 +75,9 @@ impl Damage {
         ensures { self.new ≡ with_difference self.old difference }
     {
         self.count = self.count.saturating_add(1);
-        // One more than 64 is only counted.
-        let _answer = self.shown.try_push(difference);
+        if self.shown.len() < 64 {
+            self.shown.push_reserved(difference);
+        }
     }
 
     /// How many there are.

@@ -69,7 +69,7 @@ impl Sight {
     {
         Ok(Sight {
             found: Found::new(),
-            damage: Damage::new(),
+            damage: Damage::new(alloc)?,
             watch: Watch::new(alloc, nodes)?,
             span: None,
         })

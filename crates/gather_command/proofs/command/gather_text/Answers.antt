@@ -1,11 +1,6 @@
-use Rattle.std.proofs.Common.{ℕ, List, refl}
-use Rattle.std.specs.Io.Buffered.{writer_contents}
-use Rattle.command_parts.specs.EventText.{GrowsByText}
+use Rattle.std.proofs.Common.{List}
 use Rattle.record_gathering.specs.configuration.run_model.declared.event.Event.{Event}
-use Rattle.gather_command.specs.declared.fault.GatherFault.{GatherFault}
-use Rattle.gather_command.specs.Reading.{MayFail, Reads, Begins}
-use Rattle.gather_command.specs.Gathered.{IsRefused}
-use Rattle.gather_command.proofs.Gathers.{fails-with, rose-later}
+use Rattle.gather_command.proofs.Gathers.{rose-later}
 use Rattle.gather_command.proofs.Text.{grows-kept, gathered-later}
 use Rattle.gather_command.proofs.command.gather_text.Goals as goal
 
@@ -15,4 +10,4 @@ returns-in-Ok-clause-gathered g c =
     c.in_ok-gathered.ensures.gathered
 
 pub returns-in-Err-clause-refused : goal.returns-in-Err-clause-refused
-returns-in-Err-clause-refused g c = rose-later _ _ _ c.in_ok-gathered.ensures.counted c.flush.ensures.cause.1
+returns-in-Err-clause-refused g c = rose-later _ _ _ c.in_ok-gathered.ensures.counted c.in-Err.ensures.cause.1

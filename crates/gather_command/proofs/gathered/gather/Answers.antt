@@ -1,9 +1,8 @@
-use Rattle.std.proofs.Common.{refl}
-use Rattle.node_recorder.specs.Turns.{network_mark}
+use Rattle.std.proofs.Common.{◌≡◌, ℕ, refl, subst}
 use Rattle.gather_command.specs.declared.fault.GatherFault.{GatherFault}
-use Rattle.gather_command.specs.declared.fault.GatherFault.TheVariants.{Memory}
 use Rattle.gather_command.specs.Reading.{MayFail, Reads, Begins}
 use Rattle.gather_command.specs.Gathered.{IsRefused}
+use Rattle.gather_command.specs.Watch.{numbers_of}
 use Rattle.gather_command.proofs.Gathers.{gathered, broken-refused, fault-refused, fails-with}
 use Rattle.gather_command.proofs.gathered.gather.Goals as goal
 
@@ -15,9 +14,8 @@ returns-in_err-nodes-clause-refused g c =
     let failures = g.S.EventSink.failures in
     let net = c.args.net.now in
     let sink = c.args.sink.now in
-    let why = c.in_err-nodes.field-0 in
-    fails-with (λ (f : GatherFault). IsRefused reads begins failures net sink f sink) c.from_residual.result why c.from_residual.ensures.1
-    (fault-refused reads begins failures net sink sink why c.in_err-nodes.ensures.refused refl)
+    fails-with (λ (f : GatherFault). IsRefused reads begins failures net sink f sink) c.from_residual.result _ c.from_residual.ensures.1
+    (fault-refused reads begins failures net sink sink _ c.in_err-nodes.ensures.refused refl)
 
 pub returns-in_err-weave_all-clause-refused : goal.returns-in_err-weave_all-clause-refused
 returns-in_err-weave_all-clause-refused g c =
@@ -28,10 +26,9 @@ returns-in_err-weave_all-clause-refused g c =
     let net = c.args.net.now in
     let before = c.args.sink.now in
     let after = c.weave_all.new.sink in
-    let why = c.in_err-weave_all.field-0 in
-    fails-with (λ (f : GatherFault). IsRefused reads begins failures net before f after) c.from_residual-in_err-weave_all.result why
+    fails-with (λ (f : GatherFault). IsRefused reads begins failures net before f after) c.from_residual-in_err-weave_all.result _
     c.from_residual-in_err-weave_all.ensures.1
-    (broken-refused reads begins failures net before after why c.in_err-weave_all.ensures)
+    (broken-refused reads begins failures net before after _ c.in_err-weave_all.ensures)
 
 pub returns-clause-gathered : goal.returns-clause-gathered
 returns-clause-gathered g c =
@@ -42,7 +39,7 @@ returns-clause-gathered g c =
     gathered fails reads sink.takes sink.failures c.args.net.now c.in_ok-nodes.nodes.items c.in_ok-weaving.weaving c.weave_all.new.weaving
     c.args.sink.now c.weave_all.new.sink ms c.numbers.result c.in_ok-differences.field-0.items
     c.in_ok-flaws.field-0.items
-    c.in_ok-nodes.ensures.opened c.in_ok-nodes.ensures.all c.in_ok-weaving.ensures has none c.numbers.ensures
+    c.in_ok-nodes.ensures.opened c.in_ok-nodes.ensures.all c.in_ok-weaving.ensures has none (subst (λ (n : ℕ). c.numbers.result ≡ numbers_of n c.weave_all.new.weaving.seen) c.nodes.ensures.nodes c.numbers.ensures)
     c.in_ok-differences.ensures c.in_ok-flaws.ensures
 
 pub returns-clause-counted : goal.returns-clause-counted

@@ -1,4 +1,4 @@
-use Rattle.std.proofs.Common.{arith, take, ◌+◌, ◌≡◌, subst, sym, List, ◌++◌, ◌∷◌, []}
+use Rattle.std.proofs.Common.{arith, subst, sym, List}
 use Rattle.std.proofs.lemmas.List.{take_more}
 use Rattle.record_gathering.specs.configuration.run_model.declared.event.Event.{Event}
 use Rattle.gather_command.proofs.gathered.give_all.Goals as goal

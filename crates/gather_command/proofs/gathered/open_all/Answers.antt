@@ -1,4 +1,4 @@
-use Rattle.std.proofs.Common.{◌≡◌, ◌∙◌, ◌++◌, ap, sym, subst, arith, ℕ, ◌+◌, ◌<◌, List, [], inl, length}
+use Rattle.std.proofs.Common.{◌∙◌, ◌++◌, ap, sym, subst, arith, ℕ, ◌+◌, ◌<◌, List, [], inl, length}
 use Rattle.std.proofs.lemmas.List.{append-nil, length-append}
 use Rattle.node_recorder.specs.Turns.{network_mark}
 use Rattle.gather_command.specs.declared.fault.GatherFault.TheVariants.{Memory}
@@ -57,15 +57,14 @@ returns-in_err-opened-clause-refused g c =
     let before = g.R.Records.opens c.args.records.now in
     let now = g.R.Records.opens c.loop-node.records in
     let node = c.loop-node.node in
-    let why = c.in_err-opened.field-0 in
     let same = c.loop-node.invariant.same in
     let below : node < c.args.net.now.nodes = omega (arith, c.loop-node-test.true, c.nodes-node-end.ensures.nodes) in
     fails-with (IsFault (Reads before source fails) (Begins before source) (network_mark c.args.net.now) c.args.net.now.nodes)
-    c.from_residual.result why c.from_residual.ensures.1 (
+    c.from_residual.result _ c.from_residual.ensures.1 (
       node,
       below,
-      subst (λ (n : ℕ). IsRecordFault (Reads before source fails) (Begins before source) n node why) c.network_mark-mark.ensures
-          (record-fault-as (Reads now source fails) (Reads before source fails) (Begins now source) (Begins before source) c.network_mark-mark.result node why
+      subst (λ (n : ℕ). IsRecordFault (Reads before source fails) (Begins before source) n node c.in_err-opened.field-0.0) c.network_mark-mark.ensures
+          (record-fault-as (Reads now source fails) (Reads before source fails) (Begins now source) (Begins before source) c.network_mark-mark.result node c.in_err-opened.field-0.0
           (λ s xs f y. reads-before before now source fails same node s xs f y)
           (λ s e y. begins-before before now source same node s e y)
           c.in_err-opened.ensures.opened),

@@ -1,4 +1,4 @@
-use Rattle.std.proofs.Common.{◌≡◌, ◌≤◌, ◌++◌, List, length}
+use Rattle.std.proofs.Common.{◌≡◌, ◌++◌, List, length}
 use Rattle.node_recorder.specs.Turns.{network_mark}
 use Rattle.gather_command.specs.Reading.{MayFail, Reads, OpensNoMore}
 use Rattle.gather_command.specs.View.{NodeRecordView}

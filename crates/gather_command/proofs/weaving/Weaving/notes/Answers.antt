@@ -1,4 +1,4 @@
-use Rattle.std.proofs.Common.{◌≡◌, ◌∙◌, ℕ, ap, length}
+use Rattle.std.proofs.Common.{◌∙◌, ap, length}
 use Rattle.record_gathering.specs.configuration.run_model.World.{World}
 use Rattle.record_gathering.specs.View.{gathered}
 use Rattle.gather_command.specs.Weave.{Moment}
