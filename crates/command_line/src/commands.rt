@@ -6,8 +6,8 @@ ghost use Rattle.command_line.specs.Ends.{asks_for_lock, asks_for_version};
 use crate::program::{Runtime, TOKENTREE};
 use crate::refusal::{Refusal, status};
 use crate::{
-    bound, cut, draw, gather, junk, lock, measure, network, node, schedule, scramble, simulate, stop,
-    threads, up, worst,
+    bound, cut, draw, gather, junk, lock, measure, network, node, schedule, scramble, simulate,
+    stop, threads, up, worst,
 };
 use clap::{ArgMatches, Command};
 use command_grammar::parser;

@@ -2,8 +2,8 @@
 ghost use Rattle.std.specs.Prelude.{⊤};
 
 use gather_command::{
-    Difference, Field, Flaw, FlawKind, GatherFault, Lasted, MemoryRecord, MemoryRecords, RecordFile,
-    Side, gather,
+    Difference, Field, Flaw, FlawKind, GatherFault, Lasted, MemoryRecord, MemoryRecords,
+    RecordFile, Side, gather,
 };
 use node_recorder::network_mark;
 use record_gathering::configuration::run_model::{Event, Harm};
