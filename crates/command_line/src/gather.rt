@@ -1,4 +1,7 @@
 //! The words of `gather`.
+ghost use Rattle.std.specs.Prelude.{◌≡◌, ◌⊎◌, IfOk};
+ghost use Rattle.std.specs.Process.{exit_status};
+
 use crate::refusal::Refusal;
 use clap::{ArgMatches, Command};
 use command_grammar::{Choice, Grammar, Parameter, with_command, word};
@@ -80,7 +83,9 @@ read to its end, and a line on standard error says which; 2 invalid arguments.";
 pub fn run<R: Files + Print + Eprint + AllocGlobal>(
     rt: &R,
     given: &ArgMatches,
-) -> Result<ExitCode, Refusal> {
+) -> Result<ExitCode, Refusal>
+    ensures { IfOk result (λ status. (exit_status status ≡ 0) ⊎ (exit_status status ≡ 1)) }
+{
     let dir = word(given, "DIR")?;
     let network = word(given, "network")?;
     Ok(command::run(rt, dir, network)?)

@@ -9,7 +9,7 @@ ghost use Rattle.gather_command.specs.Ends.{EndsWith, flaws_status};
 
 use crate::damage::Difference;
 use crate::fault::{Flaw, GatherFault};
-use crate::folder::{FolderRecords, is_folder};
+use crate::folder::FolderRecords;
 use crate::gathered::{Gathered, gather};
 use crate::lines::{
     DifferenceLine, DifferencesLine, FaultLine, FlawLine, FoundLine, LoansLine, StretchLine,
@@ -18,6 +18,7 @@ use crate::records::Records;
 use crate::summary::Summary;
 use command_parts::{EventText, Fault, read_network};
 use std::alloc::Global;
+use std::fs;
 use std::io::{BufWriter, Write, writer};
 use std::process::ExitCode;
 use std::rt::Files;
@@ -53,6 +54,14 @@ pub fn run<R: Files + Print + Eprint + AllocGlobal>(
             Ok(flaws_status(&gathered.flaws))
         }
         Err(fault) => ended(rt, dir, fault),
+    }
+}
+
+/// Whether there is such a folder.
+fn is_folder<F: Files>(files: &F, dir: &str) -> bool {
+    match fs::metadata(files, dir) {
+        Ok(found) => found.is_dir(),
+        Err(_) => false,
     }
 }
 

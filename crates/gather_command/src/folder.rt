@@ -18,7 +18,9 @@ pub struct FolderRecords<'a, R> {
 
 impl<'a, R> FolderRecords<'a, R> {
     /// The records in this folder.
-    pub fn new(rt: &'a R, dir: &'a str) -> FolderRecords<'a, R> {
+    pub fn new(rt: &'a R, dir: &'a str) -> FolderRecords<'a, R>
+        ensures { result.dir.now ≡ dir.now }
+    {
         FolderRecords { rt, dir }
     }
 }
@@ -61,13 +63,5 @@ fn not_opened<F>(kind: ErrorKind) -> Opened<F>
         ErrorKind::NotFound => Opened::Absent,
         ErrorKind::OutOfMemory => Opened::NoMemory,
         _ => Opened::Unreadable,
-    }
-}
-
-/// Whether there is such a folder.
-pub fn is_folder<F: Files>(files: &F, dir: &str) -> bool {
-    match fs::metadata(files, dir) {
-        Ok(found) => found.is_dir(),
-        Err(_) => false,
     }
 }
