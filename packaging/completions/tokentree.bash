@@ -30,7 +30,7 @@ _tokentree() {
     local -a given=() kinds=()
     COMPREPLY=()
     if [ "$COMP_CWORD" -eq 1 ]; then
-        mapfile -t COMPREPLY < <(compgen -W 'bound simulate lock status scramble cut junk node up stop network schedule measure worst draw threads help --help --version' -- "$current")
+        mapfile -t COMPREPLY < <(compgen -W 'bound simulate lock status scramble cut junk node up stop network schedule measure worst draw gather threads help --help --version' -- "$current")
         return
     fi
     case ${COMP_WORDS[1]} in
@@ -49,9 +49,10 @@ _tokentree() {
     measure) flags='--runs --seed --rounds --random --schedule --share --table --csv --plot --json --help' valued='--runs --seed --schedule --share --plot' places='FILE' ;;
     worst) flags='--searches --minutes --steps --seed --events --help' valued='--searches --minutes --steps --seed --events' places='FILE' ;;
     draw) flags='--columns --from --to --layers --film --page --seconds --help' valued='--columns --from --to --seconds' places='FILE EVENTS' ;;
+    gather) flags='--network --help' valued='--network' places='DIR' ;;
     threads) flags='--events --help' valued='--events' places='FILE TURNS' ;;
     help)
-        [ "$COMP_CWORD" -gt 2 ] || mapfile -t COMPREPLY < <(compgen -W 'bound simulate lock status scramble cut junk node up stop network schedule measure worst draw threads' -- "$current")
+        [ "$COMP_CWORD" -gt 2 ] || mapfile -t COMPREPLY < <(compgen -W 'bound simulate lock status scramble cut junk node up stop network schedule measure worst draw gather threads' -- "$current")
         return
         ;;
     esac

@@ -2,7 +2,7 @@
 complete -c tokentree -n __fish_use_subcommand -l help -d 'Print help'
 complete -c tokentree -n __fish_use_subcommand -l version -d 'Print version'
 complete -c tokentree -n __fish_use_subcommand -f -a help -d 'Shows the help of a command'
-complete -c tokentree -n '__fish_seen_subcommand_from help' -f -a 'bound simulate lock status scramble cut junk node up stop network schedule measure worst draw threads'
+complete -c tokentree -n '__fish_seen_subcommand_from help' -f -a 'bound simulate lock status scramble cut junk node up stop network schedule measure worst draw gather threads'
 # Completes the command after `--`, whose flags are its own.
 function __tokentree_command
     set -l tokens (commandline -opc)
@@ -92,5 +92,7 @@ complete -c tokentree -n '__fish_seen_subcommand_from draw; and not contains -- 
 complete -c tokentree -n '__fish_seen_subcommand_from draw; and not contains -- -- (commandline -opc)' -l film -d 'Write a film of the run: an SVG that plays'
 complete -c tokentree -n '__fish_seen_subcommand_from draw; and not contains -- -- (commandline -opc)' -l page -d 'Write the film in an HTML page with controls'
 complete -c tokentree -n '__fish_seen_subcommand_from draw; and not contains -- -- (commandline -opc)' -l seconds -x -d 'Seconds of the film, 2 to 600 [default: 20]'
+complete -c tokentree -n __fish_use_subcommand -f -a gather -d 'Prints what nodes did, by their records, as a list of events'
+complete -c tokentree -n '__fish_seen_subcommand_from gather; and not contains -- -- (commandline -opc)' -l network -x -d 'The network file (TOML); must be given'
 complete -c tokentree -n __fish_use_subcommand -f -a threads -d 'Runs each node on a thread of its own, and shows the state reached'
 complete -c tokentree -n '__fish_seen_subcommand_from threads; and not contains -- -- (commandline -opc)' -l events -x -d 'Write what the nodes did to this file, as an events text'

@@ -6,8 +6,8 @@ ghost use Rattle.command_line.specs.Ends.{asks_for_lock, asks_for_version};
 use crate::program::{Runtime, TOKENTREE};
 use crate::refusal::{Refusal, status};
 use crate::{
-    bound, cut, draw, junk, lock, measure, network, node, schedule, scramble, simulate, stop,
-    threads, up, worst,
+    bound, cut, draw, gather, junk, lock, measure, network, node, schedule, scramble, simulate,
+    stop, threads, up, worst,
 };
 use clap::{ArgMatches, Command};
 use command_grammar::parser;
@@ -55,7 +55,8 @@ fn explain<R: Runtime>(rt: &R, matches: &ArgMatches, fault: Fault) {
     let Some((_, given)) = matches.subcommand() else {
         return;
     };
-    match (fault, given.get_str("FILE"), given.get_str("EVENTS")) {
+    let file = given.get_str("FILE").or(given.get_str("network"));
+    match (fault, file, given.get_str("EVENTS")) {
         (Fault::Network(fault), Some(file), _) => explain_network(rt, file, fault),
         (Fault::EventsUnreadable, _, Some(events)) => explain_reading(rt, events),
         (Fault::EventsUnwritable, _, _) => {
@@ -121,13 +122,14 @@ fn with_nodes<'a>(parser: Command<'a>, alloc: Global) -> Result<Command<'a>, All
     stop::add_to(parser, alloc)
 }
 
-/// Adds the commands for experiments, for pictures of runs, and for runs on threads.
+/// Adds the commands for experiments, for pictures and records of runs, and for runs on threads.
 fn with_experiments<'a>(parser: Command<'a>, alloc: Global) -> Result<Command<'a>, AllocError> {
     let parser = network::add_to(parser, alloc)?;
     let parser = schedule::add_to(parser, alloc)?;
     let parser = measure::add_to(parser, alloc)?;
     let parser = worst::add_to(parser, alloc)?;
     let parser = draw::add_to(parser, alloc)?;
+    let parser = gather::add_to(parser, alloc)?;
     threads::add_to(parser, alloc)
 }
 
@@ -185,6 +187,7 @@ fn act_plainly<R: Runtime>(rt: &R, name: &str, given: &ArgMatches) -> Result<Exi
         "up" => up::run(rt, given),
         "stop" => stop::run(rt, given),
         "network" => network::run(rt, given),
+        "gather" => gather::run(rt, given),
         "schedule" => schedule::run(rt, given),
         _ => Err(Refusal::NoCommand),
     }

@@ -6,8 +6,8 @@
 //! let status = run_words(rt, &["tokentree", "bound"], false);                   // status 2
 //! ```
 //!
-//! The work of a command is in `subcommands`, `live_commands`, `run_picture`, `lock_command`,
-//! `status_command` or `node_process`; `program_ends` says how the program ends.
+//! The work of a command is in `subcommands`, `live_commands`, `run_picture`, `gather_command`,
+//! `lock_command`, `status_command` or `node_process`; `program_ends` says how the program ends.
 //!
 //! The trap: the parser decides which words a command takes, and no contract covers it; tests try
 //! command lines.
@@ -18,6 +18,7 @@ mod commands;
 mod cut;
 mod draw;
 mod film;
+mod gather;
 mod junk;
 mod lock;
 mod measure;

@@ -21,4 +21,4 @@ mod recorder;
 
 pub use flight_recorder;
 pub use node_follower;
-pub use recorder::NodeRecorder;
+pub use recorder::{NodeRecorder, network_mark};

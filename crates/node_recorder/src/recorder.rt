@@ -194,7 +194,7 @@ fn note_queue<A: Allocator, B: Allocator>(pages: &mut Recorder<A>, node: &Node<B
 
 /// A number of a network: networks of other nodes, root, capacity or lease have other numbers, but for
 /// chance.
-fn network_mark(net: &Net) -> u32
+pub fn network_mark(net: &Net) -> u32
     ensures { result ≡ network_mark net.now }
 {
     let first = mixed(mixed(0, net.nodes()), net.root());

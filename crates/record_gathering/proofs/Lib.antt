@@ -1,5 +1,6 @@
 pub mod Accepted
 pub mod Desks
+pub mod Differ
 pub mod Links
 pub mod Orders
 pub mod Places
@@ -7,6 +8,7 @@ pub mod Quiet
 pub mod Reached
 pub mod Replays
 mod RowsEntries
+mod RowsFields
 pub mod Same
 pub mod Steps
 pub mod Whole

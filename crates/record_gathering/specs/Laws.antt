@@ -1,6 +1,8 @@
 -- What the events that entries become say, and where they lead.
 use Rattle.std.specs.Prelude.{◌≡◌, ◌≢◌, ℕ, ◌<◌, IsTrue, if◌then◌else◌, List, [], ◌∷◌, ◌++◌, drop}
 use Rattle.topology.specs.declared.frame.Frame.{Frame}
+use Rattle.flight_records.specs.declared.entry.Noted.{Noted}
+use Rattle.flight_records.specs.declared.entry.Noted.TheVariants as noted
 use Rattle.flight_records.specs.declared.entry.StatePart.{StatePart}
 use Rattle.configuration.specs.link_model.declared.item.Item.TheVariants as item
 use Rattle.configuration.specs.node_core.Step.{taken}
@@ -11,8 +13,9 @@ use Rattle.configuration.specs.run_model.Run.{run, has_damage, IsUndamaged}
 use Rattle.configuration.specs.run_model.declared.event.Event.{Event}
 use Rattle.record_gathering.specs.Accepted.{accepted}
 use Rattle.record_gathering.specs.Entries.{is_of_link, taken_events, sent_events, part_events}
+use Rattle.record_gathering.specs.Fields.{fields_of, no_fields, Differs, AreAll}
 use Rattle.record_gathering.specs.Frames.{is_under_way}
-use Rattle.record_gathering.specs.Standing.{StandsAs, IsPartInRange, IsSameBeside}
+use Rattle.record_gathering.specs.Standing.{StandsAs, IsPartInRange, IsOfNeighbour, IsSameBeside}
 
 -- The events that are not refused lead where all lead, none of them is refused there, and they have
 -- damage exactly if all have.
@@ -30,6 +33,15 @@ pub record HarmsMeanDifferences : Type 0 where
       → IsUndamaged w (taken_events w u v f)
   pub sent : (w : World) (v u : ℕ) (f : Frame) → frame_of ((w.node v).port u) ≡ f
       → IsUndamaged w (sent_events w v u f)
+
+-- A field that is named stands otherwise than was noted. None is named of a part of a node's state exactly
+-- if the node stands so; of a port, if it is one to a neighbour.
+pub record FieldsMeanDifferences : Type 0 where
+  pub said : (w : World) (queue : List ℕ) (v : ℕ) (n : Noted) → AreAll (Differs w queue v n) (fields_of w queue v n)
+  pub quiet : (w : World) (queue : List ℕ) (v : ℕ) (p : StatePart) → StandsAs queue (w.node v) p
+      → fields_of w queue v (noted.State p) ≡ no_fields
+  pub whole : (w : World) (queue : List ℕ) (v : ℕ) (p : StatePart) → v < w.net.nodes → IsOfNeighbour w v p
+      → fields_of w queue v (noted.State p) ≡ no_fields → StandsAs queue (w.node v) p
 
 -- a part of v's state that is in range: v stands so afterwards, and all else is as it was
 pub record IsReached (w : World) (queue : List ℕ) (v : ℕ) (p : StatePart) (new : World) : Type 0 where

@@ -5,6 +5,7 @@ pub mod Accepted
 pub mod Counts
 pub mod Differences
 pub mod Entries
+pub mod Fields
 pub mod Firsts
 pub mod Frames
 pub mod Laws

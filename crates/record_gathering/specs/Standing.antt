@@ -34,6 +34,15 @@ IsPartInRange w queue v (part.Loan lent left served) =
     IsTrue (desk_fits w.net.lease (record { waiting = queue; lent = lent; left = left; served = served }))
 IsPartInRange w queue v part.Whole = Unit {0}
 
+-- a part for a port is one to a neighbour of v
+abbrev pub IsOfNeighbour : World → ℕ → StatePart → Type 0
+IsOfNeighbour w v (part.Start network node) = Unit {0}
+IsOfNeighbour w v (part.Own distance parent) = Unit {0}
+IsOfNeighbour w v (part.Port neighbour seq last staged copy value) = IsTrue (are_joined w.net.edges v neighbour)
+IsOfNeighbour w v (part.Waits ticket) = Unit {0}
+IsOfNeighbour w v (part.Loan lent left served) = Unit {0}
+IsOfNeighbour w v part.Whole = Unit {0}
+
 -- a node is the same in all that a part does not speak of
 abbrev pub IsSameBeside : StatePart → LocalState → LocalState → Type 0
 IsSameBeside (part.Start network node) s t = s ≡ t

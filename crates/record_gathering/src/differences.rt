@@ -136,7 +136,7 @@ pub fn frame_harms<A: Allocator>(
 }
 
 /// Whether both are true, or neither is.
-fn same_truth(one: bool, other: bool) -> bool
+pub fn same_truth(one: bool, other: bool) -> bool
     ensures { result ≡ same_truth one other }
 {
     if one { other } else { !other }

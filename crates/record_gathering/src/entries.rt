@@ -20,7 +20,7 @@ use std::alloc::{AllocError, Allocator};
 use topology::Frame;
 
 /// Whether two nodes are neighbours.
-fn is_link<A: Allocator + Copy>(world: &Configuration<A>, from: u16, to: u16) -> bool
+pub fn is_link<A: Allocator + Copy>(world: &Configuration<A>, from: u16, to: u16) -> bool
     ensures joined { result ≡ are_joined (world_of world.now).net.edges from to }
     ensures from_in { IsTrue result → from < (world_of world.now).net.nodes }
     ensures to_in { IsTrue result → to < (world_of world.now).net.nodes }
@@ -32,7 +32,7 @@ fn is_link<A: Allocator + Copy>(world: &Configuration<A>, from: u16, to: u16) ->
 }
 
 /// Whether a frame is one that may be on the link between two nodes.
-fn is_of_link<A: Allocator + Copy>(
+pub fn is_of_link<A: Allocator + Copy>(
     world: &Configuration<A>,
     from: u16,
     to: u16,

@@ -5,11 +5,13 @@ ghost use Rattle.configuration.specs.run_model.Run.{run};
 ghost use Rattle.configuration.specs.run_model.Start.{world_with_spares};
 ghost use Rattle.record_gathering.specs.Accepted.{accepted};
 ghost use Rattle.record_gathering.specs.Entries.{entry_events, is_ready};
+ghost use Rattle.record_gathering.specs.Fields.{fields_of};
 ghost use Rattle.record_gathering.specs.Order.{IsNext};
 ghost use Rattle.record_gathering.specs.Queues.{queue_of, queues_after};
 ghost use Rattle.record_gathering.specs.View.{gathered};
 
 use crate::entries::{add_entry, is_ready};
+use crate::fields::{Field, fields_of};
 use crate::laws::accepted_is_enough;
 use crate::order::next_node;
 use crate::queue::Queue;
@@ -122,6 +124,15 @@ impl<A: Allocator + Copy> Gathering<A> {
             Some(queue) => queue.tickets(),
             None => &[],
         }
+    }
+
+    /// The fields of a node that stand otherwise than the next entry of its record says; at most five. A
+    /// frame that it took counts as one if none like it is under way.
+    pub fn fields(&self, node: u16, noted: &Noted) -> [Option<Field>; 5]
+        ensures { result ≡ fields_of (gathered self.now) (queue_of self.now.queues node) node
+            noted.now }
+    {
+        fields_of(&self.world, self.queue(node), node, noted)
     }
 
     /// Lets events happen in the world, and leaves out those that are refused.

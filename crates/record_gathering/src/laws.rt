@@ -1,7 +1,7 @@
 //! What holds of the events that entries become: each law is the contract of a function that does
 //! nothing.
 ghost use Rattle.record_gathering.specs.Laws.{AcceptedIsEnough, HarmsMeanDifferences};
-ghost use Rattle.record_gathering.specs.Laws.{ReplaysFollowRecords};
+ghost use Rattle.record_gathering.specs.Laws.{ReplaysFollowRecords, FieldsMeanDifferences};
 ghost use Rattle.record_gathering.specs.States.{WholeStatesAreReached};
 
 /// Leaving out the events that are refused changes nothing: the same world is reached.
@@ -12,6 +12,12 @@ pub fn accepted_is_enough()
 /// Nobody is shown damage where what was noted before leads to what was noted next.
 pub fn harms_mean_differences()
     ensures { HarmsMeanDifferences }
+{}
+
+/// A field that is named as another one is another one; and if none is named, the node stands as was
+/// noted. Whoever is shown where damage is stands on it.
+pub fn fields_mean_differences()
+    ensures { FieldsMeanDifferences }
 {}
 
 /// A replay of the events finds each node in the states that were noted, and each frame that was

@@ -17,11 +17,14 @@
 //! [`Gathering::is_ready`] says whether there is one. If nobody sent it, since it was forged or since
 //! a part of a record is missing, a harm puts it on the link.
 //!
+//! Before an entry becomes events, [`Gathering::fields`] says which fields of the node stand otherwise.
+//!
 //! The trap: that a frame is lost is known only when a later one is taken.
 #![tactic(auto)]
 
 mod differences;
 mod entries;
+mod fields;
 mod found;
 mod frames;
 mod gathering;
@@ -31,6 +34,7 @@ mod queue;
 
 pub use configuration;
 pub use configuration::run_model;
+pub use fields::Field;
 pub use flight_records;
 pub use found::Found;
 pub use gathering::Gathering;

@@ -10,7 +10,7 @@ use subcommands::bound;
 use test_parts::{as_expected, is_expected};
 
 /// A command line, and its status.
-const ROWS: [(&str, u8); 104] = [
+const ROWS: [(&str, u8); 112] = [
     ("tokentree bound two.toml", 0),
     ("tokentree bound -- two.toml", 0),
     ("tokentree bound --sharp two.toml", 0),
@@ -157,6 +157,14 @@ const ROWS: [(&str, u8); 104] = [
     ("tokentree stop absent", 1),
     ("tokentree stop", 2),
     ("tokentree stop --timeout 65536 absent", 2),
+    ("tokentree gather --help", 0),
+    ("tokentree gather . --network two.toml", 1),
+    ("tokentree gather --network two.toml absent", 1),
+    ("tokentree gather . --network bad.toml", 1),
+    ("tokentree gather . --network absent.toml", 1),
+    ("tokentree gather .", 2),
+    ("tokentree gather --network two.toml", 2),
+    ("tokentree gather . more --network two.toml", 2),
 ];
 
 /// The files that the command lines name.

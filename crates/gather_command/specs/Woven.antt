@@ -1,0 +1,99 @@
+-- One step of a weaving after the other.
+use Rattle.std.specs.Prelude.{◌≡◌, ℕ, ◌≤◌, Bool, true, false, List, [], ◌∷◌, ◌++◌, Option, Some, None, Result, Ok, Err, replicate, length, slice_set, slice_get, fold}
+use Rattle.topology.specs.Network.{Network}
+use Rattle.record_pages.specs.byte_streams.Streams.{Rose}
+use Rattle.record_gathering.specs.View.{gathered}
+use Rattle.record_gathering.specs.configuration.run_model.World.{World}
+use Rattle.record_gathering.specs.configuration.run_model.Start.{world_with_spares}
+use Rattle.record_gathering.specs.configuration.run_model.declared.event.Event.{Event}
+use Rattle.record_gathering.specs.flight_records.declared.entry.Entry.{Entry}
+use Rattle.record_gathering.specs.Order.{IsNext, head_of}
+use Rattle.record_gathering.specs.Queues.{queues_after}
+use Rattle.gather_command.specs.declared.fault.Flaw.{Flaw}
+use Rattle.gather_command.specs.declared.fault.GatherFault.{GatherFault}
+use Rattle.gather_command.specs.declared.fault.GatherFault.TheVariants as fault
+use Rattle.gather_command.specs.View.{NodeRecordView, heads_in}
+use Rattle.gather_command.specs.WeavingView.{WeavingView}
+use Rattle.gather_command.specs.Records.{GoesOn, AreToCome}
+use Rattle.gather_command.specs.Weave.{Moment, moment_at, world_after, events_of, IsWoven}
+use Rattle.gather_command.specs.Watch.{seen_after, nothing_seen}
+
+-- the world of a weaving
+abbrev pub world_in : WeavingView → World
+world_in w = gathered w.gathering
+
+-- a weaving of these records, of which nothing is woven yet
+pub record IsAtStart (net : Network) (records : List NodeRecordView) (w : WeavingView) : Type 0 where
+  pub world : world_in w ≡ world_with_spares net 8
+  pub queues : w.gathering.queues ≡ replicate net.nodes []
+  pub records_are : w.records ≡ records
+  pub seen : w.seen ≡ nothing_seen net.nodes
+
+-- Whose entry comes next, and which one it is; none if all records are read to their ends. There is a
+-- record for each node.
+abbrev pub IsTurn : WeavingView → Option (ℕ × Entry) → Type 0
+IsTurn w None =
+    IsNext (world_in w) (heads_in w.records) (world_in w).net.nodes None × ((world_in w).net.nodes ≡ length w.records)
+IsTurn w (Some (v, e)) =
+    IsNext (world_in w) (heads_in w.records) (world_in w).net.nodes (Some v) × (head_of (heads_in w.records) v ≡ Some e)
+    × ((world_in w).net.nodes ≡ length w.records)
+
+-- an entry of v's record became events; it is not yet passed over
+pub record IsNoted (old : WeavingView) (v : ℕ) (e : Entry) (new : WeavingView) : Type 0 where
+  pub world : world_in new ≡ world_after (world_in old) old.gathering.queues v e
+  pub queues : new.gathering.queues ≡ queues_after old.gathering.queues v e.noted
+  pub records : new.records ≡ old.records
+  pub seen : new.seen ≡ seen_after old.seen (moment_at (world_in old) old.gathering.queues v e)
+
+-- v's record went on, and all else stayed
+abbrev pub HasPassed : Type 0 → WeavingView → ℕ → WeavingView → Type 0
+HasPassed Fails old v new =
+    (before : NodeRecordView) × (after : NodeRecordView) × (slice_get old.records v ≡ Some before) × GoesOn Fails before after
+    × (new ≡ record old { records = slice_set old.records v after })
+
+-- What is woven of the records from now on is woven after these entries of what was to come of them
+-- before.
+abbrev pub LeadsOn : Type 0 → WeavingView → List Moment → WeavingView → Type 0
+LeadsOn Fails old ms new =
+    (entries : List (List Entry)) (flaws : List Flaw) (later : List Moment) → AreToCome Fails new.records entries flaws
+    → IsWoven (world_in new) new.gathering.queues entries later
+    → (before : List (List Entry)) × AreToCome Fails old.records before flaws
+    × IsWoven (world_in old) old.gathering.queues before (ms ++ later)
+
+-- Entries were woven: they lead the weaving on, a sink took their events, and they were seen. `takes`
+-- says what a sink took, and `failures` how often it failed.
+pub record HasWoven {K : Type 0} (Fails : Type 0) (takes : K → List Event → K → Type 0) (failures : K → ℕ)
+    (old : WeavingView) (before : K) (ms : List Moment) (new : WeavingView) (after : K) : Type 0 where
+  pub leads : LeadsOn Fails old ms new
+  pub taken : takes before (events_of ms) after
+  pub seen : new.seen ≡ fold seen_after old.seen ms
+  pub counted : failures before ≤ failures after
+
+-- why weaving ends in its midst: the sink failed, or memory ran out, or there are too many entries
+abbrev pub IsBroken : GatherFault → ℕ → ℕ → Type 0
+IsBroken fault.Output failures more = Rose failures more
+IsBroken fault.Memory failures more = Unit {0}
+IsBroken fault.TooMany failures more = Unit {0}
+IsBroken (fault.Absent v) failures more = ⊥
+IsBroken (fault.Unreadable f) failures more = ⊥
+IsBroken (fault.NoRecord f) failures more = ⊥
+IsBroken (fault.OtherNetwork f) failures more = ⊥
+IsBroken (fault.OtherNode f v) failures more = ⊥
+
+-- one entry was woven; or none is left, and nothing changed
+abbrev pub IsOneWoven : {K : Type 0} → Type 0 → (K → List Event → K → Type 0) → (K → ℕ)
+    → WeavingView → K → Result Bool GatherFault → WeavingView → K → Type 0
+IsOneWoven Fails takes failures old before (Ok true) new after =
+    (m : Moment) × HasWoven Fails takes failures old before (m ∷ []) new after
+IsOneWoven Fails takes failures old before (Ok false) new after =
+    (new ≡ old) × (after ≡ before) × IsTurn old None
+IsOneWoven Fails takes failures old before (Err why) new after =
+    IsBroken why (failures before) (failures after)
+
+-- all entries were
+abbrev pub AreAllWoven : {K : Type 0} → Type 0 → (K → List Event → K → Type 0) → (K → ℕ)
+    → WeavingView → K → Result (Unit {0}) GatherFault → WeavingView → K → Type 0
+AreAllWoven Fails takes failures old before (Ok x) new after =
+    (ms : List Moment) × HasWoven Fails takes failures old before ms new after × IsTurn new None
+AreAllWoven Fails takes failures old before (Err why) new after =
+    IsBroken why (failures before) (failures after)

@@ -1,0 +1,175 @@
+//! `gather DIR`: what the nodes of a folder did, as a list of events.
+ghost use Rattle.std.specs.Prelude.{◌≡◌, ◌⊎◌, [], IfOk, IfErr, OnOk, length};
+ghost use Rattle.std.specs.Io.Buffered.{writer_buffer, writer_contents};
+ghost use Rattle.std.specs.Process.{exit_status};
+ghost use Rattle.command_parts.specs.EventText.{GrowsByText};
+ghost use Rattle.gather_command.specs.Reading.{MayFail, Reads, Begins};
+ghost use Rattle.gather_command.specs.Gathered.{IsGathered, IsRefused};
+ghost use Rattle.gather_command.specs.Ends.{EndsWith, flaws_status};
+
+use crate::damage::Difference;
+use crate::fault::{Flaw, GatherFault};
+use crate::folder::FolderRecords;
+use crate::gathered::{Gathered, gather};
+use crate::lines::{
+    DifferenceLine, DifferencesLine, FaultLine, FlawLine, FoundLine, LoansLine, StretchLine,
+};
+use crate::records::Records;
+use crate::summary::Summary;
+use command_parts::{EventText, Fault, read_network};
+use std::alloc::Global;
+use std::fs;
+use std::io::{BufWriter, Write, writer};
+use std::process::ExitCode;
+use std::rt::Files;
+use topology::Net;
+
+/// Prints what the nodes of a file's network did, as their records in a folder say, as a list of
+/// events: a line each. Then a line on standard error names each file that was not read to its end, one
+/// each of the first fields that stood otherwise than what their nodes' records led to, and four lines say
+/// in numbers what the records show. The status is 1 if a file was not read to its end, or if a record
+/// gives no events; then a line on standard error says which and why.
+///
+/// What is unproved: that the entries that are woven are those of the folder's files, and that the
+/// text reaches standard output; neither says what its bytes are. [`gather_text`] says all the rest.
+///
+/// # Errors
+/// If the file gives no network, memory runs out, or standard output fails. Then a beginning of the
+/// list may be printed.
+pub fn run<R: Files + Print + Eprint + AllocGlobal>(
+    rt: &R,
+    dir: &str,
+    network: &str,
+) -> Result<ExitCode, Fault>
+    ensures { IfOk result (λ status. (exit_status status ≡ 0) ⊎ (exit_status status ≡ 1)) }
+{
+    let net = read_network(rt, network)?;
+    if !is_folder(rt, dir) {
+        let _ = eprintln!(rt; "tokentree: there is no folder {dir}");
+        return Ok(ExitCode::FAILURE);
+    }
+    match print_events(rt, dir, &net) {
+        Ok(gathered) => {
+            say_gathered(rt, dir, &gathered);
+            Ok(flaws_status(&gathered.flaws))
+        }
+        Err(fault) => ended(rt, dir, fault),
+    }
+}
+
+/// Whether there is such a folder.
+fn is_folder<F: Files>(files: &F, dir: &str) -> bool {
+    match fs::metadata(files, dir) {
+        Ok(found) => found.is_dir(),
+        Err(_) => false,
+    }
+}
+
+/// Prints the events that the records of a folder become.
+fn print_events<R: Files + Print + AllocGlobal>(
+    rt: &R,
+    dir: &str,
+    net: &Net,
+) -> Result<Gathered, GatherFault> {
+    let Ok(output) = BufWriter::new(rt.alloc(), writer(rt)) else {
+        return Err(GatherFault::Memory);
+    };
+    let mut records = FolderRecords::new(rt, dir);
+    gather_text(rt.alloc(), net, &mut records, &mut EventText::new(output))
+}
+
+/// Weaves the records of all nodes of a network into one list of events, and writes its whole text.
+///
+/// # Errors
+/// As [`gather`].
+pub fn gather_text<R: Records, W: Write + Drop>(
+    alloc: Global,
+    net: &Net,
+    records: &mut R,
+    text: &mut EventText<W>,
+) -> Result<Gathered, GatherFault>
+    // The writer got the text of the events, if it shows its bytes.
+    ensures gathered { IfOk result (λ g.
+        IsGathered (Reads (R.opens records.old) R.File.rest (MayFail R.File.failures))
+        (λ a events b. GrowsByText (writer_contents W.contents a.writer) events
+        (writer_contents W.contents b.writer))
+        net.now text.old g.summary g.differences.items g.flaws.items text.new) }
+    ensures written { OnOk result (writer_buffer text.new.writer ≡ []) }
+    ensures refused { IfErr result (λ fault.
+        IsRefused (Reads (R.opens records.old) R.File.rest (MayFail R.File.failures))
+        (Begins (R.opens records.old) R.File.rest) (λ t. t.failures) net.now text.old fault text.new) }
+{
+    let gathered = gather(alloc, net, records, text)?;
+    match text.flush() {
+        Ok(()) => Ok(gathered),
+        Err(_) => Err(GatherFault::Output),
+    }
+}
+
+/// Says which files were not read to their ends, which fields of nodes stood otherwise than what their
+/// records led to, and what the records show, in numbers.
+fn say_gathered<R: Eprint>(rt: &R, dir: &str, gathered: &Gathered) {
+    for flaw in &gathered.flaws {
+        say_flaw(rt, dir, *flaw);
+    }
+    for difference in &gathered.differences {
+        say_difference(rt, *difference);
+    }
+    let named = gathered.differences.len();
+    say_summary(rt, gathered.summary, named);
+}
+
+/// Says what the records show, in numbers; so many differences are named.
+fn say_summary<R: Eprint>(rt: &R, summary: Summary, named: usize) {
+    let (stretch, found, loans) = (
+        StretchLine(summary),
+        FoundLine(summary.found),
+        LoansLine(summary),
+    );
+    let differences = DifferencesLine {
+        count: summary.differences,
+        named,
+    };
+    let _ = eprintln!(rt; "tokentree: {stretch}");
+    let _ = eprintln!(rt; "tokentree: {found}");
+    let _ = eprintln!(rt; "tokentree: {differences}");
+    let _ = eprintln!(rt; "tokentree: {loans}");
+}
+
+/// Says which field of a node stood otherwise.
+fn say_difference<R: Eprint>(rt: &R, difference: Difference) {
+    let line = DifferenceLine(difference);
+    let _ = eprintln!(rt; "tokentree: {line}");
+}
+
+/// Says where a file was not read to its end.
+fn say_flaw<R: Eprint>(rt: &R, dir: &str, flaw: Flaw) {
+    let line = FlawLine { dir, flaw };
+    let _ = eprintln!(rt; "tokentree: {line}");
+}
+
+/// The status after events were gathered, with these flaws.
+fn flaws_status(flaws: &[Flaw]) -> ExitCode
+    ensures { exit_status result ≡ flaws_status flaws.now }
+{
+    if flaws.is_empty() {
+        ExitCode::SUCCESS
+    } else {
+        ExitCode::FAILURE
+    }
+}
+
+/// How the command ends if nothing is gathered. A record's fault is said here.
+fn ended<R: Eprint>(rt: &R, dir: &str, fault: GatherFault) -> Result<ExitCode, Fault>
+    ensures { EndsWith fault result }
+{
+    match fault {
+        GatherFault::Memory => Err(Fault::Memory),
+        GatherFault::Output => Err(Fault::Output),
+        _ => {
+            let line = FaultLine { dir, fault };
+            let _ = eprintln!(rt; "tokentree: {line}");
+            Ok(ExitCode::FAILURE)
+        }
+    }
+}

@@ -1,0 +1,55 @@
+//! Why records give no list of events.
+use flight_recorder::Side;
+
+/// A file of a node's record.
+#[derive(Clone, Copy, Debug, PartialEq, Eq)]
+pub struct RecordFile {
+    /// The node.
+    pub node: u16,
+    /// Which of its two files it is.
+    pub side: Side,
+}
+
+/// Why records give no list of events. Nothing is written then; but in `Output`, `Memory` and `TooMany` a
+/// beginning may be.
+#[derive(Clone, Copy, Debug, PartialEq, Eq, Drop)]
+pub enum GatherFault {
+    /// A node has no record, or an empty one.
+    Absent(u16),
+    /// A file cannot be read.
+    Unreadable(RecordFile),
+    /// A file is no record: it does not begin with the start of a state.
+    NoRecord(RecordFile),
+    /// A file is the record of a node of another network.
+    OtherNetwork(RecordFile),
+    /// A file is the record of another node, of this id.
+    OtherNode(RecordFile, u16),
+    /// What takes the events failed.
+    Output,
+    /// Memory ran out.
+    Memory,
+    /// There are more entries than a number of 64 bits counts.
+    TooMany,
+}
+
+/// Where a file was not read to its end.
+#[derive(Clone, Copy, Debug, PartialEq, Eq)]
+pub struct Flaw {
+    /// The file.
+    pub file: RecordFile,
+    /// What is wrong with it.
+    pub kind: FlawKind,
+    /// The instant of the last entry that was read of it, in microseconds of its node's clock.
+    pub instant: u64,
+}
+
+/// What is wrong with a file.
+#[derive(Clone, Copy, Debug, PartialEq, Eq)]
+pub enum FlawKind {
+    /// It ends within an entry.
+    Torn,
+    /// No entry begins after the last one that was read.
+    Spoiled,
+    /// It could not be read on.
+    Unreadable,
+}

@@ -1,0 +1,189 @@
+//! The records of all nodes, woven into one list of events.
+ghost use Rattle.std.specs.Prelude.{◌≡◌, ◌≤◌, ◌++◌, ◌∷◌, [], Some, IfOk, IfErr, OnOk, length};
+ghost use Rattle.record_pages.specs.byte_streams.Streams.{CountsFailures};
+ghost use Rattle.node_recorder.specs.Turns.{network_mark};
+ghost use Rattle.gather_command.specs.Reading.{MayFail, Reads, Begins, OpensNoMore};
+ghost use Rattle.gather_command.specs.Records.{IsFault};
+ghost use Rattle.gather_command.specs.Weave.{moment_at};
+ghost use Rattle.gather_command.specs.Woven.{IsOneWoven, AreAllWoven, IsTurn, HasWoven, IsBroken};
+ghost use Rattle.gather_command.specs.Woven.{world_in};
+ghost use Rattle.gather_command.specs.Gathered.{IsGathered, IsRefused, AreOpened};
+
+use crate::damage::Difference;
+use crate::fault::{Flaw, GatherFault};
+use crate::node_record::NodeRecord;
+use crate::records::Records;
+use crate::summary::Summary;
+use crate::weaving::Weaving;
+use node_recorder::network_mark;
+use record_gathering::configuration::run_model::Event;
+use record_pages::byte_streams::{Failed, Source};
+use record_pages::flight_records::Entry;
+use schedules::EventSink;
+use std::alloc::{AllocError, Global};
+use topology::Net;
+
+/// What was gathered.
+#[derive(Drop)]
+pub struct Gathered {
+    /// What it shows, in numbers.
+    pub summary: Summary,
+    /// The first fields that stood otherwise than what their nodes' records led to, 64 at most.
+    pub differences: Vec<Difference>,
+    /// The files that were not read to their ends.
+    pub flaws: Vec<Flaw>,
+}
+
+impl From<AllocError> for GatherFault {
+    ghost use Rattle.std.specs.Prelude.{◌≡◌};
+    ghost use Rattle.gather_command.specs.declared.fault.GatherFault.TheVariants.{Memory};
+
+    ghost from_gives = { λ _ fault. fault ≡ Memory };
+
+    fn from(_refused: AllocError) -> GatherFault {
+        GatherFault::Memory
+    }
+}
+
+impl From<Failed> for GatherFault {
+    ghost use Rattle.std.specs.Prelude.{◌≡◌};
+    ghost use Rattle.gather_command.specs.declared.fault.GatherFault.TheVariants.{Output};
+
+    ghost from_gives = { λ _ fault. fault ≡ Output };
+
+    fn from(_failed: Failed) -> GatherFault {
+        GatherFault::Output
+    }
+}
+
+/// Weaves the records of all nodes of a network into one list of events, which go to the sink. A
+/// frame is taken after it was sent, if it was; else the earliest comes next.
+///
+/// # Errors
+/// If a node has no record, if a file cannot be read, or is none of this network, if the sink
+/// fails, if memory runs out, or if there are too many entries. But in the last three cases nothing is
+/// written.
+pub fn gather<R: Records, S: EventSink>(
+    alloc: Global,
+    net: &Net,
+    records: &mut R,
+    sink: &mut S,
+) -> Result<Gathered, GatherFault>
+    // The summary counts the events; each difference is one of a node, and each flaw one of a file.
+    ensures gathered { IfOk result (λ g.
+        IsGathered (Reads (R.opens records.old) R.File.rest (MayFail R.File.failures)) S.takes
+        net.now sink.old g.summary g.differences.items g.flaws.items sink.new) }
+    ensures counted { OnOk result (S.failures sink.old ≤ S.failures sink.new) }
+    ensures refused { IfErr result (λ fault.
+        IsRefused (Reads (R.opens records.old) R.File.rest (MayFail R.File.failures))
+        (Begins (R.opens records.old) R.File.rest) S.failures net.now sink.old fault sink.new) }
+{
+    let nodes = open_all(alloc, net, records)?;
+    let mut weaving = Weaving::new(alloc, net, nodes)?;
+    weave_all(alloc, &mut weaving, sink)?;
+    Ok(Gathered {
+        summary: weaving.numbers(net.nodes()),
+        differences: weaving.differences(alloc)?,
+        flaws: weaving.flaws(alloc)?,
+    })
+}
+
+/// Opens the records of all nodes.
+fn open_all<R: Records>(
+    alloc: Global,
+    net: &Net,
+    records: &mut R,
+) -> Result<Vec<NodeRecord<R::File>>, GatherFault>
+    ensures opened { IfOk result (λ nodes. AreOpened (MayFail R.File.failures)
+        (Reads (R.opens records.old) R.File.rest (MayFail R.File.failures))
+        (network_mark net.now) 0 nodes.items) }
+    ensures all { IfOk result (λ nodes. length nodes.items ≡ net.now.nodes) }
+    ensures refused { IfErr result (IsFault
+        (Reads (R.opens records.old) R.File.rest (MayFail R.File.failures))
+        (Begins (R.opens records.old) R.File.rest) (network_mark net.now) net.now.nodes) }
+{
+    let mark = network_mark(net);
+    let mut nodes = Vec::new(alloc);
+    for node in 0..net.nodes() {
+        let opened = NodeRecord::open(alloc, records, node, mark)?;
+        add_record(&mut nodes, opened)?;
+    }
+    Ok(nodes)
+}
+
+/// One more record.
+fn add_record<S: Source + Drop>(
+    nodes: &mut Vec<NodeRecord<S>>,
+    opened: NodeRecord<S>,
+) -> Result<(), AllocError>
+    ensures { OnOk result (nodes.new.items ≡ nodes.old.items ++ opened ∷ []) }
+{
+    nodes.push(opened)?;
+    Ok(())
+}
+
+/// Weaves entries, one after the other, until none is left.
+fn weave_all<S: Source + Drop, K: EventSink>(
+    alloc: Global,
+    weaving: &mut Weaving<S>,
+    sink: &mut K,
+) -> Result<(), GatherFault>
+    ensures { AreAllWoven (MayFail S.failures) K.takes K.failures weaving.old sink.old result
+        weaving.new sink.new }
+{
+    let mut events = Vec::new(alloc);
+    for _ in 0..u64::MAX {
+        if !weave_next(weaving, &mut events, sink)? {
+            return Ok(());
+        }
+    }
+    Err(GatherFault::TooMany)
+}
+
+/// Weaves the entry that comes next, if there is one. Whether there was.
+fn weave_next<S: Source + Drop, K: EventSink>(
+    weaving: &mut Weaving<S>,
+    events: &mut Vec<Event>,
+    sink: &mut K,
+) -> Result<bool, GatherFault>
+    ensures { IsOneWoven (MayFail S.failures) K.takes K.failures weaving.old sink.old result
+        weaving.new sink.new }
+{
+    let Some((node, entry)) = weaving.turn() else {
+        return Ok(false);
+    };
+    weave_turn(weaving, node, &entry, events, sink)?;
+    Ok(true)
+}
+
+/// Weaves this entry, which comes next.
+fn weave_turn<S: Source + Drop, K: EventSink>(
+    weaving: &mut Weaving<S>,
+    node: u16,
+    entry: &Entry,
+    events: &mut Vec<Event>,
+    sink: &mut K,
+) -> Result<(), GatherFault>
+    requires { IsTurn weaving.old (Some (node, entry.now)) }
+    ensures woven { OnOk result (HasWoven (MayFail S.failures) K.takes K.failures weaving.old sink.old
+        (moment_at (world_in weaving.old) weaving.old.gathering.queues node entry.now ∷ [])
+        weaving.new sink.new) }
+    ensures broken { IfErr result (λ fault.
+        IsBroken fault (K.failures sink.old) (K.failures sink.new)) }
+{
+    weaving.notes(node, entry, events)?;
+    give_all(events, sink)?;
+    weaving.passes(node);
+    Ok(())
+}
+
+/// Gives the sink these events, one by one.
+fn give_all<K: EventSink>(events: &[Event], sink: &mut K) -> Result<(), Failed>
+    ensures taken { OnOk result (K.takes sink.old events.now sink.new) }
+    ensures cause { CountsFailures result (K.failures sink.old) (K.failures sink.new) }
+{
+    for event in events {
+        sink.take(event)?;
+    }
+    Ok(())
+}

@@ -1,0 +1,126 @@
+//! What is seen of the entries that were woven.
+ghost use Rattle.std.specs.Prelude.{◌≡◌, ◌<◌, IfOk, length, if◌then◌else◌};
+ghost use Rattle.gather_command.specs.Watch.{nothing_seen, seen_after, numbers_of, is_tick};
+ghost use Rattle.gather_command.specs.Watch.{is_whole, watched_after};
+
+use crate::damage::{Damage, Difference};
+use crate::summary::Summary;
+use crate::watch::{Span, Watch, length_of, with_instant};
+use record_gathering::configuration::run_model::Event;
+use record_gathering::{Field, Found};
+use record_pages::flight_records::{Deed, Entry, Noted, StatePart};
+use std::alloc::{AllocError, Global};
+use std::marker::Model;
+
+/// What is seen of the entries that were woven.
+#[derive(Drop)]
+pub struct Sight {
+    found: Found,
+    damage: Damage,
+    watch: Watch,
+    span: Option<Span>,
+}
+
+impl Model for Sight {
+    ghost use Rattle.gather_command.specs.Watch.{Seen};
+
+    ghost Value = { Seen };
+
+    ghost view = { λ s. record {
+      found = s.found;
+      damage = s.damage;
+      watch = s.watch;
+      span = s.span;
+    } };
+}
+
+/// Whether what is noted is a tick.
+fn is_tick(noted: &Noted) -> bool
+    ensures { result ≡ is_tick noted.now }
+{
+    matches!(noted, Noted::Deed(Deed::Ticks))
+}
+
+/// Whether what is noted is the end of a whole state.
+fn is_whole(noted: &Noted) -> bool
+    ensures { result ≡ is_whole noted.now }
+{
+    matches!(noted, Noted::State(StatePart::Whole))
+}
+
+/// Watches a node, of whose record an entry was woven; after that the node lends to this ticket.
+fn watch_entry(watch: &mut Watch, node: u16, entry: &Entry, lent: Option<u16>)
+    requires { node < length watch.old.nodes }
+    ensures { watch.new ≡ watched_after watch.old node entry.now lent }
+{
+    if is_whole(&entry.noted) {
+        watch.noted_whole(node);
+    }
+    if is_tick(&entry.noted) {
+        watch.ticked(node, entry.instant);
+    }
+    watch.lends(node, lent, entry.instant);
+}
+
+impl Sight {
+    /// Nothing is seen of so many nodes. All memory is reserved here.
+    pub fn new(alloc: Global, nodes: u16) -> Result<Sight, AllocError>
+        ensures { IfOk result (λ s. s ≡ nothing_seen nodes) }
+    {
+        Ok(Sight {
+            found: Found::new(),
+            damage: Damage::new(alloc)?,
+            watch: Watch::new(alloc, nodes)?,
+            span: None,
+        })
+    }
+
+    /// An entry of a node's record became these events, after which the node lends to this ticket.
+    /// These fields of the node stood otherwise before them.
+    pub fn sees(
+        &mut self,
+        node: u16,
+        entry: &Entry,
+        events: &[Event],
+        lent: Option<u16>,
+        fields: &[Option<Field>],
+    )
+        requires { node < length self.old.watch.nodes }
+        ensures { self.new ≡ seen_after self.old (record {
+          node = node;
+          entry = entry.now;
+          events = events.now;
+          lent = lent;
+          fields = fields.now;
+        }) }
+    {
+        self.found.count(events);
+        if self.watch.is_known(node) {
+            self.damage.add(node, entry.instant, fields);
+        }
+        watch_entry(&mut self.watch, node, entry, lent);
+        self.span = with_instant(self.span, entry.instant);
+    }
+
+    /// The first fields that stood otherwise, 64 at most.
+    pub fn differences(&self, alloc: Global) -> Result<Vec<Difference>, AllocError>
+        ensures { IfOk result (λ shown. shown.items ≡ self.now.damage.shown) }
+    {
+        self.damage.shown(alloc)
+    }
+
+    /// What was seen of so many nodes, in numbers.
+    pub fn numbers(&self, nodes: u16) -> Summary
+        ensures { result ≡ numbers_of nodes self.now }
+    {
+        Summary {
+            nodes,
+            stretch: length_of(self.span),
+            found: self.found,
+            differences: self.damage.count(),
+            longest_turn: self.watch.longest_turn(),
+            loans: self.watch.loans(),
+            longest_loan: self.watch.longest_loan(),
+        }
+    }
+}

@@ -1,0 +1,32 @@
+//! What a recording shows, in numbers.
+use record_gathering::Found;
+
+/// A loan that ended.
+#[derive(Clone, Copy, Debug, PartialEq, Eq)]
+pub struct Lasted {
+    /// The node that lent the lock.
+    pub node: u16,
+    /// The ticket that it was lent to.
+    pub ticket: u16,
+    /// How long, in microseconds.
+    pub time: u64,
+}
+
+/// What a recording shows, in numbers.
+#[derive(Clone, Copy, Debug, PartialEq, Eq)]
+pub struct Summary {
+    /// How many nodes have a record.
+    pub nodes: u16,
+    /// From the first entry to the last one, in microseconds.
+    pub stretch: u64,
+    /// How many events of which kind were written.
+    pub found: Found,
+    /// How many fields stood otherwise than what their nodes' records led to.
+    pub differences: u64,
+    /// The longest time from one tick of a node to its next one, in microseconds.
+    pub longest_turn: u64,
+    /// How often the lock was lent.
+    pub loans: u64,
+    /// The longest loan that ended, if one did.
+    pub longest_loan: Option<Lasted>,
+}
