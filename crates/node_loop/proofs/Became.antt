@@ -74,9 +74,9 @@ pub leave-kinds : (ds : List Deed) → All IsLeave ds → All IsOfClient ds
 leave-kinds [] k = All-nil IsOfClient
 leave-kinds (d ∷ ds) k = grind (arith, leave-kinds ds, leave-kind d)
 
-pub leaves-are-clients : (x y : NodeView) → Became IsLeave x y → Became IsOfClient x y
+abbrev pub leaves-are-clients : (x y : NodeView) → Became IsLeave x y → Became IsOfClient x y
 leaves-are-clients x y f = record { site = f.site; deeds = f.deeds; kinds = leave-kinds f.deeds f.kinds; leads = f.leads }
 
 -- after a tick some more tickets left
-pub act-more : (says : Ticked) (x y z : NodeView) → Acts says x y → Became IsLeave y z → Acts says x z
+abbrev pub act-more : (says : Ticked) (x y z : NodeView) → Acts says x y → Became IsLeave y z → Acts says x z
 act-more says x y z a f = record { acted = a.acted; act = a.act; full = a.full; site = a.site; state = a.state; leaves = joins IsLeave a.acted y z a.leaves f }
