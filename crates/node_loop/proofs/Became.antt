@@ -78,5 +78,5 @@ abbrev pub leaves-are-clients : (x y : NodeView) → Became IsLeave x y → Beca
 leaves-are-clients x y f = record { site = f.site; deeds = f.deeds; kinds = leave-kinds f.deeds f.kinds; leads = f.leads }
 
 -- after a tick some more tickets left
-abbrev pub act-more : (says : Ticked) (x y z : NodeView) → Acts says x y → Became IsLeave y z → Acts says x z
+pub act-more : (says : Ticked) (x y z : NodeView) → Acts says x y → Became IsLeave y z → Acts says x z
 act-more says x y z a f = record { acted = a.acted; act = a.act; full = a.full; site = a.site; state = a.state; leaves = joins IsLeave a.acted y z a.leaves f }

@@ -1,7 +1,10 @@
 -- What is noted of deeds one after the other.
+use Rattle.std.specs.Prelude.{is_none}
 use Rattle.std.proofs.Common.{◌≡◌, ℕ, Bool, true, false, List, Option, [], ◌∷◌, ◌++◌, ◌+◌, ◌∙◌, ap, refl, sym, subst, append_assoc}
 use Rattle.topology.specs.declared.frame.Frame.{Frame}
 use Rattle.socket_links.specs.Counts.{Counts}
+use Rattle.lock_desk.specs.Act.{desk_act}
+use Rattle.node_core.specs.Step.{ticked}
 use Rattle.node_core.specs.View.{NodeView, site_in, state_of}
 use Rattle.node_core.specs.declared.ticked.Ticked.{Ticked}
 use Rattle.node_loop.specs.Deeds.{Deed, Acts, Became, IsLeave, IsOfClient, IsTake, Leads, Ticks}
@@ -11,7 +14,7 @@ use Rattle.node_loop.specs.Noting.{after_all, after_note, as_entry, Did, DidAct,
 use Rattle.node_loop.specs.Moments.{Moment}
 use Rattle.node_loop.proofs.Speaking.{SpokenTo}
 use Rattle.node_loop.proofs.Hearing.{HeardBelow, heard-next, heard-start, takes-join}
-use Rattle.node_loop.proofs.Became.{act-more, joins, leaves-are-clients, one, same, stays}
+use Rattle.node_loop.proofs.Became.{joins, leaves-are-clients, one, same, stays}
 
 -- deeds and then deeds
 pub all-join : (ds es : List Deed) (n : NotesView) → after_all (ds ++ es) n ≡ after_all es (after_all ds n)
@@ -45,11 +48,11 @@ pub leaves-did : (x y : NodeView) (n m : NotesView) → Did IsLeave x y n m → 
 leaves-did x y n m f = record { became = leaves-are-clients x y f.became; noted = f.noted }
 
 -- a tick, and then some tickets left
-pub did-act : (says : Ticked) (x y z : NodeView) (n m : NotesView) (acts : Acts says x y) → acts.leaves.deeds ≡ [] → m ≡ after_note (as_entry Ticks) n
-    → (o : NotesView) → Did IsLeave y z m o → DidAct says x z n o
-did-act says x y z n m acts none ticks o f = record {
-  acts = act-more says x y z acts f.became;
-  noted = subst (λ ds. o ≡ after_all (Ticks ∷ (ds ++ f.became.deeds)) n) (sym none) (f.noted ∙ ap (λ x. after_all f.became.deeds x) ticks);
+pub did-act : (says : Ticked) (x y z : NodeView) (n m o : NotesView) → says.act ≡ desk_act (state_of x).desk (state_of y).desk → says.full ≡ is_none (state_of y).desk.lent
+    → site_in y ≡ site_in x → state_of y ≡ ticked (site_in x) (state_of x) → m ≡ after_note (as_entry Ticks) n → Did IsLeave y z m o → DidAct says x z n o
+did-act says x y z n m o act full site state ticks f = record {
+  acts = record { acted = y; act = act; full = full; site = site; state = state; leaves = f.became };
+  noted = f.noted ∙ ap (λ w. after_all f.became.deeds w) ticks;
 }
 
 module _ {P : Type 0} (R : List Frame → NodePort P → NodePort P → Type 0) where
