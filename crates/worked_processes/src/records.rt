@@ -53,7 +53,7 @@ impl Seen {
 }
 
 /// What a record has.
-fn seen(bytes: &[u8]) -> Seen {
+fn contents(bytes: &[u8]) -> Seen {
     let mut reader = EntryReader::new();
     let mut rest = bytes;
     let mut seen = Seen::default();
@@ -114,7 +114,7 @@ fn is_of_root(place: u32, entry: &Entry) -> bool {
 /// Whether bytes are a whole record of node 0 alone: its state once, at the beginning, and then its
 /// ticks, with nobody to talk to.
 fn is_of_one(bytes: &[u8]) -> bool {
-    let seen = seen(bytes);
+    let seen = contents(bytes);
     seen.is_whole
         && begins_with_state(bytes)
         && !seen.is_headless
@@ -127,7 +127,7 @@ fn is_of_one(bytes: &[u8]) -> bool {
 
 /// Whether bytes are a whole record of a node that talked to one neighbour.
 fn is_of_two(bytes: &[u8]) -> bool {
-    let seen = seen(bytes);
+    let seen = contents(bytes);
     seen.is_whole
         && !seen.is_headless
         && seen.states == 1
@@ -280,7 +280,7 @@ fn follow_no_link(rt: &HostRuntime, dir: &str) -> Result<(), Fail> {
     run_unrecorded(rt, dir)?;
     let now = fs::read(rt, target.as_str())?;
     hold(
-        now.as_slice() == b"stays",
+        now.as_slice() == b"stays".as_slice(),
         "the file to which the links lead has changed",
     )
 }

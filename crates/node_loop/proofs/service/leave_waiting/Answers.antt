@@ -2,9 +2,12 @@ use Rattle.std.proofs.Common.{◌≡◌, ◌<◌, ◌-◌, ◌∙◌, true, fals
 use Rattle.lock_desk.specs.Desk.{after_leave, is_in, is_ticket}
 use Rattle.node_loop.specs.Clients.{is_connected}
 use Rattle.node_loop.specs.Deeds.{IsLeave, Leaves}
-use Rattle.node_loop.proofs.Noting.{did-one, did-joins}
+use Rattle.node_loop.proofs.Noting.{did-none, did-one, did-joins}
 use Rattle.node_loop.proofs.Leaving.{at-place, fewer-from, looked-stay, lent-stays}
 use Rattle.node_loop.proofs.service.leave_waiting.Goals as goal
+
+pub loop-place-init : goal.loop-place-init
+loop-place-init g c = (did-none IsLeave c.args.node.now c.args.notes.now, c.requires, λ u looked. cc)
 
 pub loop-place-smaller : goal.loop-place-smaller
 loop-place-smaller g c =
