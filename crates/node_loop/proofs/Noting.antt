@@ -1,13 +1,13 @@
 -- What is noted of deeds one after the other.
 use Rattle.std.specs.Prelude.{is_none}
-use Rattle.std.proofs.Common.{◌≡◌, ℕ, Bool, true, false, List, Option, [], ◌∷◌, ◌++◌, ◌+◌, ◌∙◌, ap, refl, sym, subst, append_assoc}
+use Rattle.std.proofs.Common.{◌≡◌, ℕ, Bool, List, Option, [], ◌∷◌, ◌++◌, ◌+◌, ◌∙◌, ap, refl, sym, subst, append_assoc}
 use Rattle.topology.specs.declared.frame.Frame.{Frame}
 use Rattle.socket_links.specs.Counts.{Counts}
 use Rattle.lock_desk.specs.Act.{desk_act}
 use Rattle.node_core.specs.Step.{ticked}
 use Rattle.node_core.specs.View.{NodeView, site_in, state_of}
 use Rattle.node_core.specs.declared.ticked.Ticked.{Ticked}
-use Rattle.node_loop.specs.Deeds.{Deed, Acts, Became, IsLeave, IsOfClient, IsTake, Leads, Ticks}
+use Rattle.node_loop.specs.Deeds.{Deed, IsLeave, IsOfClient, Leads, Ticks}
 use Rattle.node_loop.specs.declared.port.NodePort.{NodePort}
 use Rattle.node_loop.specs.NotesView.{NotesView}
 use Rattle.node_loop.specs.Noting.{after_all, after_note, as_entry, Did, DidAct, DidTake}
