@@ -13,7 +13,7 @@ use Rattle.node_process.specs.Children.{rights_options, log_options, record_opti
 use Rattle.node_log.specs.declared.event.Level.TheVariants.{Notice}
 use Rattle.node_process.specs.Rights.{folder_mode, own_mode, clients_mode}
 use Rattle.node_process.specs.Ends.{end_fault, ends_by}
-use Rattle.flight_recorder.specs.declared.recorder.Side.TheVariants.{First, Second}
+use Rattle.node_recorder.specs.flight_recorder.declared.recorder.Side.TheVariants.{First, Second}
 use Rattle.node_process.specs.Tapes.{file_bytes, side_to_begin}
 use Rattle.node_process.specs.Places.{same_id, is_in_place}
 use Rattle.topology.specs.Network.{Network}

@@ -1,7 +1,7 @@
 -- The files of a node's record.
 use Rattle.std.specs.Prelude.{ℕ, nat_lt, if◌then◌else◌, max, Option, None, Some}
-use Rattle.flight_recorder.specs.declared.recorder.Side.{Side}
-use Rattle.flight_recorder.specs.declared.recorder.Side.TheVariants.{First, Second}
+use Rattle.node_recorder.specs.flight_recorder.declared.recorder.Side.{Side}
+use Rattle.node_recorder.specs.flight_recorder.declared.recorder.Side.TheVariants.{First, Second}
 use Rattle.node_process.specs.declared.tape.RecordSize.{RecordSize}
 
 -- the most bytes of a file; it has room for two pages

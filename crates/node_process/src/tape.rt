@@ -1,8 +1,8 @@
 //! A node's record, in two files of its folder.
 ghost use Rattle.std.specs.Prelude.{◌≡◌, ◌≤◌, ◌⊎◌, IfOk, true, string_bytes};
-ghost use Rattle.flight_recorder.specs.Recorder.{after_failure, after_write, at_start};
-ghost use Rattle.flight_recorder.specs.Names.{record_name};
-ghost use Rattle.flight_recorder.specs.declared.recorder.Side.TheVariants.{First, Second};
+ghost use Rattle.node_recorder.specs.flight_recorder.Recorder.{after_failure, after_write, at_start};
+ghost use Rattle.node_recorder.specs.flight_recorder.Names.{record_name};
+ghost use Rattle.node_recorder.specs.flight_recorder.declared.recorder.Side.TheVariants.{First, Second};
 ghost use Rattle.node_process.specs.Tapes.{file_bytes, of_side, side_to_begin};
 
 use crate::fault::NodeFault;
