@@ -149,6 +149,7 @@ loose=yes
 try threads "1" nothing threads "$folder/two.toml" 20 --events "$folder/wrote"
 most=$((most < 60 ? most : 60))
 try node "1" node_starts node "$folder/two.toml" 0 "$folder/alone"
+try recorded "1" node_starts node --record "$folder/two.toml" 0 "$folder/alone"
 most=$((most < 30 ? most : 30))
 
 mkfifo "$folder/input"
@@ -219,6 +220,21 @@ if mount -t tmpfs -o size=64k none "$folder/disk" 2>/dev/null; then
     status=$?
     : >"$folder/err"
     refused "a full disk, node, which then has room" "" 0
+    head -c 1000000 /dev/zero >"$folder/disk/full" 2>/dev/null
+    "$program" node --record "$folder/two.toml" 0 "$folder/disk/nodes" >"$folder/out" 2>"$folder/err" 9>&- &
+    node=$!
+    for _ in $(seq 100); do
+        [ ! -s "$folder/err" ] || break
+        sleep 0.1
+    done
+    says_one_line && grep -q 'record-0.[01]: the record ends, and the node runs on: ' "$folder/err" ||
+        wrong "a full disk, record: $(head -c 200 "$folder/err")"
+    kill -0 "$node" 2>/dev/null || wrong "a full disk ends a node that keeps a record"
+    rm "$folder/disk/full"
+    : >"$folder/disk/nodes/stop-0"
+    wait "$node"
+    status=$?
+    refused "a full disk, record" "" 0
 else
     echo "no small disk can be mounted here: a full disk was not tried"
 fi

@@ -4,7 +4,12 @@
 # a second there are if a client at each node asks for the lock all the time, and a node's memory and descriptors. For
 # comparison, also what a command costs under the lock and under flock(1), and a loop that locks one file. Needs python3
 # and flock; takes half a minute for each ring. The program is ./tokentree, or what TOKENTREE names.
+#
+# bench/lock.sh --record [NODES..] compares nodes that keep a record with nodes that keep none instead: two rings run at
+# the same time, and their clients ask in turn. Takes two minutes for each size.
 set -euo pipefail
+compare=
+[ "${1:-}" != --record ] || { compare=record; shift; }
 [ $# -gt 0 ] || set -- 3 8
 cd "$(dirname "$0")/.."
 program=$(realpath "${TOKENTREE:-./tokentree}")
@@ -12,10 +17,11 @@ program=$(realpath "${TOKENTREE:-./tokentree}")
 [ -n "${TOKENTREE:-}" ] || program=$PWD/crates/tokentree/out/tokentree
 folder=$(mktemp -d)
 trap 'rm -rf "$folder"' EXIT
-python3 - "$program" "$folder" "$@" <<'PYTHON'
+python3 - "$program" "$folder" "$compare" "$@" <<'PYTHON'
 import fcntl, multiprocessing, os, socket, subprocess, sys, time
 
-program, folder, sizes = sys.argv[1], sys.argv[2], [int(n) for n in sys.argv[3:]]
+program, folder, compare = sys.argv[1:4]
+sizes = [int(n) for n in sys.argv[4:]]
 TICKS = os.sysconf("SC_CLK_TCK")
 
 
@@ -72,23 +78,29 @@ def grants(run, node, seconds, out):
     out.put(count)
 
 
+def middle_and_most(waits):
+    """The median of waits and their 99th percentile."""
+    waits = sorted(waits)
+    return waits[len(waits) // 2], waits[len(waits) * 99 // 100]
+
+
 def spread(run, node, times):
     """The median of all waits and their 99th percentile, in milliseconds."""
     client, waits = Client(run, node), []
     for _ in range(times):
         time.sleep(0.005)
         waits.append(client.cycle() * 1000)
-    waits.sort()
-    return waits[times // 2], waits[times * 99 // 100]
+    return middle_and_most(waits)
 
 
-def ring(nodes):
-    network, run = f"{folder}/ring-{nodes}.toml", f"{folder}/run-{nodes}"
+def start(nodes, name, *words):
+    """Starts a ring of nodes, and waits until the farthest has its distance. Returns its folder and its processes."""
+    network, run = f"{folder}/ring-{nodes}.toml", f"{folder}/{name}-{nodes}"
     edges = [[i, (i + 1) % nodes] for i in range(nodes)]
     with open(network, "w") as file:
         file.write(f"nodes = {nodes}\nroot = 0\ncapacity = 64\nlease = 0\nedges = {edges}\n")
     running = [
-        subprocess.Popen([program, "node", network, str(i), run], stdout=subprocess.PIPE) for i in range(nodes)
+        subprocess.Popen([program, "node", *words, network, str(i), run], stdout=subprocess.PIPE) for i in range(nodes)
     ]
     for process in running:
         assert process.stdout.readline().startswith(b"start") and process.stdout.readline() == b"ready\n"
@@ -96,12 +108,18 @@ def ring(nodes):
     while b"distance %d " % far not in Client(run, far).ask(b"status"):
         time.sleep(0.01)
     time.sleep(1)
+    return run, running
+
+
+def idle_load(running):
+    """The percentage of a processor that a node uses while no client is there."""
     before = [used(process) for process in running]
     time.sleep(5)
-    idle = sum(used(process) - b for process, b in zip(running, before)) / 5 / nodes * 100
-    near_half, near_most = spread(run, 0, 500)
-    far_half, far_most = spread(run, far, 500)
-    start = memory(running[0]), descriptors(running[0])
+    return sum(used(process) - b for process, b in zip(running, before)) / 5 / len(running) * 100
+
+
+def all_grants(run, nodes):
+    """The grants a second if a client at each node asks all the time."""
     out = multiprocessing.Queue()
     clients = [multiprocessing.Process(target=grants, args=(run, i, 5, out)) for i in range(nodes)]
     for client in clients:
@@ -109,16 +127,65 @@ def ring(nodes):
     rate = sum(out.get() for _ in clients) / 5
     for client in clients:
         client.join()
-    end = memory(running[0]), descriptors(running[0])
-    for i in range(nodes):
+    return rate
+
+
+def stop(run, running):
+    """Stops a ring. Returns the statuses of its processes."""
+    for i in range(len(running)):
         open(f"{run}/stop-{i}", "w").close()
-    statuses = [process.wait(timeout=10) for process in running]
+    return [process.wait(timeout=10) for process in running]
+
+
+def ring(nodes):
+    run, running = start(nodes, "run")
+    idle = idle_load(running)
+    near_half, near_most = spread(run, 0, 500)
+    far_half, far_most = spread(run, nodes // 2, 500)
+    first = memory(running[0]), descriptors(running[0])
+    rate = all_grants(run, nodes)
+    end = memory(running[0]), descriptors(running[0])
+    statuses = stop(run, running)
     print(
         f"ring of {nodes:2}  idle {idle:5.1f} %  lock at the root {near_half:.2f} and {near_most:.2f} ms"
         f"  far from it {far_half:.2f} and {far_most:.2f} ms  all {rate:6.0f} grants a second"
-        f"  memory {start[0]} to {end[0]} kB  descriptors {start[1]} to {end[1]}  statuses {statuses}",
+        f"  memory {first[0]} to {end[0]} kB  descriptors {first[1]} to {end[1]}  statuses {statuses}",
         flush=True,
     )
+
+
+def in_turn(runs, node, times):
+    """The waits in each of these folders, in milliseconds, by clients that ask in turn."""
+    clients, waits = [Client(run, node) for run in runs], [[] for _ in runs]
+    for _ in range(times):
+        for client, own in zip(clients, waits):
+            time.sleep(0.005)
+            own.append(client.cycle() * 1000)
+    return waits
+
+
+def recorded(run, nodes):
+    """The bytes of the records of a ring."""
+    names = [f"{run}/record-{i}.{side}" for i in range(nodes) for side in (0, 1)]
+    return sum(os.path.getsize(name) for name in names if os.path.exists(name))
+
+
+def side_by_side(nodes):
+    """Compares a ring of nodes that keep no record with a ring of nodes that keep one."""
+    rings = [start(nodes, "plain"), start(nodes, "recorded", "--record")]
+    runs = [run for run, _ in rings]
+    waits = [in_turn(runs, node, 2000) for node in (0, nodes // 2)]
+    for name, (run, running), near, far in zip(["no record", "records"], rings, *waits):
+        (near_half, near_most), (far_half, far_most) = middle_and_most(near), middle_and_most(far)
+        idle, rate = idle_load(running), all_grants(run, nodes)
+        size, has = memory(running[0]), recorded(run, nodes)
+        statuses = stop(run, running)
+        print(
+            f"ring of {nodes:2}  {name:9}  idle {idle:5.1f} %  lock at the root {near_half:.2f} and {near_most:.2f} ms"
+            f"  far from it {far_half:.2f} and {far_most:.2f} ms  all {rate:6.0f} grants a second"
+            f"  memory {size} kB  records {has} bytes  statuses {statuses}",
+            flush=True,
+        )
 
 
 def locked_file(seconds):
@@ -158,6 +225,10 @@ def commands(times):
     print(f"true under lock {by_lock:.2f} ms, under flock {by_flock:.2f} ms, alone {alone:.2f} ms", flush=True)
 
 
+if compare:
+    for nodes in sizes:
+        side_by_side(nodes)
+    sys.exit()
 for nodes in sizes:
     ring(nodes)
 commands(1000)

@@ -41,8 +41,8 @@ _tokentree() {
     scramble) flags='--help' valued='' places='FILE ID PATH SEED' ;;
     cut) flags='--help' valued='' places='PATH LENGTH' ;;
     junk) flags='--help' valued='' places='SEED LINES' ;;
-    node) flags='--hold --repeat --turn --group-locks --log --child --help' valued='--hold --repeat --turn --log' places='FILE ID DIR' ;;
-    up) flags='--hold --repeat --turn --group-locks --log --help' valued='--hold --repeat --turn --log' places='FILE DIR' ;;
+    node) flags='--hold --repeat --turn --group-locks --log --record --record-size --child --help' valued='--hold --repeat --turn --log --record-size' places='FILE ID DIR' ;;
+    up) flags='--hold --repeat --turn --group-locks --log --record --record-size --help' valued='--hold --repeat --turn --log --record-size' places='FILE DIR' ;;
     stop) flags='--timeout --help' valued='--timeout' places='DIR ID' ;;
     network) flags='--root --capacity --lease --edges --seed --help' valued='--root --capacity --lease --edges --seed' places='KIND N M' ;;
     schedule) flags='--scramble --rounds --random --seed --loss --clients --give-back --help' valued='--scramble --rounds --random --seed --loss --give-back' places='FILE' ;;

@@ -1,7 +1,7 @@
 //! The words of `node`.
 use crate::node_words::{
-    FOLDER, GROUP_HELP, HOLD_HELP, LOG_HELP, REPEAT_HELP, TURN_HELP, ended, late_after, log_level,
-    manner, rights,
+    FOLDER, GROUP_HELP, HOLD_HELP, LOG_HELP, RECORD_HELP, RECORD_SIZE_HELP, REPEAT_HELP, TURN_HELP,
+    ended, late_after, log_level, manner, record_size, rights,
 };
 use crate::program::{NETWORK_FILE, Runtime, TOKENTREE};
 use crate::refusal::Refusal;
@@ -25,9 +25,11 @@ const NODE: Grammar<'static> = Grammar {
         Parameter::Value("turn", "MILLISECONDS", TURN_HELP),
         Parameter::Flag("group-locks", GROUP_HELP),
         Parameter::Value("log", "LEVEL", LOG_HELP),
+        Parameter::Flag("record", RECORD_HELP),
+        Parameter::Value("record-size", "BYTES", RECORD_SIZE_HELP),
         Parameter::Flag("child", "For `up`: name the node, and end with its input"),
     ],
-    needs: &[],
+    needs: &[("record-size", "record")],
     excludes: &[],
     choice: None,
 };
@@ -89,6 +91,14 @@ well again; level 6 adds who is granted the lock and who releases it. It says at
 most 20 lines a second, and how many it left out. If JOURNAL_STREAM is set, a
 line begins with its priority, as <4>.
 
+With --record the node keeps a record of what it does, in DIR/record-ID.0 and
+DIR/record-ID.1. Each has at most --record-size bytes (65536 to 1073741824). The
+node writes them in turn, so the last one to two of that size are there. A file
+begins with the node's whole state, and goes on with what the node takes, sends
+and ticks, which clients ask and leave, and which links come and go, each with
+its instant. If a file cannot be written, the record ends with a line on
+standard error, and the node runs on.
+
 Statuses: 0 ended by the stop file; 1 it cannot run, and a line on standard
 error says why; 2 invalid arguments.";
 
@@ -111,6 +121,7 @@ pub fn run<R: Runtime>(rt: &R, given: &ArgMatches) -> Result<ExitCode, Refusal> 
         version: TOKENTREE.version,
         rights: rights(given),
         log: log_level(given)?,
+        record_size: record_size(given)?,
         is_child: given.get_flag("child"),
     };
     let done = node::run(rt, &words);

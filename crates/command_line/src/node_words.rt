@@ -10,7 +10,7 @@ use clap::ArgMatches;
 use command_grammar::{Number, WordFault, number_if_given};
 use fault_hints::{explain_network, explain_swap};
 use node_log::Level;
-use node_process::{NodeFault, Refusal, Rights, USUAL_LIMIT};
+use node_process::{NodeFault, RecordSize, Refusal, Rights, USUAL_LIMIT, USUAL_SIZE};
 use pace::Manner;
 use recovery_times::{TimeFault, micros_of};
 use std::process::ExitCode;
@@ -67,6 +67,36 @@ pub fn log_level(given: &ArgMatches) -> Result<Option<Level>, WordFault<'static>
         Some(priority) => Ok(Level::of_priority(priority)),
         None => Ok(None),
     }
+}
+
+/// The help of `--record`.
+pub const RECORD_HELP: &str = "Keep a record of what the node does";
+
+/// The size of each of the two files of a record, in bytes.
+pub const RECORD_SIZE: Number<'static> = Number {
+    id: "record-size",
+    name: "--record-size",
+    least: 65_536,
+    most: 1_073_741_824,
+};
+
+/// Its help.
+pub const RECORD_SIZE_HELP: &str = "Bytes in each of its files [default: 8388608]";
+
+/// The size of the files of a node's record, by the words of `node` or `up`; none if they ask for no
+/// record.
+///
+/// # Errors
+/// If a word spells no number from 65536 to 1073741824.
+pub fn record_size(given: &ArgMatches) -> Result<Option<RecordSize>, WordFault<'static>>
+    ensures left_out { one_text (found_of given.now) (codes "record") ≡ None
+        → IfOk result (λ size. size ≡ None) }
+{
+    let size = match number_if_given(given, RECORD_SIZE)? {
+        Some(bytes) => RecordSize { bytes },
+        None => USUAL_SIZE,
+    };
+    Ok(given.get_flag("record").then_some(size))
 }
 
 /// The help of `--group-locks`.

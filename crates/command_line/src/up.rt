@@ -1,7 +1,7 @@
 //! The words of `up`.
 use crate::node_words::{
-    FOLDER, GROUP_HELP, HOLD_HELP, LOG_HELP, REPEAT_HELP, TURN_HELP, ended, late_after, log_level,
-    manner, rights,
+    FOLDER, GROUP_HELP, HOLD_HELP, LOG_HELP, RECORD_HELP, RECORD_SIZE_HELP, REPEAT_HELP, TURN_HELP,
+    ended, late_after, log_level, manner, record_size, rights,
 };
 use crate::program::{NETWORK_FILE, Runtime};
 use crate::refusal::Refusal;
@@ -24,8 +24,10 @@ const UP: Grammar<'static> = Grammar {
         Parameter::Value("turn", "MILLISECONDS", TURN_HELP),
         Parameter::Flag("group-locks", GROUP_HELP),
         Parameter::Value("log", "LEVEL", LOG_HELP),
+        Parameter::Flag("record", RECORD_HELP),
+        Parameter::Value("record-size", "BYTES", RECORD_SIZE_HELP),
     ],
-    needs: &[],
+    needs: &[("record-size", "record")],
     excludes: &[],
     choice: None,
 };
@@ -47,8 +49,8 @@ Each node of the network of FILE runs as its own process, with its files in DIR
   ...
 
 A node that ends, for whatever reason, is started again within a second, and a
-line says so. Each node gets --hold, --repeat, --turn, --group-locks and --log
-(see `help node`).
+line says so. Each node gets --hold, --repeat, --turn, --group-locks, --log,
+--record and --record-size (see `help node`).
 
 SIGINT (Ctrl-C), SIGTERM or SIGHUP ends it. So does the end of its standard
 input, if that is a terminal (Ctrl-D) or a pipe; with a file or /dev/null it
@@ -71,8 +73,8 @@ pub fn run<R: Runtime>(rt: &R, given: &ArgMatches) -> Result<ExitCode, Refusal> 
     let file = word(given, "FILE")?;
     let dir = word(given, "DIR")?;
     let (manner, turn) = (manner(given)?, late_after(given)?);
-    let log = log_level(given)?;
-    let done = match OwnProgram::new(rt, file, dir, manner, turn, rights(given), log) {
+    let (log, size) = (log_level(given)?, record_size(given)?);
+    let done = match OwnProgram::new(rt, file, dir, manner, turn, rights(given), log, size) {
         Ok(program) => up::run(rt, &program, file, dir),
         Err(fault) => Err(fault),
     };

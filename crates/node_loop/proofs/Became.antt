@@ -74,7 +74,7 @@ pub leave-kinds : (ds : List Deed) → All IsLeave ds → All IsOfClient ds
 leave-kinds [] k = All-nil IsOfClient
 leave-kinds (d ∷ ds) k = grind (arith, leave-kinds ds, leave-kind d)
 
-pub leaves-are-clients : (x y : NodeView) → Became IsLeave x y → Became IsOfClient x y
+abbrev pub leaves-are-clients : (x y : NodeView) → Became IsLeave x y → Became IsOfClient x y
 leaves-are-clients x y f = record { site = f.site; deeds = f.deeds; kinds = leave-kinds f.deeds f.kinds; leads = f.leads }
 
 -- after a tick some more tickets left

@@ -160,23 +160,23 @@ module _ {P : Type 0} where
 
   -- takes at one port
   module _ (R : List Frame → NodePort P → NodePort P → Type 0) where
-    pub takes-none : ((p : NodePort P) → R [] p p) → (i : ℕ) (x : NodeView) (ports : List (NodePort P)) → TakesAt R i x x ports ports
+    abbrev pub takes-none : ((p : NodePort P) → R [] p p) → (i : ℕ) (x : NodeView) (ports : List (NodePort P)) → TakesAt R i x x ports ports
     takes-none self i x ports = record {
       takes = stays IsTake x;
       at_port = both-same (R []) self (slice_get ports i);
       others = λ w n. (refl, refl);
     }
 
-    pub takes-nothing : (i : ℕ) (x : NodeView) (a b : List (NodePort P)) → AtBoth (R []) (slice_get a i) (slice_get b i) → ((w : ℕ) → w ≢ i → slice_get b w ≡ slice_get a w) → TakesAt R i x x a b
+    abbrev pub takes-nothing : (i : ℕ) (x : NodeView) (a b : List (NodePort P)) → AtBoth (R []) (slice_get a i) (slice_get b i) → ((w : ℕ) → w ≢ i → slice_get b w ≡ slice_get a w) → TakesAt R i x x a b
     takes-nothing i x a b there others = record { takes = stays IsTake x; at_port = there; others = λ w n. (refl, others w n) }
 
-    taken-here : (i : ℕ) (f : Frame) → taken_from i (Takes i f ∷ []) ≡ f ∷ []
+    pub taken-here : (i : ℕ) (f : Frame) → taken_from i (Takes i f ∷ []) ≡ f ∷ []
     taken-here i f = grind (arith, common_steps)
 
-    taken-there : (i w : ℕ) (f : Frame) → w ≢ i → taken_from w (Takes i f ∷ []) ≡ []
+    pub taken-there : (i w : ℕ) (f : Frame) → w ≢ i → taken_from w (Takes i f ∷ []) ≡ []
     taken-there i w f n = grind (arith, common_steps)
 
-    pub takes-one : (i : ℕ) (f : Frame) (x y : NodeView) (a b : List (NodePort P)) → Contains (site_in x).neighbours i → site_in y ≡ site_in x
+    abbrev pub takes-one : (i : ℕ) (f : Frame) (x y : NodeView) (a b : List (NodePort P)) → Contains (site_in x).neighbours i → site_in y ≡ site_in x
         → state_of y ≡ taken (site_in x) i (item.Frame f) (state_of x) → AtBoth (R (f ∷ [])) (slice_get a i) (slice_get b i)
         → ((w : ℕ) → w ≢ i → slice_get b w ≡ slice_get a w) → TakesAt R i x y a b
     takes-one i f x y a b has site state there others = record {
@@ -185,7 +185,7 @@ module _ {P : Type 0} where
       others = λ w n. (taken-there i w f n, others w n);
     }
 
-    pub takes-join : (S T : List Frame → NodePort P → NodePort P → Type 0)
+    abbrev pub takes-join : (S T : List Frame → NodePort P → NodePort P → Type 0)
         → ((xs ys : List Frame) (p q s : NodePort P) → R xs p q → S ys q s → T (xs ++ ys) p s)
         → (i : ℕ) (x y z : NodeView) (a b c : List (NodePort P)) → TakesAt R i x y a b → TakesAt S i y z b c → TakesAt T i x z a c
     takes-join S T join i x y z a b c f g = record {
@@ -197,7 +197,7 @@ module _ {P : Type 0} where
           (taken-join w f.takes.deeds g.takes.deeds ∙ (ap (λ zs. zs ++ taken_from w g.takes.deeds) (f.others w n).0 ∙ (g.others w n).0), (g.others w n).1 ∙ (f.others w n).1);
     }
 
-  pub takes-end : (r : Ranges) (gave took : P → Option (List ℕ)) (counts : P → Counts) (i : ℕ) (x y : NodeView) (a b : List (NodePort P))
+  abbrev pub takes-end : (r : Ranges) (gave took : P → Option (List ℕ)) (counts : P → Counts) (i : ℕ) (x y : NodeView) (a b : List (NodePort P))
       → TakesAt (Comes r gave took) i x y a b → TakesAt (Pulls r gave took counts) i x y a b
   takes-end r gave took counts i x y a b f = record {
     takes = f.takes;
@@ -213,10 +213,10 @@ module _ {P : Type 0} where
     pub above : (w : ℕ) → i ≤ w → (taken_from w takes.deeds ≡ []) × (slice_get b w ≡ slice_get a w)
 
   module _ (R : List Frame → NodePort P → NodePort P → Type 0) where
-    pub heard-start : (x : NodeView) (a : List (NodePort P)) → HeardBelow R x x a a 0
+    abbrev pub heard-start : (x : NodeView) (a : List (NodePort P)) → HeardBelow R x x a a 0
     heard-start x a = record { takes = stays IsTake x; below = λ w below. elim (none-below w below) [ ]; above = λ w from. (refl, refl) }
 
-    pub heard-next : (x y z : NodeView) (a b c : List (NodePort P)) (i : ℕ) → HeardBelow R x y a b i → TakesAt R i y z b c → HeardBelow R x z a c (i + 1)
+    abbrev pub heard-next : (x y z : NodeView) (a b c : List (NodePort P)) (i : ℕ) → HeardBelow R x y a b i → TakesAt R i y z b c → HeardBelow R x z a c (i + 1)
     heard-next x y z a b c i f g = record {
       takes = joins IsTake x y z f.takes g.takes;
       below = λ w below.
@@ -232,7 +232,7 @@ module _ {P : Type 0} where
           (taken-join w f.takes.deeds g.takes.deeds ∙ (ap (λ zs. zs ++ taken_from w g.takes.deeds) before.0 ∙ (g.others w other).0), (g.others w other).1 ∙ before.1);
     }
 
-  pub heard-all : (gave took : P → Option (List ℕ)) (counts : P → Counts) (x y : NodeView) (a b : List (NodePort P)) (i : ℕ)
+  abbrev pub heard-all : (gave took : P → Option (List ℕ)) (counts : P → Counts) (x y : NodeView) (a b : List (NodePort P)) (i : ℕ)
       → HeardBelow (Pulls (site_in x).ranges gave took counts) x y a b i → Hears gave took counts x y a b
   heard-all gave took counts x y a b i f = record {
     takes = f.takes;

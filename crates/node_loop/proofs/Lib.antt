@@ -4,6 +4,7 @@ pub mod Sights
 pub mod Pushing
 pub mod Speaking
 pub mod Hearing
+pub mod Noting
 pub mod Remembering
 pub mod Turning
 pub mod Loose
@@ -14,6 +15,7 @@ pub mod Rooms
 pub mod Arrivals
 mod Rows
 mod RowsTurns
+mod RowsNoting
 mod RowsRemembering
 mod RowsLives
 mod RowsPorts

@@ -1,5 +1,5 @@
 -- What a pace remembers while a node listens and ticks.
-use Rattle.std.proofs.Common.{◌≡◌, ◌≢◌, ◌⊎◌, ℕ, Bool, None, refl, inl, inr, sym, subst, ap, ◌∙◌}
+use Rattle.std.proofs.Common.{◌≡◌, ◌≢◌, ℕ, Bool, refl, inl, inr, sym, subst, ap, ◌∙◌}
 use Rattle.topology.specs.declared.frame.Frame.{Frame}
 use Rattle.pace.specs.Plans.{called_port, port_of}
 use Rattle.pace.specs.Ports.{fresh_port, heard_port}

@@ -1,5 +1,5 @@
 -- Speaking to the neighbours, one after the other.
-use Rattle.std.proofs.Common.{◌≡◌, ◌≢◌, ◌⊎◌, ◌<◌, ◌≤◌, ◌+◌, ℕ, Bool, true, false, List, [], ◌∷◌, ◌++◌, All, Option, Contains, slice_get, slice_index_or, refl, inl, inr, sym, ap, arith, ◌∙◌, subst, append-nil}
+use Rattle.std.proofs.Common.{◌≡◌, ◌≢◌, ◌⊎◌, ◌<◌, ◌≤◌, ◌+◌, ℕ, Bool, true, false, List, [], ◌++◌, All, Option, Contains, slice_get, slice_index_or, refl, inl, inr, sym, ap, arith, ◌∙◌, subst, append-nil}
 use Rattle.std.proofs.lemmas.Grind.{common_steps}
 use Rattle.std.proofs.lemmas.List.Elements.{All-append, All-cons, All-nil}
 use Rattle.topology.specs.declared.frame.Frame.{Frame}
@@ -11,6 +11,7 @@ use Rattle.node_core.specs.Site.{Site}
 use Rattle.node_core.specs.State.{LocalState}
 use Rattle.node_loop.specs.Deeds.{Deed, IsSend, Leads, Sends, sent_to}
 use Rattle.node_loop.specs.Moments.{AtBoth, Moment}
+use Rattle.node_loop.specs.Noting.{sends_if}
 use Rattle.node_loop.specs.Speaking.{Speaks, SpeaksTo, sent_if}
 use Rattle.node_loop.proofs.Became.{leads-join, sent-join}
 
@@ -40,24 +41,19 @@ TellsAt gave took counts offers now old new sent w =
     AtBoth (SpeaksTo gave took counts (frame_of ((state_of old.node).port w)) (slice_index_or offers w false) now (port_of old.pace.ports w) (port_of new.pace.ports w) sent)
     (slice_get old.ports w) (slice_get new.ports w)
 
--- one frame that was accepted, or none
-abbrev pub sends_if : Bool → ℕ → Frame → List Deed
-sends_if true w frame = Sends w frame ∷ []
-sends_if false w frame = []
-
-sends-kinds : (is_taken : Bool) (w : ℕ) (frame : Frame) → All IsSend (sends_if is_taken w frame)
+pub sends-kinds : (is_taken : Bool) (w : ℕ) (frame : Frame) → All IsSend (sends_if is_taken w frame)
 sends-kinds true w frame = All-cons IsSend (Sends w frame) [] tt (All-nil IsSend)
 sends-kinds false w frame = All-nil IsSend
 
-sends-lead : (is_taken : Bool) (site : Site) (s : LocalState) (w : ℕ) → (is_taken ≡ true → Contains site.neighbours w) → Leads site (sends_if is_taken w (frame_of (s.port w))) s s
+pub sends-lead : (is_taken : Bool) (site : Site) (s : LocalState) (w : ℕ) → (is_taken ≡ true → Contains site.neighbours w) → Leads site (sends_if is_taken w (frame_of (s.port w))) s s
 sends-lead true site s w has = (has refl, refl, refl)
 sends-lead false site s w has = refl
 
-sent-same : (is_taken : Bool) (w : ℕ) (frame : Frame) → sent_to w (sends_if is_taken w frame) ≡ sent_if is_taken frame
+pub sent-same : (is_taken : Bool) (w : ℕ) (frame : Frame) → sent_to w (sends_if is_taken w frame) ≡ sent_if is_taken frame
 sent-same true w frame = grind (arith, common_steps)
 sent-same false w frame = refl
 
-sent-other : (is_taken : Bool) (i w : ℕ) (frame : Frame) → w ≢ i → sent_to w (sends_if is_taken i frame) ≡ []
+pub sent-other : (is_taken : Bool) (i w : ℕ) (frame : Frame) → w ≢ i → sent_to w (sends_if is_taken i frame) ≡ []
 sent-other true i w frame n = grind (arith, common_steps)
 sent-other false i w frame n = refl
 
@@ -76,7 +72,7 @@ pub record SpokenTo {P : Type 0} (gave took : P → Option (List ℕ)) (counts :
   pub rest : (new.pace.node ≡ old.pace.node) × (new.pace.manner ≡ old.pace.manner)
 
 module _ {P : Type 0} (gave took : P → Option (List ℕ)) (counts : P → Counts) (offers : List Bool) (now : ℕ) where
-  pub spoken-start : (m : Moment P) → SpokenTo gave took counts offers now m m 0
+  abbrev pub spoken-start : (m : Moment P) → SpokenTo gave took counts offers now m m 0
   spoken-start m = record {
     node = refl;
     let_go = refl;
@@ -91,14 +87,14 @@ module _ {P : Type 0} (gave took : P → Option (List ℕ)) (counts : P → Coun
   }
 
   -- the same is said if the port and what is kept of it stand as before the call, and as after it
-  reported-moves : (old mid new : Moment P) (sent : List Frame) (w : ℕ) → StaysAt mid new w → TellsAt gave took counts offers now old mid sent w → TellsAt gave took counts offers now old new sent w
+  pub reported-moves : (old mid new : Moment P) (sent : List Frame) (w : ℕ) → StaysAt mid new w → TellsAt gave took counts offers now old mid sent w → TellsAt gave took counts offers now old new sent w
   reported-moves old mid new sent w stays reported = rw (stays.0, stays.1) reported
 
-  reported-from : (old mid new : Moment P) (sent : List Frame) (w : ℕ) → mid.node ≡ old.node → StaysAt old mid w → TellsAt gave took counts offers now mid new sent w
+  pub reported-from : (old mid new : Moment P) (sent : List Frame) (w : ℕ) → mid.node ≡ old.node → StaysAt old mid w → TellsAt gave took counts offers now mid new sent w
       → TellsAt gave took counts offers now old new sent w
   reported-from old mid new sent w node stays reported = rw (node, stays.0, stays.1) at reported
 
-  pub spoken-next : (old mid new : Moment P) (i : ℕ) (is_taken : Bool) → SpokenTo gave took counts offers now old mid i → new.node ≡ mid.node → new.let_go ≡ mid.let_go
+  abbrev pub spoken-next : (old mid new : Moment P) (i : ℕ) (is_taken : Bool) → SpokenTo gave took counts offers now old mid i → new.node ≡ mid.node → new.let_go ≡ mid.let_go
       → (Contains (site_in mid.node).neighbours i → TellsAt gave took counts offers now mid new (sent_if is_taken (frame_of ((state_of mid.node).port i))) i)
       → ((¬ Contains (site_in mid.node).neighbours i) → StaysAt mid new i) → (is_taken ≡ true → Contains (site_in mid.node).neighbours i)
       → ((w : ℕ) → w ≢ i → StaysAt mid new w) → (new.pace.node ≡ mid.pace.node) × (new.pace.manner ≡ mid.pace.manner)
@@ -140,17 +136,17 @@ module _ {P : Type 0} (gave took : P → Option (List ℕ)) (counts : P → Coun
       }
 
   -- it spoke to all
-  pub spoken-end : (old mid new : Moment P) (i : ℕ) → (site_in old.node).ranges.nodes ≤ i → SpokenTo gave took counts offers now old mid i
+  abbrev pub spoken-end : (old mid new : Moment P) (i : ℕ) → (site_in old.node).ranges.nodes ≤ i → SpokenTo gave took counts offers now old mid i
       → new.ports ≡ mid.ports → new.pace ≡ mid.pace → Speaks gave took counts offers now old new
-  spoken-end old mid new i all so ports pace = rw (ports, pace) record {
+  spoken-end old mid new i all so ports pace = record {
     sends = so.sends;
     kinds = so.kinds;
     leads = so.leads;
-    neighbours = λ w node has. so.below w (omega arith) has;
+    neighbours = λ w node has. rw (ports, pace) (so.below w (omega arith) has);
     others = λ w not.
-        elim (below-or-from w i) [
+        rw (ports, pace) elim (below-or-from w i) [
           | inl less ↦ so.others w less not
           | inr from ↦ so.above w from
         ];
-    rest = so.rest;
+    rest = rw pace so.rest;
   }

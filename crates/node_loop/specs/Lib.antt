@@ -13,3 +13,5 @@ pub mod Speaking
 pub mod Turns
 pub mod Loose
 pub mod LinkSights
+pub mod NotesView
+pub mod Noting

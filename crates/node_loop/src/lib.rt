@@ -6,13 +6,14 @@
 //!
 //! ```
 //! let mut run = NodeRun::new(alloc, net, node, doors, store, Manner::usual())?;
+//! let mut notes = Notes::none();                      // or with_room, if someone keeps a record
 //! run.wait(clock.microseconds());                     // at most 2 milliseconds
 //! let now = clock.microseconds();
 //! if run.is_turn_due(now) {
-//!     let turned = run.turn(now);
+//!     let turned = run.turn(now, &mut notes);
 //!     if turned.is_to_look() { /* each 256th turn, also if the save failed */ }
 //! } else {
-//!     run.attend(now);                                // while a loan with a lease runs
+//!     run.attend(now, &mut notes);                    // while a loan with a lease runs
 //! }
 //! ```
 //!
@@ -38,6 +39,7 @@ mod clients;
 mod doors;
 mod greeting;
 mod lobby;
+mod notes;
 mod port;
 mod run;
 mod service;
@@ -45,5 +47,7 @@ mod sight;
 mod turned;
 
 pub use doors::{Door, Doors};
+pub use flight_records;
+pub use notes::Notes;
 pub use run::{NodeRun, Unmade};
 pub use turned::Turned;

@@ -19,6 +19,7 @@ mod speaking;
 use crate::clients::Clients;
 use crate::doors::Doors;
 use crate::lobby::Lobby;
+use crate::notes::Notes;
 use crate::port::NodePort;
 use crate::turned::Turned;
 use node_core::{Node, Ticked};
@@ -67,6 +68,7 @@ pub struct NodeRun<D: Doors, S: Store + Drop, A: Allocator + Copy = Global> {
 impl<D: Doors, S: Store + Drop, A: Allocator + Copy> NodeRun<D, S, A> {
     ghost use Rattle.node_loop.specs.Clients.{AreConnected};
     ghost use Rattle.node_loop.specs.Lives.{StillLive};
+    ghost use Rattle.node_loop.specs.Noting.{AttendIsNoted, TurnIsNoted};
     ghost use Rattle.node_loop.specs.Said.{HasAnswered, TurnSays};
     ghost use Rattle.node_loop.specs.Turns.{Attends, Turns};
     ghost use Rattle.node_loop.specs.Moments.{moment_of};
@@ -116,12 +118,17 @@ impl<D: Doors, S: Store + Drop, A: Allocator + Copy> NodeRun<D, S, A> {
     }
 
     /// One turn: the node takes all that came, ticks once, and speaks by the plan that the pace
-    /// makes then. `now` is microseconds of a clock that never goes back.
-    pub fn turn(&mut self, now: u64) -> Turned
+    /// makes then. `now` is microseconds of a clock that never goes back. All that it did is noted.
+    pub fn turn(&mut self, now: u64, notes: &mut Notes<A>) -> Turned
         // All that it did is one list of deeds, which are the node's own steps.
         ensures turns { Turns D.P.gave D.P.took D.P.counts result.ticked now
             (moment_of self.old.node self.old.ports.items self.old.pace self.old.let_go)
             (moment_of self.new.node self.new.ports.items self.new.pace self.new.let_go) }
+        // Just that list is noted, as far as there is room, and nothing that was noted before.
+        ensures noted { TurnIsNoted D.P.gave D.P.took D.P.counts result.ticked now
+            (moment_of self.old.node self.old.ports.items self.old.pace self.old.let_go)
+            (moment_of self.new.node self.new.ports.items self.new.pace self.new.let_go)
+            notes.old notes.new }
         // Each ticket that waits or borrows is a connected client's.
         ensures connected { AreConnected self.new.clients self.new.node }
         // A client that was connected and still is lives on: no read and no write said that its pipe
@@ -141,7 +148,7 @@ impl<D: Doors, S: Store + Drop, A: Allocator + Copy> NodeRun<D, S, A> {
             (S.failures self.old.store) (S.failures self.new.store)) }
         ensures net { self.new.net ≡ self.old.net }
     {
-        let ticked = self.act(now);
+        let ticked = self.act(now, notes);
         Turned {
             ticked,
             saved: self.save(),
@@ -149,10 +156,11 @@ impl<D: Doors, S: Store + Drop, A: Allocator + Copy> NodeRun<D, S, A> {
     }
 
     /// A turn but for its save.
-    fn act(&mut self, now: u64) -> Ticked
-        ensures turns { Turns D.P.gave D.P.took D.P.counts result now
+    fn act(&mut self, now: u64, notes: &mut Notes<A>) -> Ticked
+        ensures noted { TurnIsNoted D.P.gave D.P.took D.P.counts result now
             (moment_of self.old.node self.old.ports.items self.old.pace self.old.let_go)
-            (moment_of self.new.node self.new.ports.items self.new.pace self.new.let_go) }
+            (moment_of self.new.node self.new.ports.items self.new.pace self.new.let_go)
+            notes.old notes.new }
         ensures connected { AreConnected self.new.clients self.new.node }
         ensures lives { StillLive D.P.gave D.P.took D.P.counts self.old.clients self.new.clients }
         ensures says { TurnSays D.P.took (site_in self.old.node) result.act self.old.clients
@@ -160,22 +168,27 @@ impl<D: Doors, S: Store + Drop, A: Allocator + Copy> NodeRun<D, S, A> {
         ensures rest { (self.new.net ≡ self.old.net) × (self.new.turns ≡ self.old.turns)
             × (self.new.store ≡ self.old.store) }
     {
-        self.listen(now);
-        let ticked = self.tick(now);
+        self.listen(now, notes);
+        let ticked = self.tick(now, notes);
         let plan = self.plan(now);
-        self.speak(&plan.offers, now);
+        self.speak(&plan.offers, now, notes);
         ticked
     }
 
     /// What is done between two turns, while a loan with a lease runs and no tick is due: the node
     /// takes all that came, and speaks by the plan that the pace makes then. It does not tick, and
-    /// this counts as no turn. `now` is as for [`NodeRun::turn`].
-    pub fn attend(&mut self, now: u64)
+    /// this counts as no turn. `now` and `notes` are as for [`NodeRun::turn`].
+    pub fn attend(&mut self, now: u64, notes: &mut Notes<A>)
         // All that it did is one list of deeds, which are the node's own steps; no tick is among
         // them.
         ensures attends { Attends D.P.gave D.P.took D.P.counts now
             (moment_of self.old.node self.old.ports.items self.old.pace self.old.let_go)
             (moment_of self.new.node self.new.ports.items self.new.pace self.new.let_go) }
+        // Just that list is noted, as far as there is room, and nothing that was noted before.
+        ensures noted { AttendIsNoted D.P.gave D.P.took D.P.counts now
+            (moment_of self.old.node self.old.ports.items self.old.pace self.old.let_go)
+            (moment_of self.new.node self.new.ports.items self.new.pace self.new.let_go)
+            notes.old notes.new }
         // Each ticket that waits or borrows is a connected client's.
         ensures connected { AreConnected self.new.clients self.new.node }
         // A client that was connected and still is lives on: no read and no write said that its pipe
@@ -188,9 +201,9 @@ impl<D: Doors, S: Store + Drop, A: Allocator + Copy> NodeRun<D, S, A> {
         ensures rest { (self.new.net ≡ self.old.net) × (self.new.turns ≡ self.old.turns)
             × (self.new.store ≡ self.old.store) }
     {
-        self.listen(now);
+        self.listen(now, notes);
         let plan = self.plan(now);
-        self.speak(&plan.offers, now);
+        self.speak(&plan.offers, now, notes);
         self.has_more |= plan.ticks;
     }
 

@@ -1,38 +1,43 @@
 //! What a node does with its clients in a turn.
-ghost use Rattle.std.specs.Prelude.{◌≡◌, ◌&&◌, ◌==◌, ℕ, not, true};
+ghost use Rattle.std.specs.Prelude.{◌≡◌, ◌&&◌, ◌==◌, ◌∷◌, [], ℕ, not, true};
 ghost use Rattle.lock_desk.specs.Desk.{after_leave, is_ticket};
 ghost use Rattle.node_core.specs.Step.{ticked};
 ghost use Rattle.node_core.specs.View.{site_in, state_of};
 ghost use Rattle.node_loop.specs.Answers.{answer_text};
 ghost use Rattle.node_loop.specs.Clients.{AreConnected, is_connected, IsTold, Tells};
-ghost use Rattle.node_loop.specs.Deeds.{Became, IsLeave, IsOfClient, Acts};
+ghost use Rattle.node_loop.specs.Deeds.{IsLeave, IsOfClient, Leaves};
 ghost use Rattle.node_loop.specs.Lives.{LiveOn, OthersStay};
+ghost use Rattle.node_loop.specs.Noting.{after_all, Did, DidAct};
 ghost use Rattle.node_loop.specs.Said.{AreAnswered, NothingSaid, SaidTo};
 
 use crate::answer::{ANSWER, answer};
 use crate::clients::{Clients, PIECE, PLACES};
+use crate::notes::Notes;
 use lock_desk::{ClientLine, DeskAct};
 use node_core::{Node, Ticked};
 use socket_links::{Pipe, ReadAnswer};
 use std::alloc::Allocator;
 
 /// A ticket leaves, if it waits or borrows.
-fn leave<A: Allocator>(node: &mut Node<A>, ticket: u16)
+fn leave<A: Allocator>(node: &mut Node<A>, notes: &mut Notes<A>, ticket: u16)
     ensures state { state_of node.new ≡ record (state_of node.old) {
       desk = after_leave ticket (state_of node.old).desk;
     } }
     ensures site { site_in node.new ≡ site_in node.old }
+    ensures noted { notes.new ≡ after_all (Leaves ticket ∷ []) notes.old }
 {
     let _known = node.leave(ticket);
+    notes.leaves(ticket);
 }
 
 /// Closes a client, and has its ticket leave.
 fn dismiss<P: Pipe, A: Allocator + Copy>(
     node: &mut Node<A>,
+    notes: &mut Notes<A>,
     clients: &mut Clients<P, A>,
     ticket: u16,
 )
-    ensures node { Became IsLeave node.old node.new }
+    ensures node { Did IsLeave node.old node.new notes.old notes.new }
     ensures connected { AreConnected clients.old node.old → AreConnected clients.new node.new }
     ensures closed { (t : ℕ) → is_connected clients.new t
         ≡ (is_connected clients.old t && not (t == ticket)) }
@@ -42,32 +47,34 @@ fn dismiss<P: Pipe, A: Allocator + Copy>(
     // The desk is in range, which the prover needs: a borrower does not wait.
     let _known_ranges = node.ranges();
     clients.close(ticket);
-    leave(node, ticket);
+    leave(node, notes, ticket);
 }
 
 /// Answers a client, or closes it if there is no room for the answer.
 fn tell<P: Pipe, A: Allocator + Copy>(
     node: &mut Node<A>,
+    notes: &mut Notes<A>,
     clients: &mut Clients<P, A>,
     ticket: u16,
     text: &[u8],
 )
-    ensures node { Became IsLeave node.old node.new }
+    ensures node { Did IsLeave node.old node.new notes.old notes.new }
     ensures connected { AreConnected clients.old node.old → AreConnected clients.new node.new }
     ensures reported { Tells text.now ticket clients.old clients.new }
     ensures lives { LiveOn P.gave P.took P.counts clients.old clients.new }
 {
     if !clients.say(ticket, text) {
-        dismiss(node, clients, ticket);
+        dismiss(node, notes, clients, ticket);
     }
 }
 
 /// Reads each client once, and serves its lines. Returns whether some client may have more.
 pub(crate) fn serve_all<P: Pipe, A: Allocator + Copy>(
     node: &mut Node<A>,
+    notes: &mut Notes<A>,
     clients: &mut Clients<P, A>,
 ) -> bool
-    ensures node { Became IsOfClient node.old node.new }
+    ensures node { Did IsOfClient node.old node.new notes.old notes.new }
     // A client whose read says that it is gone is no longer connected.
     ensures lives { LiveOn P.gave P.took P.counts clients.old clients.new }
     ensures answers { AreAnswered P.took (site_in node.old) clients.old clients.new }
@@ -75,7 +82,7 @@ pub(crate) fn serve_all<P: Pipe, A: Allocator + Copy>(
     let mut has_more = false;
     for ticket in 0..PLACES as u16 {
         if clients.contains(ticket) {
-            has_more |= serve(node, clients, ticket);
+            has_more |= serve(node, notes, clients, ticket);
         }
     }
     has_more
@@ -85,27 +92,28 @@ pub(crate) fn serve_all<P: Pipe, A: Allocator + Copy>(
 /// is closed here too, after one more write of what waits for it; so is one whose read failed.
 fn serve<P: Pipe, A: Allocator + Copy>(
     node: &mut Node<A>,
+    notes: &mut Notes<A>,
     clients: &mut Clients<P, A>,
     ticket: u16,
 ) -> bool
-    ensures node { Became IsOfClient node.old node.new }
+    ensures node { Did IsOfClient node.old node.new notes.old notes.new }
     ensures lives { LiveOn P.gave P.took P.counts clients.old clients.new }
     ensures answers { AreAnswered P.took (site_in node.old) clients.old clients.new }
 {
     let mut bytes = [0; PIECE];
     match clients.read(ticket, &mut bytes) {
         ReadAnswer::Got(count) => {
-            serve_bytes(node, clients, ticket, &bytes[..count]);
+            serve_bytes(node, notes, clients, ticket, &bytes[..count]);
             count == PIECE
         }
         ReadAnswer::Later => false,
         ReadAnswer::Closed => {
             let _written = clients.write(ticket);
-            dismiss(node, clients, ticket);
+            dismiss(node, notes, clients, ticket);
             false
         }
         ReadAnswer::Failed => {
-            dismiss(node, clients, ticket);
+            dismiss(node, notes, clients, ticket);
             false
         }
     }
@@ -114,17 +122,18 @@ fn serve<P: Pipe, A: Allocator + Copy>(
 /// Serves the lines that end in these bytes of a client.
 fn serve_bytes<P: Pipe, A: Allocator + Copy>(
     node: &mut Node<A>,
+    notes: &mut Notes<A>,
     clients: &mut Clients<P, A>,
     ticket: u16,
     bytes: &[u8],
 )
-    ensures node { Became IsOfClient node.old node.new }
+    ensures node { Did IsOfClient node.old node.new notes.old notes.new }
     ensures lives { LiveOn P.gave P.took P.counts clients.old clients.new }
     ensures answers { AreAnswered P.took (site_in node.old) clients.old clients.new }
 {
     for byte in bytes {
         if let Some(line) = clients.push(ticket, *byte) {
-            serve_line(node, clients, ticket, line);
+            serve_line(node, notes, clients, ticket, line);
         }
     }
 }
@@ -132,11 +141,12 @@ fn serve_bytes<P: Pipe, A: Allocator + Copy>(
 /// Serves one line of a client.
 fn serve_line<P: Pipe, A: Allocator + Copy>(
     node: &mut Node<A>,
+    notes: &mut Notes<A>,
     clients: &mut Clients<P, A>,
     ticket: u16,
     line: ClientLine,
 )
-    ensures node { Became IsOfClient node.old node.new }
+    ensures node { Did IsOfClient node.old node.new notes.old notes.new }
     ensures lives { LiveOn P.gave P.took P.counts clients.old clients.new }
     // The client is answered, and no other.
     ensures answers { SaidTo P.took
@@ -145,26 +155,32 @@ fn serve_line<P: Pipe, A: Allocator + Copy>(
 {
     let mut text = [0; ANSWER];
     let count = answer(node, ticket, line, &mut text);
+    notes.line(ticket, line);
     if count > 0 {
-        tell(node, clients, ticket, &text[..count]);
+        tell(node, notes, clients, ticket, &text[..count]);
     }
 }
 
 /// Each ticket that waits or borrows and is no connected client's leaves.
 pub(crate) fn leave_absent<P: Pipe, A: Allocator + Copy>(
     node: &mut Node<A>,
+    notes: &mut Notes<A>,
     clients: &Clients<P, A>,
 )
-    ensures node { Became IsLeave node.old node.new }
+    ensures node { Did IsLeave node.old node.new notes.old notes.new }
     ensures connected { AreConnected clients.now node.new }
 {
-    leave_lent(node, clients);
-    leave_waiting(node, clients);
+    leave_lent(node, notes, clients);
+    leave_waiting(node, notes, clients);
 }
 
 /// The borrower leaves, if it is no connected client.
-fn leave_lent<P: Pipe, A: Allocator + Copy>(node: &mut Node<A>, clients: &Clients<P, A>)
-    ensures node { Became IsLeave node.old node.new }
+fn leave_lent<P: Pipe, A: Allocator + Copy>(
+    node: &mut Node<A>,
+    notes: &mut Notes<A>,
+    clients: &Clients<P, A>,
+)
+    ensures node { Did IsLeave node.old node.new notes.old notes.new }
     ensures connected { (t : ℕ) → is_ticket (state_of node.new).desk.lent t ≡ true
         → is_connected clients.now t ≡ true }
 {
@@ -174,15 +190,19 @@ fn leave_lent<P: Pipe, A: Allocator + Copy>(node: &mut Node<A>, clients: &Client
         return;
     };
     if !clients.contains(ticket) {
-        leave(node, ticket);
+        leave(node, notes, ticket);
     }
 }
 
 /// Each ticket that waits and is no connected client's leaves.
-fn leave_waiting<P: Pipe, A: Allocator + Copy>(node: &mut Node<A>, clients: &Clients<P, A>)
+fn leave_waiting<P: Pipe, A: Allocator + Copy>(
+    node: &mut Node<A>,
+    notes: &mut Notes<A>,
+    clients: &Clients<P, A>,
+)
     requires { (t : ℕ) → is_ticket (state_of node.old).desk.lent t ≡ true
         → is_connected clients.now t ≡ true }
-    ensures node { Became IsLeave node.old node.new }
+    ensures node { Did IsLeave node.old node.new notes.old notes.new }
     ensures connected { AreConnected clients.now node.new }
 {
     let mut place = 0;
@@ -191,7 +211,7 @@ fn leave_waiting<P: Pipe, A: Allocator + Copy>(node: &mut Node<A>, clients: &Cli
         if clients.contains(ticket) {
             place += 1;
         } else {
-            leave(node, ticket);
+            leave(node, notes, ticket);
         }
     }
 }
@@ -199,18 +219,20 @@ fn leave_waiting<P: Pipe, A: Allocator + Copy>(node: &mut Node<A>, clients: &Cli
 /// One tick of the node. The client whose loan it began or ended hears of it.
 pub(crate) fn tick<P: Pipe, A: Allocator + Copy>(
     node: &mut Node<A>,
+    notes: &mut Notes<A>,
     clients: &mut Clients<P, A>,
 ) -> Ticked
     // One tick, and then nothing but leaves.
-    ensures node { Acts result node.old node.new }
+    ensures node { DidAct result node.old node.new notes.old notes.new }
     ensures reported { IsTold result.act clients.old clients.new }
     ensures lives { LiveOn P.gave P.took P.counts clients.old clients.new }
     ensures connected { AreConnected clients.old node.old → AreConnected clients.new node.new }
 {
     let ticked = node.tick();
+    notes.ticks();
     match ticked.act {
-        DeskAct::Granted(ticket) => tell(node, clients, ticket, b"granted\n"),
-        DeskAct::Lost(ticket) => tell(node, clients, ticket, b"lost\n"),
+        DeskAct::Granted(ticket) => tell(node, notes, clients, ticket, b"granted\n"),
+        DeskAct::Lost(ticket) => tell(node, notes, clients, ticket, b"lost\n"),
         DeskAct::Quiet => {}
     }
     ticked
@@ -219,9 +241,10 @@ pub(crate) fn tick<P: Pipe, A: Allocator + Copy>(
 /// Writes once to each client for whom answers wait, and closes each to which that fails.
 pub(crate) fn write_all<P: Pipe, A: Allocator + Copy>(
     node: &mut Node<A>,
+    notes: &mut Notes<A>,
     clients: &mut Clients<P, A>,
 )
-    ensures node { Became IsLeave node.old node.new }
+    ensures node { Did IsLeave node.old node.new notes.old notes.new }
     ensures connected { AreConnected clients.old node.old → AreConnected clients.new node.new }
     // A client to which a write fails is no longer connected.
     ensures lives { LiveOn P.gave P.took P.counts clients.old clients.new }
@@ -229,7 +252,7 @@ pub(crate) fn write_all<P: Pipe, A: Allocator + Copy>(
 {
     for ticket in 0..PLACES as u16 {
         if !clients.write(ticket) {
-            dismiss(node, clients, ticket);
+            dismiss(node, notes, clients, ticket);
         }
     }
 }

@@ -9,10 +9,12 @@ use Rattle.node_process.specs.declared.fault.NodeFault.TheVariants.{NoNode, Long
 use Rattle.node_process.specs.declared.start.Stage.TheVariants.{Begun, Checked, Entered, Held, Listening}
 use Rattle.node_process.specs.Start.{may_end}
 use Rattle.node_process.specs.declared.rights.Rights.TheVariants.{Usual, GroupLocks}
-use Rattle.node_process.specs.Children.{rights_options, log_options, child_options, child_words, end_of}
+use Rattle.node_process.specs.Children.{rights_options, log_options, record_options, child_options, child_words, end_of}
 use Rattle.node_log.specs.declared.event.Level.TheVariants.{Notice}
 use Rattle.node_process.specs.Rights.{folder_mode, own_mode, clients_mode}
 use Rattle.node_process.specs.Ends.{end_fault, ends_by}
+use Rattle.node_recorder.specs.flight_recorder.declared.recorder.Side.TheVariants.{First, Second}
+use Rattle.node_process.specs.Tapes.{file_bytes, side_to_begin}
 use Rattle.node_process.specs.Places.{same_id, is_in_place}
 use Rattle.topology.specs.Network.{Network}
 use Rattle.node_process.specs.Texts.{last_end, left_line, gone_line, refusal_text, blocked_line}
@@ -83,9 +85,10 @@ says-blocked : blocked_line (codes "run/desk-1.sock")
 says-blocked = refl
 
 -- a child gets all options; the time of a turn is in milliseconds
-names-child : child_words (record { hold = 2000; repeat = 8000 }) 2250 GroupLocks (Some Notice) (codes "ring.toml") 1 (codes "run")
+names-child : child_words (record { hold = 2000; repeat = 8000 }) 2250 GroupLocks (Some Notice) (Some (record { bytes = 65536 })) (codes "ring.toml") 1 (codes "run")
     ≡ codes "node" ∷ codes "--child" ∷ codes "--hold" ∷ codes "2000" ∷ codes "--repeat" ∷ codes "8000"
-    ∷ codes "--turn" ∷ codes "2.250" ∷ codes "--group-locks" ∷ codes "--log" ∷ codes "5" ∷ codes "--" ∷ codes "ring.toml" ∷ codes "1" ∷ codes "run" ∷ []
+    ∷ codes "--turn" ∷ codes "2.250" ∷ codes "--group-locks" ∷ codes "--log" ∷ codes "5"
+    ∷ codes "--record" ∷ codes "--record-size" ∷ codes "65536" ∷ codes "--" ∷ codes "ring.toml" ∷ codes "1" ∷ codes "run" ∷ []
 unfolding digits
 names-child = refl
 
@@ -94,6 +97,26 @@ says_not-rights = refl
 
 says_not-log : log_options None ≡ []
 says_not-log = refl
+
+says_not-record : record_options None ≡ []
+says_not-record = refl
+
+-- a record begins with the file that was written earlier, or with one that is not there
+begins-first : side_to_begin None None ≡ First
+begins-first = refl
+
+begins-other : side_to_begin (Some 7) None ≡ Second
+begins-other = refl
+
+begins-earlier : side_to_begin (Some 8) (Some 7) ≡ Second
+begins-earlier = refl
+
+begins_not-later : side_to_begin (Some 7) (Some 8) ≢ Second
+begins_not-later = grind arith
+
+-- a file has room for two pages
+has-room : file_bytes (record { bytes = 0 }) ≡ 65536
+has-room = refl
 
 -- octal 0750, 0660 and 0600
 mode-folder : folder_mode GroupLocks ≡ 488

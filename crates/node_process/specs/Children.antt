@@ -5,6 +5,7 @@ use Rattle.std.specs.declared.process.status.ExitStatus.{ExitStatus}
 use Rattle.pace.specs.declared.pace.Manner.{Manner}
 use Rattle.node_process.specs.declared.rights.Rights.{Rights}
 use Rattle.node_process.specs.declared.rights.Rights.TheVariants.{Usual, GroupLocks}
+use Rattle.node_process.specs.declared.tape.RecordSize.{RecordSize}
 use Rattle.node_texts.specs.PremisesText.{millis_text}
 use Rattle.node_log.specs.Events.{priority_of}
 use Rattle.node_log.specs.declared.event.Level.{Level}
@@ -30,10 +31,17 @@ abbrev pub log_options : Option Level → List (List ℕ)
 log_options None = []
 log_options (Some level) = codes "--log" ∷ decimal (priority_of level) ∷ []
 
+-- the options for its record, in two files of at most so many bytes each
+abbrev pub record_options : Option RecordSize → List (List ℕ)
+record_options None = []
+record_options (Some size) = codes "--record" ∷ codes "--record-size" ∷ decimal size.bytes ∷ []
+
 -- the words that start node `id` of a network; `--` allows a FILE or DIR that begins with a hyphen
-abbrev pub child_words : Manner → ℕ → Rights → Option Level → List ℕ → ℕ → List ℕ → List (List ℕ)
-child_words manner turn rights log file id dir =
-    child_options manner turn ++ (rights_options rights ++ (log_options log ++ codes "--" ∷ file ∷ decimal id ∷ dir ∷ []))
+abbrev pub child_words : Manner → ℕ → Rights → Option Level → Option RecordSize → List ℕ → ℕ → List ℕ → List (List ℕ)
+child_words manner turn rights log size file id dir =
+    child_options manner turn
+    ++ (rights_options rights
+    ++ (log_options log ++ (record_options size ++ codes "--" ∷ file ∷ decimal id ∷ dir ∷ [])))
 
 -- how a process ended, by POSIX's wait status: low seven bits of 0 mean that it ended by itself,
 -- and the next byte is its status; else they are the signal that ended it; 127 means that it has

@@ -4,3 +4,4 @@ pub mod Start
 pub mod Ends
 pub mod Rights
 pub mod Places
+pub mod Tapes

@@ -275,3 +275,24 @@ fn address_of(alloc: Global, dir: &str, id: u16) -> Result<SocketAddr, NodeFault
     let name = links_name(alloc, dir, id)?;
     SocketAddr::from_pathname(name.as_str()).map_err(|_| NodeFault::LongName)
 }
+
+/// A new file of this name, for its owner alone. It replaces a plain file that was there. Anything
+/// else of that name stays; a symbolic link is not followed.
+///
+/// # Errors
+/// If something else has that name, or the system makes no file.
+pub fn new_file<F: Files<File = File>>(files: &F, path: &str) -> io::Result<File> {
+    match fs::symlink_metadata(files, path) {
+        Ok(found) if !found.is_file() => {
+            return Err(io::Error::new(ErrorKind::InvalidInput, "it is no plain file"));
+        }
+        Ok(_) => fs::remove_file(files, path)?,
+        Err(error) if error.kind() == ErrorKind::NotFound => {}
+        Err(error) => return Err(error),
+    }
+    OpenOptions::new()
+        .write(true)
+        .create_new(true)
+        .mode(FILE_MODE)
+        .open(files, path)
+}

@@ -11,7 +11,8 @@
 //! Node U of a network uses these files of a folder, and touches nothing outside it: `state-U.tkt`
 //! (its state), `node-U.sock` (nodes with greater ids connect to it), `desk-U.sock` (clients do),
 //! `look-U.sock` (lookers do), `stop-U` (making it ends the node) and `lock-U` (held while the
-//! node runs, so that no second process is node U there).
+//! node runs, so that no second process is node U there). If it keeps a record, it writes that to
+//! `record-U.0` and `record-U.1` in turn.
 //!
 //! The crate `node_loop` has the turn of a node, over doors; `unix_doors` has those over Unix
 //! sockets, and `node_texts` the names of files and the lines that are printed. `node_keeping`
@@ -34,6 +35,7 @@ pub mod node;
 mod observer;
 mod rights;
 mod start;
+mod tape;
 pub mod up;
 mod window;
 
@@ -41,5 +43,6 @@ pub use fault::{NodeFault, Refusal};
 pub use left::LeftLine;
 pub use node::NodeWords;
 pub use rights::Rights;
+pub use tape::{RecordSize, USUAL_SIZE};
 pub use turn_watch::USUAL_LIMIT;
 pub use up::{NodeProgram, OwnProgram};

@@ -17,13 +17,14 @@ use crate::names::{Name, Names};
 use crate::observer::Observer;
 use crate::rights::Rights;
 use crate::start::Stage;
+use crate::tape::RecordSize;
 use crate::window::Window;
 use held_signals::state_now;
 use look_window::{COMERS, is_let_in, show};
 use network_file::{NetworkFault, read_network};
 use network_news::{FileNews, found_in, news_line};
 use node_keeping::{AfterSave, Sights, StopSight, after_save, looks_for_stop};
-use node_log::{Event, Level};
+use node_log::Level;
 use node_loop::NodeRun;
 use node_state_file::{FileStore, start};
 use node_texts::{CapacityLine, NodePaths, Note, NoteLine, SOCKET_FRAMES};
@@ -57,6 +58,8 @@ pub struct NodeWords<'a> {
     pub rights: Rights,
     /// The lowest level of its log, if it has one.
     pub log: Option<Level>,
+    /// The size of its record's files, if it keeps a record.
+    pub record_size: Option<RecordSize>,
     /// Whether `up` started it: then its lines begin with its name, and it ends with its input.
     pub is_child: bool,
 }
@@ -139,14 +142,34 @@ where
     requires held { stage ≡ Held }
 {
     let (mut run, mut names) = start_node(rt, words, paths, place, net, &mut stage)?;
-    let end = match Stopwatch::start(rt) {
-        Ok(watch) => run_turns(rt, words, watch, &mut names, &mut run),
-        Err(_) => return Err(NodeFault::System),
+    let end = match watched(rt, words, &run) {
+        Ok(mut observer) => run_turns(rt, words, &mut observer, &mut names, &mut run),
+        Err(fault) => return Err(fault),
     };
     if end != AfterSave::Displaced {
         remove_sockets(rt, paths);
     }
     fault_of_end(end)
+}
+
+/// What watches a node that starts now with these words.
+///
+/// # Errors
+/// If the system gives no clock, or it keeps a record and memory runs out.
+fn watched<'a, 'w, R>(
+    rt: &'a R,
+    words: &NodeWords<'w>,
+    run: &Run<'a, R>,
+) -> Result<Observer<'a, 'w, R>, NodeFault>
+where
+    R: Files<File = File> + Sockets + Clock + Env + Eprint + AllocGlobal,
+    ensures { IfOk result (λ observer. (observer.journal.log.least ≡ words.now.log)
+        × (observer.window.notes.limit ≡ words.now.turn)) }
+{
+    match Stopwatch::start(rt) {
+        Ok(watch) => Observer::open(rt, words, watch, run),
+        Err(_) => Err(NodeFault::System),
+    }
 }
 
 /// Removes a node's sockets. What cannot be removed is removed by the next start.
@@ -247,25 +270,27 @@ fn make_doors<'a, R: Sockets + AllocGlobal>(
 }
 
 /// Takes turns until the node must end, and says how it ends.
-fn run_turns<'a, R: Files + Sockets + Clock + Env + Input + Eprint + AllocGlobal>(
+fn run_turns<'a, R>(
     rt: &'a R,
     words: &NodeWords<'_>,
-    watch: Stopwatch<'a, R>,
+    observer: &mut Observer<'a, '_, R>,
     names: &mut Names<'a>,
     run: &mut Run<'a, R>,
-) -> AfterSave {
-    let mut observer = Observer::open(rt, words, watch);
+) -> AfterSave
+where
+    R: Files<File = File> + Sockets + Clock + Input + Eprint + AllocGlobal,
+{
     for _ in 0..u64::MAX {
         run.wait(observer.watch.last());
         let now = observer.watch.now();
         if !run.is_turn_due(now) {
-            run.attend(now);
-            let ended = observer.watch.now();
-            observer.window.attended(run, ended);
-        } else if take_turn(rt.alloc(), &mut observer, run, now) {
+            run.attend(now, &mut observer.notes);
+            observer.attended(run, now);
+        } else if take_turn(rt.alloc(), observer, run, now) {
             let next = look(rt, words, names, run);
+            observer.rewired(run);
             if ends(next) {
-                observer.journal.say(Event::Ends, now);
+                observer.ends(now);
                 return next;
             }
         }
@@ -273,10 +298,11 @@ fn run_turns<'a, R: Files + Sockets + Clock + Env + Input + Eprint + AllocGlobal
     AfterSave::Stop
 }
 
-/// Takes a turn, notes it, says what happened in it, and shows lookers how the node stands then.
+/// Takes a turn, notes and records it, says what happened in it, and shows lookers how the node
+/// stands then.
 /// Returns whether to look at the node's files now: after each 256th turn, whatever the store
 /// answered.
-fn take_turn<'a, R: Files + Sockets + Clock + Eprint>(
+fn take_turn<'a, R: Files<File = File> + Sockets + Clock + Eprint + AllocGlobal>(
     alloc: Global,
     observer: &mut Observer<'a, '_, R>,
     run: &mut Run<'a, R>,
@@ -284,11 +310,12 @@ fn take_turn<'a, R: Files + Sockets + Clock + Eprint>(
 ) -> bool
     ensures { IsTrue result ↔ (run.old.turns ≡ 255) }
 {
-    let turned = run.turn(now);
+    let turned = run.turn(now, &mut observer.notes);
     let ended = observer.watch.now();
     observer.window.turn_ended(run, &turned, ended);
     let clients = run.doors().look_at_clients();
     observer.journal.turn_ended(run, &turned, clients, ended);
+    observer.record(run, now);
     if run.doors().may_be_looked_at() {
         show_all(alloc, &observer.window, run, ended);
     }

@@ -1,9 +1,15 @@
 //! What watches a node while it runs.
-ghost use Rattle.std.specs.Prelude.{◌≡◌};
+ghost use Rattle.std.specs.Prelude.{◌≡◌, None, IfOk};
 
+use crate::fault::NodeFault;
 use crate::journal::Journal;
 use crate::node::NodeWords;
+use crate::tape::Tape;
 use crate::window::Window;
+use node_log::Event;
+use node_loop::{Doors, NodeRun, Notes};
+use node_state_file::Store;
+use std::fs::File;
 use std::rt::{Clock, Env, Files};
 use unix_doors::Stopwatch;
 
@@ -16,23 +22,100 @@ pub struct Observer<'a, 'w, R> {
     pub window: Window<'w>,
     /// What it says of itself.
     pub journal: Journal<'a, R>,
+    /// Its deeds in the last turn, if it keeps a record.
+    pub notes: Notes,
+    /// Its record, if it keeps one.
+    pub tape: Option<Tape<'a, R>>,
 }
 
-impl<'a, 'w, R: Files + Clock + Env + Eprint + AllocGlobal> Observer<'a, 'w, R> {
+impl<'a, 'w, R: Files<File = File> + Clock + Eprint + AllocGlobal> Observer<'a, 'w, R> {
     /// What watches a node that starts now with these words.
-    pub fn open(
+    ///
+    /// # Errors
+    /// If it keeps a record, and memory runs out.
+    pub fn open<D: Doors, S: Store + Drop>(
         rt: &'a R,
         words: &NodeWords<'w>,
         mut watch: Stopwatch<'a, R>,
-    ) -> Observer<'a, 'w, R>
-        ensures level { result.journal.log.least ≡ words.now.log }
-        ensures limit { result.window.notes.limit ≡ words.now.turn }
+        run: &NodeRun<D, S>,
+    ) -> Result<Observer<'a, 'w, R>, NodeFault>
+    where
+        R: Env,
+        ensures level { IfOk result (λ observer. observer.journal.log.least ≡ words.now.log) }
+        ensures limit { IfOk result (λ observer. observer.window.notes.limit ≡ words.now.turn) }
+        // Without a record its deeds are not noted.
+        ensures off { words.now.record_size ≡ None
+            → IfOk result (λ observer. (observer.tape ≡ None) × (observer.notes.room ≡ 0)) }
     {
         let now = watch.now();
-        Observer {
+        let (notes, tape) = recording(rt, words, run, now)?;
+        Ok(Observer {
             window: Window::open(rt, words.turn, words.version, now),
             journal: Journal::begin(rt, words, now),
+            notes,
+            tape,
             watch,
+        })
+    }
+
+    /// The node did something that is no turn, and began it at this time.
+    pub fn attended<D: Doors, S: Store + Drop>(&mut self, run: &NodeRun<D, S>, now: u64)
+        ensures journal { self.new.journal ≡ self.old.journal }
+        ensures off { self.old.tape ≡ None → self.new.tape ≡ None }
+    {
+        let ended = self.watch.now();
+        self.window.attended(run, ended);
+        self.record(run, now);
+    }
+
+    /// Records what the node noted of a turn, or of what it did between two turns, which began at
+    /// this time.
+    pub fn record<D: Doors, S: Store + Drop>(&mut self, run: &NodeRun<D, S>, now: u64)
+        ensures off { self.old.tape ≡ None → self.new ≡ self.old }
+        ensures others { (self.new.journal ≡ self.old.journal) × (self.new.window ≡ self.old.window)
+            × (self.new.watch ≡ self.old.watch) × (self.new.notes ≡ self.old.notes) }
+    {
+        if let Some(tape) = &mut self.tape {
+            tape.turn_ended(run, &self.notes, now);
         }
     }
+
+    /// The node may have other neighbours from now on.
+    pub fn rewired<D: Doors, S: Store + Drop>(&mut self, run: &NodeRun<D, S>)
+        ensures off { self.old.tape ≡ None → self.new ≡ self.old }
+    {
+        if let Some(tape) = &mut self.tape {
+            tape.rewired(run);
+        }
+    }
+
+    /// The node ends.
+    pub fn ends(&mut self, now: u64)
+        ensures off { self.old.tape ≡ None → self.new.tape ≡ None }
+    {
+        self.journal.say(Event::Ends, now);
+        if let Some(tape) = &mut self.tape {
+            tape.end();
+        }
+    }
+}
+
+/// Where a node that starts with these words notes its deeds, and its record, if it keeps one.
+///
+/// # Errors
+/// If it keeps one, and memory runs out.
+fn recording<'a, R: Files<File = File> + Clock + Eprint + AllocGlobal, D: Doors, S: Store + Drop>(
+    rt: &'a R,
+    words: &NodeWords<'_>,
+    run: &NodeRun<D, S>,
+    now: u64,
+) -> Result<(Notes, Option<Tape<'a, R>>), NodeFault>
+    ensures off { words.now.record_size ≡ None
+        → IfOk result (λ made. (made.0.room ≡ 0) × (made.1 ≡ None)) }
+{
+    let Some(size) = words.record_size else {
+        return Ok((Notes::none(), None));
+    };
+    let tape = Tape::open(rt, words.dir, size, run, now)?;
+    Ok((Notes::with_room(rt.alloc())?, Some(tape)))
 }

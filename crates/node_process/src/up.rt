@@ -10,7 +10,8 @@ ghost use Rattle.node_keeping.specs.declared.keeper.Seen.{Seen};
 ghost use Rattle.node_keeping.specs.declared.keeper.Seen.TheVariants.{Nothing};
 ghost use Rattle.node_keeping.specs.declared.keeper.Deed.TheVariants.{Start};
 ghost use Rattle.node_texts.specs.PremisesText.{millis_text};
-ghost use Rattle.node_process.specs.Children.{child_options, rights_options, log_options, child_words, end_of};
+ghost use Rattle.node_process.specs.Children.{child_options, rights_options, log_options, record_options};
+ghost use Rattle.node_process.specs.Children.{child_words, end_of};
 ghost use Rattle.node_process.specs.Start.{may_end};
 ghost use Rattle.node_process.specs.declared.fault.NodeFault.TheVariants.{Lock, Running};
 ghost use Rattle.node_process.specs.declared.fault.NodeFault.TheVariants.{UpLock, UpRunning};
@@ -24,6 +25,7 @@ use crate::left::{GoneLine, LeftLine};
 use crate::node::warn_of_capacity;
 use crate::rights::Rights;
 use crate::start::Stage;
+use crate::tape::RecordSize;
 use network_file::read_network;
 use node_keeping::{Deed, Keeper, Seen, UpCourse};
 use node_log::Level;
@@ -77,6 +79,8 @@ pub struct OwnProgram<'a> {
     rights: Rights,
     /// The lowest level of the nodes' logs, if they have any.
     log: Option<Level>,
+    /// The size of the files of the nodes' records, if they keep any.
+    record_size: Option<RecordSize>,
 }
 
 impl<'a> OwnProgram<'a> {
@@ -92,9 +96,11 @@ impl<'a> OwnProgram<'a> {
         turn: u64,
         rights: Rights,
         log: Option<Level>,
+        record_size: Option<RecordSize>,
     ) -> Result<OwnProgram<'a>, NodeFault>
         ensures words { IfOk result (λ own. (own.file ≡ file.entry) × (own.dir ≡ dir.entry)
-            × (own.manner ≡ manner) × (own.turn ≡ turn) × (own.rights ≡ rights) × (own.log ≡ log)) }
+            × (own.manner ≡ manner) × (own.turn ≡ turn) × (own.rights ≡ rights) × (own.log ≡ log)
+            × (own.record_size ≡ record_size)) }
         ensures fault { IfErr result (λ fault. fault ≡ System) }
     {
         match env::current_exe(rt) {
@@ -107,6 +113,7 @@ impl<'a> OwnProgram<'a> {
                 turn,
                 rights,
                 log,
+                record_size,
             }),
             Err(_) => Err(NodeFault::System),
         }
@@ -120,7 +127,13 @@ impl NodeProgram for OwnProgram<'_> {
         } else {
             Command::new(alloc, self.program.as_path())?
         };
-        let options = (self.manner, self.turn, self.rights, self.log);
+        let options = (
+            self.manner,
+            self.turn,
+            self.rights,
+            self.log,
+            self.record_size,
+        );
         add_words(alloc, &mut command, options, self.file, id, self.dir)?;
         Ok(command)
     }
@@ -150,18 +163,20 @@ fn held_back(alloc: Global, program: &PathBuf) -> io::Result<Command> {
 fn add_words(
     alloc: Global,
     command: &mut Command,
-    options: (Manner, u64, Rights, Option<Level>),
+    options: (Manner, u64, Rights, Option<Level>, Option<RecordSize>),
     file: &str,
     id: u16,
     dir: &str,
 ) -> io::Result<()>
     ensures { OnOk result (command_args command.new
-        ≡ command_args command.old ++ child_words options.0 options.1 options.2 options.3 file.now id dir.now) }
+        ≡ command_args command.old
+        ++ child_words options.0 options.1 options.2 options.3 options.4 file.now id dir.now) }
 {
-    let (manner, turn, rights, log) = options;
+    let (manner, turn, rights, log, record_size) = options;
     add_options(alloc, command, manner, turn)?;
     add_rights(command, rights)?;
     add_log(alloc, command, log)?;
+    add_record(alloc, command, record_size)?;
     add_place(alloc, command, file, id, dir)
 }
 
@@ -194,6 +209,22 @@ fn add_log(alloc: Global, command: &mut Command, log: Option<Level>) -> io::Resu
 {
     if let Some(level) = log {
         add_option(alloc, command, "--log", u64::from(level.priority()))?;
+    }
+    Ok(())
+}
+
+/// Adds the record that the node keeps.
+fn add_record(
+    alloc: Global,
+    command: &mut Command,
+    record_size: Option<RecordSize>,
+) -> io::Result<()>
+    ensures { OnOk result (command_args command.new
+        ≡ command_args command.old ++ record_options record_size) }
+{
+    if let Some(size) = record_size {
+        command.arg("--record")?;
+        add_option(alloc, command, "--record-size", size.bytes)?;
     }
     Ok(())
 }

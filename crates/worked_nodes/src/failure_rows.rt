@@ -4,7 +4,7 @@ use crate::stage::{
 };
 use crate::wires::{MemoryDoors, Pair, Queue, Trip};
 use node_core::Node;
-use node_loop::NodeRun;
+use node_loop::{NodeRun, Notes};
 use node_state_file::{FusedStore, MOST_BYTES, MemoryStore, StoreFault};
 use std::alloc::{AllocError, Global};
 use std::test::Fail;
@@ -123,8 +123,8 @@ fn first_wrong_turn(run: &mut Fused<'_>) -> Option<u32> {
             512 => Some(Ok(())),
             _ => None,
         };
-        run.attend(0);
-        let turned = run.turn(0);
+        run.attend(0, &mut Notes::none());
+        let turned = run.turn(0, &mut Notes::none());
         if turned.saved != want || turned.is_to_look() != want.is_some() {
             return Some(turn);
         }

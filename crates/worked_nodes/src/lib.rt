@@ -19,6 +19,8 @@ mod link_rows;
 #[cfg(test)]
 mod memory_rows;
 #[cfg(test)]
+mod note_rows;
+#[cfg(test)]
 mod pace_rows;
 #[cfg(test)]
 mod pipe_rows;

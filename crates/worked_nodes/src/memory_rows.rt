@@ -7,7 +7,7 @@ use crate::stage::{doors, over_new, with_made};
 use crate::wires::{MemoryDoors, Pair, Queue, Trip};
 use linked_list_allocator::LocalHeap;
 use node_core::Node;
-use node_loop::{NodeRun, Unmade};
+use node_loop::{NodeRun, Notes, Unmade};
 use node_state_file::{MOST_BYTES, MemoryStore};
 use pace::Manner;
 use std::alloc::{AllocError, Global};
@@ -107,8 +107,8 @@ fn comes(queue: &Queue<'_>, bytes: &[u8]) {
 /// One turn at the node's own pace, and what it does before the next one.
 fn turn_at(run: &mut RunOn<'_, '_>, now: u64) {
     run.wait(now);
-    run.turn(now);
-    run.attend(now);
+    run.turn(now, &mut Notes::none());
+    run.attend(now, &mut Notes::none());
 }
 
 /// This number of `turns` at the node's own pace, 10 milliseconds apart.

@@ -1,6 +1,7 @@
 //! Nodes under load whose pace is damaged again and again.
 use crate::stage::{Run, doors, doors_to, in_a_row, over_new, with_made, with_token};
 use crate::wires::{MemoryDoors, Pair, Queue, Trip};
+use node_loop::Notes;
 use pace::{Manner, NodePace, PORTS, Pace, PortPace};
 use std::alloc::Global;
 use std::test::Fail;
@@ -89,7 +90,7 @@ impl Draws {
 /// One turn of a node, at its own pace.
 fn turn_at(run: &mut Run<'_>, now: u64) {
     run.wait(now);
-    run.turn(now);
+    run.turn(now, &mut Notes::none());
 }
 
 /// One turn of a node; its pace may be damaged before.

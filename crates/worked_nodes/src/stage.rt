@@ -5,7 +5,7 @@ ghost use Rattle.node_core.specs.View.{site_in};
 
 use crate::wires::{MemoryDoors, Pair, Queue, Trip};
 use node_core::Node;
-use node_loop::NodeRun;
+use node_loop::{NodeRun, Notes};
 use node_state_file::{MOST_BYTES, MemoryStore, Store, decode};
 use pace::Manner;
 use std::alloc::{AllocError, Global};
@@ -61,12 +61,12 @@ pub fn over_new<T, F: FnOnce(&[Pair]) -> Result<T, Fail>>(
 
 /// One turn, without showing its contract, which would otherwise be part of each test.
 pub fn turn_once(run: &mut Run<'_>) {
-    run.turn(0);
+    run.turn(0, &mut Notes::none());
 }
 
 /// What a node does between two turns.
 pub fn attend_once(run: &mut Run<'_>) {
-    run.attend(0);
+    run.attend(0, &mut Notes::none());
 }
 
 /// Doors for higher neighbours and clients of a node without a lower neighbour.

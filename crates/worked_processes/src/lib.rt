@@ -13,3 +13,5 @@ mod hold;
 mod looks;
 #[cfg(test)]
 mod nodes;
+#[cfg(test)]
+mod records;

@@ -1,7 +1,9 @@
 //! Nodes as processes: copies of this test program, which talk over sockets.
 use crate::copies::{copy, copy_at, shell, started};
 use crate::hold::hold;
-use node_process::{NodeFault, NodeProgram, NodeWords, Refusal, Rights, USUAL_LIMIT, node, up};
+use node_process::{
+    NodeFault, NodeProgram, NodeWords, RecordSize, Refusal, Rights, USUAL_LIMIT, node, up,
+};
 use node_texts::desk_file::desk_path;
 use node_texts::{CapacityLine, End, EndLine, NodePaths, links_name};
 use pace::Manner;
@@ -61,6 +63,9 @@ fn run_node(
         version: "0.1.0",
         rights: Rights::Usual,
         log: None,
+        record_size: env::var(rt, "TOKENTREE_RECORD")
+            .is_ok()
+            .then_some(RecordSize { bytes: 65_536 }),
         is_child,
     };
     Ok(node::run(rt, &words))
@@ -108,12 +113,23 @@ fn pid_file(alloc: Global, dir: &str, id: u16) -> Result<String, AllocError> {
 pub const ABSENT: [&str; 2] = ["start default Absent", "ready"];
 
 /// What it prints first if its state was loaded.
-const LOADED: [&str; 2] = ["start loaded", "ready"];
+pub const LOADED: [&str; 2] = ["start loaded", "ready"];
 
 /// Starts a node's process, with its number.
 fn spawn_as(rt: &HostRuntime, dir: &str, number: &str) -> Result<Child, Fail> {
     let test = "nodes::acts_as_a_node";
     let variables = [("TOKENTREE_ID", number), ("TOKENTREE_DIR", dir)];
+    started(rt, copy(rt, test, &variables)?, Stdio::null())
+}
+
+/// Starts a node's process, with its number, which keeps a record.
+pub fn spawn_recorded(rt: &HostRuntime, dir: &str, number: &str) -> Result<Child, Fail> {
+    let test = "nodes::acts_as_a_node";
+    let variables = [
+        ("TOKENTREE_ID", number),
+        ("TOKENTREE_DIR", dir),
+        ("TOKENTREE_RECORD", ""),
+    ];
     started(rt, copy(rt, test, &variables)?, Stdio::null())
 }
 
@@ -133,7 +149,7 @@ fn prints(rt: &HostRuntime, child: &mut Child, lines: [&str; 2]) -> Result<bool,
 }
 
 /// Fails unless a process prints these lines next.
-fn begins(rt: &HostRuntime, child: &mut Child, lines: [&str; 2]) -> Result<(), Fail> {
+pub fn begins(rt: &HostRuntime, child: &mut Child, lines: [&str; 2]) -> Result<(), Fail> {
     hold(
         prints(rt, child, lines)?,
         "a node prints something else first",
@@ -205,7 +221,7 @@ fn ends_well(child: &mut Child) -> Result<bool, Fail> {
 
 /// Makes a node's stop file. Returns whether its process ends with status 0, removes that file and
 /// its sockets, and has said exactly this on standard error.
-fn stops_with(
+pub fn stops_with(
     rt: &HostRuntime,
     dir: &str,
     id: u16,

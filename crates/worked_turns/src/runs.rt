@@ -7,7 +7,7 @@ use crate::ends::StageDoors;
 use crate::replay::{Counts, Replay, Wrong};
 use crate::stage::Stage;
 use crate::wires::Mistake;
-use node_loop::NodeRun;
+use node_loop::{NodeRun, Notes};
 use node_state_file::{MOST_BYTES, MemoryStore, decode};
 use pace::Manner;
 use std::alloc::{AllocError, Global};
@@ -113,10 +113,10 @@ fn stir_client(stage: &Stage, node: u16, draws: &mut Draws) {
 /// A turn if one is due, else what a node does between two turns. Returns whether it was a turn.
 fn turn_once(run: &mut Run<'_>, now: u64) -> bool {
     if run.is_turn_due(now) {
-        run.turn(now);
+        run.turn(now, &mut Notes::none());
         true
     } else {
-        run.attend(now);
+        run.attend(now, &mut Notes::none());
         false
     }
 }

@@ -6,6 +6,7 @@ ghost use Rattle.node_core.specs.View.{site_in};
 ghost use Rattle.node_loop.specs.Moments.{AtBoth};
 
 use crate::doors::{Door, Doors};
+use crate::notes::Notes;
 use crate::run::NodeRun;
 use crate::{lobby, service};
 use node_state_file::Store;
@@ -16,17 +17,19 @@ const COMERS: usize = 64;
 
 impl<D: Doors, S: Store + Drop, A: Allocator + Copy> NodeRun<D, S, A> {
     ghost use Rattle.node_loop.specs.Clients.{AreConnected};
-    ghost use Rattle.node_loop.specs.Hearing.{AreWired, Listens, Wires};
+    ghost use Rattle.node_loop.specs.Hearing.{AreWired, Wires};
     ghost use Rattle.node_loop.specs.Lives.{Admits, StillLive};
+    ghost use Rattle.node_loop.specs.Noting.{DidListen, emptied};
     ghost use Rattle.node_loop.specs.Remembering.{Remembers};
     ghost use Rattle.node_loop.specs.Said.{HasAnswered};
     ghost use Rattle.node_loop.specs.Moments.{moment_of};
 
     /// First part of a turn: the node takes all that came, and clients that are gone leave.
-    pub(super) fn listen(&mut self, now: u64)
-        ensures listens { Listens D.P.gave D.P.took D.P.counts
+    pub(super) fn listen(&mut self, now: u64, notes: &mut Notes<A>)
+        ensures listens { DidListen D.P.gave D.P.took D.P.counts
             (moment_of self.old.node self.old.ports.items self.old.pace self.old.let_go)
-            (moment_of self.new.node self.new.ports.items self.new.pace self.new.let_go) }
+            (moment_of self.new.node self.new.ports.items self.new.pace self.new.let_go)
+            (emptied notes.old) notes.new }
         ensures connected { AreConnected self.new.clients self.new.node }
         ensures lives { StillLive D.P.gave D.P.took D.P.counts self.old.clients self.new.clients }
         ensures answers { HasAnswered D.P.took (site_in self.old.node) self.old.clients
@@ -40,10 +43,11 @@ impl<D: Doors, S: Store + Drop, A: Allocator + Copy> NodeRun<D, S, A> {
         self.accept_clients();
         self.hear_hellos();
         self.connect();
-        self.pull_all(now);
+        notes.begin();
+        self.pull_all(now, notes);
         let was_lent = self.node.lent().is_some();
-        self.has_more |= service::serve_all(&mut self.node, &mut self.clients);
-        service::leave_absent(&mut self.node, &self.clients);
+        self.has_more |= service::serve_all(&mut self.node, notes, &mut self.clients);
+        service::leave_absent(&mut self.node, notes, &self.clients);
         let lets_go = was_lent && self.node.lent().is_none();
         self.let_go = lets_go || (self.let_go && !self.has_ticked);
         self.has_ticked = false;

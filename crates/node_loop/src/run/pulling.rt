@@ -4,6 +4,7 @@ ghost use Rattle.std.specs.Prelude.{IsTrue};
 ghost use Rattle.node_core.specs.View.{site_in};
 
 use crate::doors::Doors;
+use crate::notes::Notes;
 use crate::run::NodeRun;
 use crate::sight;
 use node_core::Item;
@@ -15,32 +16,34 @@ use std::alloc::Allocator;
 const FRAMES: usize = 64;
 
 impl<D: Doors, S: Store + Drop, A: Allocator + Copy> NodeRun<D, S, A> {
-    ghost use Rattle.node_loop.specs.Hearing.{Comes, Hears, Pulls, TakesAt};
+    ghost use Rattle.node_loop.specs.Hearing.{Comes, Pulls};
+    ghost use Rattle.node_loop.specs.Noting.{DidHear, DidTake};
     ghost use Rattle.node_loop.specs.Remembering.{Remembers};
 
     /// Takes the frames that neighbours sent.
-    pub(super) fn pull_all(&mut self, now: u64)
-        ensures hears { Hears D.P.gave D.P.took D.P.counts self.old.node self.new.node
-            self.old.ports.items self.new.ports.items }
+    pub(super) fn pull_all(&mut self, now: u64, notes: &mut Notes<A>)
+        ensures hears { DidHear D.P.gave D.P.took D.P.counts self.old.node self.new.node
+            self.old.ports.items self.new.ports.items notes.old notes.new }
         ensures pace { Remembers self.old.pace self.new.pace }
         ensures rest { (self.new.net ≡ self.old.net) × (self.new.turns ≡ self.old.turns)
             × (self.new.store ≡ self.old.store) × (self.new.clients ≡ self.old.clients) }
     {
         for id in 0..self.net.nodes() {
-            self.pull(id, now);
+            self.pull(id, now, notes);
         }
     }
 
     /// Takes the frames that one neighbour sent.
-    fn pull(&mut self, id: u16, now: u64)
-        ensures takes { TakesAt (Pulls (site_in self.old.node).ranges D.P.gave D.P.took D.P.counts)
-            id self.old.node self.new.node self.old.ports.items self.new.ports.items }
+    fn pull(&mut self, id: u16, now: u64, notes: &mut Notes<A>)
+        ensures takes { DidTake (Pulls (site_in self.old.node).ranges D.P.gave D.P.took D.P.counts)
+            id self.old.node self.new.node self.old.ports.items self.new.ports.items
+            notes.old notes.new }
         ensures pace { Remembers self.old.pace self.new.pace }
         ensures rest { (self.new.net ≡ self.old.net) × (self.new.turns ≡ self.old.turns)
             × (self.new.store ≡ self.old.store) × (self.new.clients ≡ self.old.clients) }
     {
         for _ in 0..FRAMES {
-            if !self.pull_one(id, now) {
+            if !self.pull_one(id, now, notes) {
                 return;
             }
         }
@@ -48,13 +51,15 @@ impl<D: Doors, S: Store + Drop, A: Allocator + Copy> NodeRun<D, S, A> {
     }
 
     /// Takes the next frame that a neighbour sent. Returns false if there is none.
-    fn pull_one(&mut self, id: u16, now: u64) -> bool
+    fn pull_one(&mut self, id: u16, now: u64, notes: &mut Notes<A>) -> bool
         ensures came { IsTrue result
-            → TakesAt (Comes (site_in self.old.node).ranges D.P.gave D.P.took)
-            id self.old.node self.new.node self.old.ports.items self.new.ports.items }
+            → DidTake (Comes (site_in self.old.node).ranges D.P.gave D.P.took)
+            id self.old.node self.new.node self.old.ports.items self.new.ports.items
+            notes.old notes.new }
         ensures ended { result ≡ false
-            → TakesAt (Pulls (site_in self.old.node).ranges D.P.gave D.P.took D.P.counts)
-            id self.old.node self.new.node self.old.ports.items self.new.ports.items }
+            → DidTake (Pulls (site_in self.old.node).ranges D.P.gave D.P.took D.P.counts)
+            id self.old.node self.new.node self.old.ports.items self.new.ports.items
+            notes.old notes.new }
         ensures pace { Remembers self.old.pace self.new.pace }
         ensures rest { (self.new.net ≡ self.old.net) × (self.new.turns ≡ self.old.turns)
             × (self.new.store ≡ self.old.store) × (self.new.clients ≡ self.old.clients) }
@@ -68,6 +73,7 @@ impl<D: Doors, S: Store + Drop, A: Allocator + Copy> NodeRun<D, S, A> {
             Pull::Broken => return false,
         };
         self.node.take(id, &Item::Frame(frame));
+        notes.takes(id, frame);
         let trees = sight::trees(&self.node, &self.net);
         let _hearing = self.pace.heard(id as usize, &frame, &trees, now);
         true

@@ -9,6 +9,7 @@ ghost use Rattle.node_loop.specs.Moments.{AtBoth};
 ghost use Rattle.node_loop.specs.Speaking.{SpeaksTo, sent_if};
 
 use crate::doors::Doors;
+use crate::notes::Notes;
 use crate::port::NodePort;
 use crate::run::NodeRun;
 use crate::service;
@@ -22,16 +23,15 @@ use topology::Frame;
 
 impl<D: Doors, S: Store + Drop, A: Allocator + Copy> NodeRun<D, S, A> {
     ghost use Rattle.node_loop.specs.Clients.{AreConnected, IsTold};
-    ghost use Rattle.node_loop.specs.Deeds.{Acts, Became, IsLeave};
+    ghost use Rattle.node_loop.specs.Noting.{after_all, sends_if, DidAct, DidSpeak};
     ghost use Rattle.node_loop.specs.Lives.{LiveOn};
     ghost use Rattle.node_loop.specs.Remembering.{Remembers};
     ghost use Rattle.node_loop.specs.Said.{NothingSaid};
-    ghost use Rattle.node_loop.specs.Speaking.{Speaks};
     ghost use Rattle.node_loop.specs.Moments.{moment_of};
 
     /// Second part of a turn: one tick.
-    pub(super) fn tick(&mut self, now: u64) -> Ticked
-        ensures node { Acts result self.old.node self.new.node }
+    pub(super) fn tick(&mut self, now: u64, notes: &mut Notes<A>) -> Ticked
+        ensures node { DidAct result self.old.node self.new.node notes.old notes.new }
         // The client whose loan it began or ended hears of it.
         ensures reported { IsTold result.act self.old.clients self.new.clients }
         ensures ports { (self.new.ports ≡ self.old.ports) × (self.new.let_go ≡ self.old.let_go) }
@@ -43,7 +43,7 @@ impl<D: Doors, S: Store + Drop, A: Allocator + Copy> NodeRun<D, S, A> {
             × (self.new.store ≡ self.old.store) }
     {
         let before = sight::values(&self.node);
-        let ticked = service::tick(&mut self.node, &mut self.clients);
+        let ticked = service::tick(&mut self.node, notes, &mut self.clients);
         let moved = sight::values(&self.node) != before;
         let outlook = sight::outlook(&self.node, self.let_go);
         let trees = sight::trees(&self.node, &self.net);
@@ -53,11 +53,11 @@ impl<D: Doors, S: Store + Drop, A: Allocator + Copy> NodeRun<D, S, A> {
     }
 
     /// Third part of a turn: frames on the ports of the plan, and answers to clients.
-    pub(super) fn speak(&mut self, offers: &[bool; NODES], now: u64)
-        ensures spoken { Speaks D.P.gave D.P.took D.P.counts offers.now now
+    pub(super) fn speak(&mut self, offers: &[bool; NODES], now: u64, notes: &mut Notes<A>)
+        ensures spoken { DidSpeak D.P.gave D.P.took D.P.counts offers.now now
             (moment_of self.old.node self.old.ports.items self.old.pace self.old.let_go)
-            (moment_of self.new.node self.new.ports.items self.new.pace self.new.let_go) }
-        ensures node { Became IsLeave self.old.node self.new.node }
+            (moment_of self.new.node self.new.ports.items self.new.pace self.new.let_go)
+            notes.old notes.new }
         ensures connected { AreConnected self.old.clients self.old.node
             → AreConnected self.new.clients self.new.node }
         ensures lives { LiveOn D.P.gave D.P.took D.P.counts self.old.clients self.new.clients }
@@ -66,14 +66,14 @@ impl<D: Doors, S: Store + Drop, A: Allocator + Copy> NodeRun<D, S, A> {
             × (self.new.store ≡ self.old.store) }
     {
         for id in 0..self.net.nodes() {
-            let _accepted = self.speak_to(id, offers[id as usize], now);
+            let _accepted = self.speak_to(id, offers[id as usize], now, notes);
         }
-        service::write_all(&mut self.node, &mut self.clients);
+        service::write_all(&mut self.node, notes, &mut self.clients);
     }
 
     /// Writes what is left of the last line to a neighbour, and then a frame, if one is offered.
     /// Returns whether it was accepted.
-    fn speak_to(&mut self, id: u16, offered: bool, now: u64) -> bool
+    fn speak_to(&mut self, id: u16, offered: bool, now: u64, notes: &mut Notes<A>) -> bool
         ensures spoken { Contains (site_in self.old.node).neighbours id
             → AtBoth (SpeaksTo D.P.gave D.P.took D.P.counts
             (frame_of ((state_of self.old.node).port id)) offered now
@@ -84,6 +84,8 @@ impl<D: Doors, S: Store + Drop, A: Allocator + Copy> NodeRun<D, S, A> {
             → (slice_get self.new.ports.items id ≡ slice_get self.old.ports.items id)
             × (port_of self.new.pace.ports id ≡ port_of self.old.pace.ports id) }
         ensures known { IsTrue result → Contains (site_in self.old.node).neighbours id }
+        ensures noted { notes.new ≡ after_all
+            (sends_if result id (frame_of ((state_of self.old.node).port id))) notes.old }
         ensures others { (w : ℕ) → w ≢ id
             → (slice_get self.new.ports.items w ≡ slice_get self.old.ports.items w)
             × (port_of self.new.pace.ports w ≡ port_of self.old.pace.ports w) }
@@ -99,7 +101,9 @@ impl<D: Doors, S: Store + Drop, A: Allocator + Copy> NodeRun<D, S, A> {
             return false;
         }
         let frame = self.node.frame_for(id);
-        speak_at(&mut self.ports, &mut self.pace, id, &frame, offered, now)
+        let is_accepted = speak_at(&mut self.ports, &mut self.pace, id, &frame, offered, now);
+        notes.offers(id, &frame, is_accepted);
+        is_accepted
     }
 }
 

@@ -2,12 +2,12 @@ use Rattle.std.proofs.Common.{◌≡◌, false, ap, subst}
 use Rattle.lock_desk.specs.Desk.{is_stranger}
 use Rattle.node_loop.specs.Clients.{is_connected}
 use Rattle.node_loop.specs.Deeds.{IsLeave, Leaves}
-use Rattle.node_loop.proofs.Became.{one}
+use Rattle.node_loop.proofs.Noting.{did-one}
 use Rattle.node_loop.proofs.Leaving.{dismissed}
 use Rattle.node_loop.proofs.service.dismiss.Goals as goal
 
 pub returns-clause-node : goal.returns-clause-node
-returns-clause-node g c = one IsLeave (Leaves c.args.ticket) c.args.node.now c.leave.new.node tt c.leave.ensures.site c.leave.ensures.state
+returns-clause-node g c = did-one IsLeave (Leaves c.args.ticket) c.args.node.now c.leave.new.node c.args.notes.now c.leave.new.notes tt c.leave.ensures.site c.leave.ensures.state c.leave.ensures.noted
 
 pub returns-clause-connected : goal.returns-clause-connected
 returns-clause-connected g c were t known =

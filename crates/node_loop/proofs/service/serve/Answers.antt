@@ -3,7 +3,18 @@ use Rattle.slab.specs.Slab.{get}
 use Rattle.node_core.specs.View.{site_in}
 use Rattle.node_loop.proofs.Lives.{got-at, later-at, live-one, live-join, live-gone, others-join, closed-gone}
 use Rattle.node_loop.proofs.Saying.{answered-join, answered-nothing, answers-same, nothing-gone, nothing-read}
+use Rattle.node_loop.specs.Deeds.{IsOfClient}
+use Rattle.node_loop.proofs.Noting.{did-none, leaves-did}
 use Rattle.node_loop.proofs.service.serve.Goals as goal
+
+pub returns-in-Later-clause-node : goal.returns-in-Later-clause-node
+returns-in-Later-clause-node g c = did-none IsOfClient c.args.node.now c.args.notes.now
+
+pub returns-in-Closed-clause-node : goal.returns-in-Closed-clause-node
+returns-in-Closed-clause-node g c = leaves-did c.args.node.now c.dismiss.new.node c.args.notes.now c.dismiss.new.notes c.dismiss.ensures.node
+
+pub returns-in-Failed-clause-node : goal.returns-in-Failed-clause-node
+returns-in-Failed-clause-node g c = leaves-did c.args.node.now c.dismiss-in-Failed.new.node c.args.notes.now c.dismiss-in-Failed.new.notes c.dismiss-in-Failed.ensures.node
 
 pub returns-in-Got-clause-lives : goal.returns-in-Got-clause-lives
 returns-in-Got-clause-lives g c =

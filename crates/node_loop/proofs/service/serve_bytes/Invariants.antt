@@ -1,9 +1,10 @@
 use Rattle.node_core.specs.View.{site_in}
-use Rattle.node_loop.specs.Deeds.{Became, IsOfClient}
+use Rattle.node_loop.specs.Deeds.{IsOfClient}
 use Rattle.node_loop.specs.Lives.{LiveOn}
+use Rattle.node_loop.specs.Noting.{Did}
 use Rattle.node_loop.specs.Said.{AreAnswered}
 use Rattle.node_loop.proofs.service.serve_bytes.Given as goal
 
 abbrev pub invariant-loop-byte : goal.invariant-loop-byte
-invariant-loop-byte g l = Became IsOfClient l.fn.node l.node × LiveOn g.P.Pipe.gave g.P.Pipe.took g.P.Pipe.counts l.fn.clients l.clients
+invariant-loop-byte g l = Did IsOfClient l.fn.node l.node l.fn.notes l.notes × LiveOn g.P.Pipe.gave g.P.Pipe.took g.P.Pipe.counts l.fn.clients l.clients
     × AreAnswered g.P.Pipe.took (site_in l.fn.node) l.fn.clients l.clients

@@ -1,13 +1,13 @@
 use Rattle.std.proofs.Common.{◌∙◌, refl}
 use Rattle.node_loop.specs.Deeds.{IsLeave}
-use Rattle.node_loop.proofs.Became.{joins, stays}
+use Rattle.node_loop.proofs.Noting.{did-joins, did-none}
 use Rattle.node_loop.proofs.Lives.{stay, live-one, live-join, live-gone, others-join, closed-gone}
 use Rattle.node_loop.proofs.Saying.{answers-same, nothing-gone, nothing-join, nothing-same}
 use Rattle.node_loop.proofs.service.write_all.Goals.{then-not-write, else-not-write}
 use Rattle.node_loop.proofs.service.write_all.Goals as goal
 
 pub loop-ticket-init : goal.loop-ticket-init
-loop-ticket-init g c = (stays IsLeave c.args.node.now, λ were. were, stay g.P.Pipe.gave g.P.Pipe.took g.P.Pipe.counts c.args.clients.now c.args.clients.now refl, nothing-same g.P.Pipe.took c.args.clients.now c.args.clients.now refl refl)
+loop-ticket-init g c = (did-none IsLeave c.args.node.now c.args.notes.now, λ were. were, stay g.P.Pipe.gave g.P.Pipe.took g.P.Pipe.counts c.args.clients.now c.args.clients.now refl, nothing-same g.P.Pipe.took c.args.clients.now c.args.clients.now refl refl)
 
 pub loop-ticket-preserved : goal.loop-ticket-preserved
 loop-ticket-preserved g c =
@@ -17,8 +17,8 @@ loop-ticket-preserved g c =
     let t = c.loop-ticket.ticket in
     let before = c.loop-ticket.invariant in
     elim c.if-not-write.branch [
-      | then-not-write w ↦ rw (w.node-is, w.clients-is) (
-        joins IsLeave c.args.node.now c.loop-ticket.node w.dismiss.new.node before.0 w.dismiss.ensures.node,
+      | then-not-write w ↦ rw (w.node-is, w.notes-is, w.clients-is) (
+        did-joins IsLeave c.args.node.now c.loop-ticket.node w.dismiss.new.node c.args.notes.now c.loop-ticket.notes w.dismiss.new.notes before.0 w.dismiss.ensures.node,
         λ were. w.dismiss.ensures.connected (λ u known. c.write.ensures.same u ∙ before.1 were u known),
         live-join g.P.Pipe.gave g.P.Pipe.took g.P.Pipe.counts old mid w.dismiss.new.clients before.2
             (live-gone g.P.Pipe.gave g.P.Pipe.took g.P.Pipe.counts t mid w.dismiss.new.clients (others-join t mid written w.dismiss.new.clients c.write.ensures.others_stay w.dismiss.ensures.others)
@@ -28,7 +28,7 @@ loop-ticket-preserved g c =
             (λ u o. answers-same g.P.Pipe.took written w.dismiss.new.clients w.dismiss.ensures.answers u ∙ c.write.ensures.others u o)
             (closed-gone t written w.dismiss.new.clients w.dismiss.ensures.closed)),
       )
-      | else-not-write w ↦ rw (w.node-is, w.clients-is) (
+      | else-not-write w ↦ rw (w.node-is, w.notes-is, w.clients-is) (
         before.0,
         λ were u known. c.write.ensures.same u ∙ before.1 were u known,
         live-join g.P.Pipe.gave g.P.Pipe.took g.P.Pipe.counts old mid written before.2 (live-one g.P.Pipe.gave g.P.Pipe.took g.P.Pipe.counts t mid written c.write.ensures.others_stay (w.if-not-write.ensures.lives refl)),

@@ -1,38 +1,44 @@
 use Rattle.std.proofs.Common.{ap, refl}
 use Rattle.node_loop.proofs.Lives.{still-join}
+use Rattle.node_loop.specs.Noting.{emptied}
+use Rattle.node_loop.proofs.Noting.{turn-grown}
 use Rattle.node_loop.proofs.Turning.{turn-leads}
 use Rattle.node_loop.proofs.run.NodeRun.act.Goals as goal
 
-pub returns-clause-turns : goal.returns-clause-turns
-returns-clause-turns g c =
+pub returns-clause-noted : goal.returns-clause-noted
+returns-clause-noted g c =
     let listens = c.listen.ensures.listens in
     let acts = c.tick-ticked.ensures.node in
     let speaks = c.speak.ensures.spoken in
     record {
-      heard = record {
-        node = c.listen.new.self.node;
-        ports = c.listen.new.self.ports.items;
-        pace = c.listen.new.self.pace;
-        let_go = c.listen.new.self.let_go;
+      turns = record {
+        heard = record {
+          node = c.listen.new.self.node;
+          ports = c.listen.new.self.ports.items;
+          pace = c.listen.new.self.pace;
+          let_go = c.listen.new.self.let_go;
+        };
+        acted = record {
+          node = c.tick-ticked.new.self.node;
+          ports = c.tick-ticked.new.self.ports.items;
+          pace = c.tick-ticked.new.self.pace;
+          let_go = c.tick-ticked.new.self.let_go;
+        };
+        plan = c.plan-plan.result;
+        listens = listens.listens;
+        acts = acts.acts;
+        ports = ap (λ ports. ports.items) c.tick-ticked.ensures.ports.0;
+        remembers = c.tick-ticked.ensures.pace;
+        plans = c.plan-plan.ensures;
+        speaks = speaks.speaks;
+        leaves = speaks.leaves;
+        account = _;
+        account_is = refl;
+        leads = turn-leads c.tick-ticked.result c.args.self.now.node listens.listens.heard c.listen.new.self.node c.tick-ticked.new.self.node c.speak.new.self.node speaks.speaks.sends listens.listens.hears.takes listens.listens.serves acts.acts
+            speaks.speaks.leads speaks.leaves;
       };
-      acted = record {
-        node = c.tick-ticked.new.self.node;
-        ports = c.tick-ticked.new.self.ports.items;
-        pace = c.tick-ticked.new.self.pace;
-        let_go = c.tick-ticked.new.self.let_go;
-      };
-      plan = c.plan-plan.result;
-      listens = listens;
-      acts = acts;
-      ports = ap (λ ports. ports.items) c.tick-ticked.ensures.ports.0;
-      remembers = c.tick-ticked.ensures.pace;
-      plans = c.plan-plan.ensures;
-      speaks = speaks;
-      leaves = c.speak.ensures.node;
-      account = _;
-      account_is = refl;
-      leads = turn-leads c.tick-ticked.result c.args.self.now.node listens.heard c.listen.new.self.node c.tick-ticked.new.self.node c.speak.new.self.node speaks.sends listens.hears.takes listens.serves acts
-          speaks.leads c.speak.ensures.node;
+      noted = turn-grown listens.listens.hears.takes.deeds listens.listens.serves.deeds acts.acts.leaves.deeds speaks.speaks.sends speaks.leaves.deeds (emptied c.args.notes.now) c.listen.new.notes c.tick-ticked.new.notes c.speak.new.notes
+          listens.noted acts.noted speaks.noted;
     }
 
 pub returns-clause-lives : goal.returns-clause-lives

@@ -1,30 +1,38 @@
 use Rattle.std.proofs.Common.{refl}
 use Rattle.node_loop.proofs.Lives.{still-join}
+use Rattle.node_loop.specs.Noting.{emptied}
+use Rattle.node_loop.proofs.Noting.{attend-grown}
 use Rattle.node_loop.proofs.Turning.{attend-leads}
 use Rattle.node_core.specs.View.{site_in}
 use Rattle.node_loop.proofs.Saying.{has-nothing}
 use Rattle.node_loop.proofs.run.NodeRun.attend.Goals as goal
 
-pub returns-clause-attends : goal.returns-clause-attends
-returns-clause-attends g c =
+pub returns-clause-noted : goal.returns-clause-noted
+returns-clause-noted g c =
     let listens = c.listen.ensures.listens in
     let speaks = c.speak.ensures.spoken in
     record {
-      heard = record {
-        node = c.listen.new.self.node;
-        ports = c.listen.new.self.ports.items;
-        pace = c.listen.new.self.pace;
-        let_go = c.listen.new.self.let_go;
+      attends = record {
+        heard = record {
+          node = c.listen.new.self.node;
+          ports = c.listen.new.self.ports.items;
+          pace = c.listen.new.self.pace;
+          let_go = c.listen.new.self.let_go;
+        };
+        plan = c.plan-plan.result;
+        listens = listens.listens;
+        plans = c.plan-plan.ensures;
+        speaks = speaks.speaks;
+        leaves = speaks.leaves;
+        account = _;
+        account_is = refl;
+        leads = attend-leads c.args.self.now.node listens.listens.heard c.listen.new.self.node c.speak.new.self.node speaks.speaks.sends listens.listens.hears.takes listens.listens.serves speaks.speaks.leads speaks.leaves;
       };
-      plan = c.plan-plan.result;
-      listens = listens;
-      plans = c.plan-plan.ensures;
-      speaks = speaks;
-      leaves = c.speak.ensures.node;
-      account = _;
-      account_is = refl;
-      leads = attend-leads c.args.self.now.node listens.heard c.listen.new.self.node c.speak.new.self.node speaks.sends listens.hears.takes listens.serves speaks.leads c.speak.ensures.node;
+      noted = attend-grown listens.listens.hears.takes.deeds listens.listens.serves.deeds speaks.speaks.sends speaks.leaves.deeds (emptied c.args.notes.now) c.listen.new.notes c.speak.new.notes listens.noted speaks.noted;
     }
+
+pub returns-clause-attends : goal.returns-clause-attends
+returns-clause-attends g c = (returns-clause-noted g c).attends
 
 pub returns-clause-lives : goal.returns-clause-lives
 returns-clause-lives g c =

@@ -1,7 +1,9 @@
 use Rattle.std.specs.Prelude.{IsTrue}
 use Rattle.std.proofs.Common.{◌∙◌, ap, refl, rules, subst}
-use Rattle.node_loop.specs.Hearing.{Comes, Pulls, TakesAt}
-use Rattle.node_loop.proofs.Hearing.{takes-none, takes-join, comes-none, comes-join, comes-then, takes-end}
+use Rattle.node_loop.specs.Hearing.{Comes, Pulls}
+use Rattle.node_loop.specs.Noting.{DidTake}
+use Rattle.node_loop.proofs.Hearing.{takes-none, comes-none, comes-join, comes-then, takes-end}
+use Rattle.node_loop.proofs.Noting.{take-join}
 use Rattle.node_loop.proofs.Remembering.{remembers-join, remembers-same}
 use Rattle.node_loop.proofs.run.NodeRun.pull.Goals as goal
 
@@ -9,7 +11,7 @@ pub loop-init : goal.loop-init
 loop-init g c =
     let self = c.args.self.now in
     let r = self.node.registers.ranges in (
-      takes-none (Comes r g.D.P.Pipe.gave g.D.P.Pipe.took) (comes-none r g.D.P.Pipe.gave g.D.P.Pipe.took g.D.P.Pipe.counts) c.args.id self.node self.ports.items,
+      record { takes = takes-none (Comes r g.D.P.Pipe.gave g.D.P.Pipe.took) (comes-none r g.D.P.Pipe.gave g.D.P.Pipe.took g.D.P.Pipe.counts) c.args.id self.node self.ports.items; noted = refl },
       refl,
       refl,
       refl,
@@ -25,11 +27,11 @@ loop-preserved g c =
     let before = c.loop.invariant in
     let mid = c.loop.self in
     let new = c.pull_one.new.self in
-    let same = ap (λ s. s.ranges) before.0.takes.site in
+    let same = ap (λ s. s.ranges) before.0.takes.takes.site in
     let more : IsTrue c.pull_one.result = search rules in
     let rest = c.pull_one.ensures.rest in (
-      takes-join comes comes comes (comes-join r g.D.P.Pipe.gave g.D.P.Pipe.took g.D.P.Pipe.counts) c.args.id self.node mid.node new.node self.ports.items mid.ports.items new.ports.items before.0
-          (subst (λ x. TakesAt (Comes x g.D.P.Pipe.gave g.D.P.Pipe.took) c.args.id mid.node new.node mid.ports.items new.ports.items) same (c.pull_one.ensures.came more)),
+      take-join comes comes comes (comes-join r g.D.P.Pipe.gave g.D.P.Pipe.took g.D.P.Pipe.counts) c.args.id self.node mid.node new.node self.ports.items mid.ports.items new.ports.items c.args.notes.now c.loop.notes c.pull_one.new.notes before.0
+          (subst (λ x. DidTake (Comes x g.D.P.Pipe.gave g.D.P.Pipe.took) c.args.id mid.node new.node mid.ports.items new.ports.items c.loop.notes c.pull_one.new.notes) same (c.pull_one.ensures.came more)),
       rest.0 ∙ before.1,
       rest.1 ∙ before.2,
       rest.2 ∙ before.3,
@@ -46,11 +48,14 @@ returns-then-not-pull_one-clause-takes g c =
     let before = c.loop.invariant in
     let mid = c.loop.self in
     let new = c.pull_one.new.self in
-    let same = ap (λ s. s.ranges) before.0.takes.site in
-    takes-join comes pulls pulls (comes-then r g.D.P.Pipe.gave g.D.P.Pipe.took g.D.P.Pipe.counts) c.args.id self.node mid.node new.node self.ports.items mid.ports.items new.ports.items before.0
-    (subst (λ x. TakesAt (Pulls x g.D.P.Pipe.gave g.D.P.Pipe.took g.D.P.Pipe.counts) c.args.id mid.node new.node mid.ports.items new.ports.items) same (c.pull_one.ensures.ended c.if-not-pull_one.true))
+    let same = ap (λ s. s.ranges) before.0.takes.takes.site in
+    take-join comes pulls pulls (comes-then r g.D.P.Pipe.gave g.D.P.Pipe.took g.D.P.Pipe.counts) c.args.id self.node mid.node new.node self.ports.items mid.ports.items new.ports.items c.args.notes.now c.loop.notes c.pull_one.new.notes before.0
+    (subst (λ x. DidTake (Pulls x g.D.P.Pipe.gave g.D.P.Pipe.took g.D.P.Pipe.counts) c.args.id mid.node new.node mid.ports.items new.ports.items c.loop.notes c.pull_one.new.notes) same (c.pull_one.ensures.ended c.if-not-pull_one.true))
 
 pub returns-clause-takes : goal.returns-clause-takes
 returns-clause-takes g c =
     let r = c.args.self.now.node.registers.ranges in
-    takes-end r g.D.P.Pipe.gave g.D.P.Pipe.took g.D.P.Pipe.counts c.args.id c.args.self.now.node c.loop.self.node c.args.self.now.ports.items c.loop.self.ports.items c.loop.invariant.0
+    record {
+      takes = takes-end r g.D.P.Pipe.gave g.D.P.Pipe.took g.D.P.Pipe.counts c.args.id c.args.self.now.node c.loop.self.node c.args.self.now.ports.items c.loop.self.ports.items c.loop.invariant.0.takes;
+      noted = c.loop.invariant.0.noted;
+    }

@@ -1,4 +1,4 @@
-use Rattle.std.proofs.Common.{◌≡◌, ◌<◌, ◌∷◌, [], Contains, length, ap, rules, subst, sym, ◌∙◌}
+use Rattle.std.proofs.Common.{◌≡◌, ◌<◌, ◌∷◌, [], Contains, length, ap, refl, rules, subst, sym, ◌∙◌}
 use Rattle.std.specs.Prelude.{slice_set}
 use Rattle.std.proofs.lemmas.List.{length-set}
 use Rattle.node_core.specs.Site.{Site, site_of}
@@ -15,7 +15,7 @@ pub returns-then-not-is_neighbour-clause-ended : goal.returns-then-not-is_neighb
 returns-then-not-is_neighbour-clause-ended g c _ =
     let self = c.args.self.now in
     let r = self.node.registers.ranges in
-    takes-none (Pulls r g.D.P.Pipe.gave g.D.P.Pipe.took g.D.P.Pipe.counts) (pulls-same r g.D.P.Pipe.gave g.D.P.Pipe.took g.D.P.Pipe.counts) c.args.id self.node self.ports.items
+    record { takes = takes-none (Pulls r g.D.P.Pipe.gave g.D.P.Pipe.took g.D.P.Pipe.counts) (pulls-same r g.D.P.Pipe.gave g.D.P.Pipe.took g.D.P.Pipe.counts) c.args.id self.node self.ports.items; noted = refl }
 
 pub returns-in-Later-clause-ended : goal.returns-in-Later-clause-ended
 returns-in-Later-clause-ended g c _ =
@@ -27,10 +27,13 @@ returns-in-Later-clause-ended g c _ =
     let ranges : r ≡ ranges_of self.net = ap (λ s. s.ranges) self.wired in
     let within : id < length self.ports.items = search rules in
     let pulled : Pulled r g.D.P.Pipe.gave g.D.P.Pipe.took g.D.P.Pipe.counts old.link new.link pull.Later = rw ranges (rw c.in-Later.is at c.pull.ensures.pulled) in
-    takes-nothing (Pulls r g.D.P.Pipe.gave g.D.P.Pipe.took g.D.P.Pipe.counts) id self.node self.ports.items _
-    (both-set (Pulls r g.D.P.Pipe.gave g.D.P.Pipe.took g.D.P.Pipe.counts []) self.ports.items id old new within c.index_mut.ensures.value
-    (later-came r g.D.P.Pipe.gave g.D.P.Pipe.took g.D.P.Pipe.counts old new pulled c.pull.ensures.rest))
-    (others-set self.ports.items id new)
+    record {
+      takes = takes-nothing (Pulls r g.D.P.Pipe.gave g.D.P.Pipe.took g.D.P.Pipe.counts) id self.node self.ports.items _
+          (both-set (Pulls r g.D.P.Pipe.gave g.D.P.Pipe.took g.D.P.Pipe.counts []) self.ports.items id old new within c.index_mut.ensures.value
+          (later-came r g.D.P.Pipe.gave g.D.P.Pipe.took g.D.P.Pipe.counts old new pulled c.pull.ensures.rest))
+          (others-set self.ports.items id new);
+      noted = refl;
+    }
 
 pub returns-in-Broken-clause-ended : goal.returns-in-Broken-clause-ended
 returns-in-Broken-clause-ended g c _ =
@@ -41,10 +44,13 @@ returns-in-Broken-clause-ended g c _ =
     let new = c.pull.new.self in
     let within : id < length self.ports.items = search rules in
     let pulled : Pulled r g.D.P.Pipe.gave g.D.P.Pipe.took g.D.P.Pipe.counts old.link new.link pull.Broken = rw c.in-Broken.is at c.pull.ensures.pulled in
-    takes-nothing (Pulls r g.D.P.Pipe.gave g.D.P.Pipe.took g.D.P.Pipe.counts) id self.node self.ports.items _
-    (both-set (Pulls r g.D.P.Pipe.gave g.D.P.Pipe.took g.D.P.Pipe.counts []) self.ports.items id old new within c.index_mut.ensures.value
-    (broken-came r g.D.P.Pipe.gave g.D.P.Pipe.took g.D.P.Pipe.counts old new pulled c.pull.ensures.rest))
-    (others-set self.ports.items id new)
+    record {
+      takes = takes-nothing (Pulls r g.D.P.Pipe.gave g.D.P.Pipe.took g.D.P.Pipe.counts) id self.node self.ports.items _
+          (both-set (Pulls r g.D.P.Pipe.gave g.D.P.Pipe.took g.D.P.Pipe.counts []) self.ports.items id old new within c.index_mut.ensures.value
+          (broken-came r g.D.P.Pipe.gave g.D.P.Pipe.took g.D.P.Pipe.counts old new pulled c.pull.ensures.rest))
+          (others-set self.ports.items id new);
+      noted = refl;
+    }
 
 pub returns-clause-came : goal.returns-clause-came
 returns-clause-came g c _ =
@@ -58,10 +64,13 @@ returns-clause-came g c _ =
     let has : Contains self.node.registers.neighbours id = search rules in
     let within : id < length self.ports.items = search rules in
     let pulled : Pulled r g.D.P.Pipe.gave g.D.P.Pipe.took g.D.P.Pipe.counts old.link new.link (pull.Frame frame) = rw ranges (rw c.in-Frame.is at c.pull.ensures.pulled) in
-    takes-one (Comes r g.D.P.Pipe.gave g.D.P.Pipe.took) id frame self.node c.take.new.self self.ports.items _ has c.take.ensures.site c.take.ensures.state
-    (both-set (Comes r g.D.P.Pipe.gave g.D.P.Pipe.took (frame ∷ [])) self.ports.items id old new within c.index_mut.ensures.value
-    (frame-came r g.D.P.Pipe.gave g.D.P.Pipe.took g.D.P.Pipe.counts frame old new pulled (rw c.in-Frame.is at c.pull.ensures.loose) c.pull.ensures.rest))
-    (others-set self.ports.items id new)
+    record {
+      takes = takes-one (Comes r g.D.P.Pipe.gave g.D.P.Pipe.took) id frame self.node c.take.new.self self.ports.items _ has c.take.ensures.site c.take.ensures.state
+          (both-set (Comes r g.D.P.Pipe.gave g.D.P.Pipe.took (frame ∷ [])) self.ports.items id old new within c.index_mut.ensures.value
+          (frame-came r g.D.P.Pipe.gave g.D.P.Pipe.took g.D.P.Pipe.counts frame old new pulled (rw c.in-Frame.is at c.pull.ensures.loose) c.pull.ensures.rest))
+          (others-set self.ports.items id new);
+      noted = c.takes.ensures;
+    }
 
 pub invariant_of-self-2-clause-strangers : goal.invariant_of-self-2-clause-strangers
 invariant_of-self-2-clause-strangers g c =

@@ -1,5 +1,10 @@
-use Rattle.std.proofs.Common.{◌≡◌, ◌≤◌, ◌∙◌, ap, refl, subst, arith}
+use Rattle.std.proofs.Common.{◌≡◌, ◌≤◌, ◌∙◌, List, ap, refl, subst, arith}
 use Rattle.node_loop.specs.Lives.{LiveOn}
+use Rattle.data_link.specs.Port.{frame_of}
+use Rattle.node_core.specs.View.{NodeView, state_of}
+use Rattle.node_loop.specs.Deeds.{Deed, IsLeave}
+use Rattle.node_loop.specs.Noting.{after_all, sends_if, Did}
+use Rattle.node_loop.proofs.Noting.{grown}
 use Rattle.node_loop.proofs.Speaking.{spoken-start, spoken-next, spoken-end}
 use Rattle.node_loop.specs.Said.{NothingSaid}
 use Rattle.node_loop.proofs.run.NodeRun.speak.Goals as goal
@@ -11,19 +16,25 @@ loop-id-init g c = (
   refl,
   refl,
   refl,
-  spoken-start g.D.P.Pipe.gave g.D.P.Pipe.took g.D.P.Pipe.counts c.args.offers.now c.args.now _,
+  record { spoken = spoken-start g.D.P.Pipe.gave g.D.P.Pipe.took g.D.P.Pipe.counts c.args.offers.now c.args.now _; noted = refl },
 )
 
 pub loop-id-preserved : goal.loop-id-preserved
 loop-id-preserved g c =
     let before = c.loop-id.invariant in
-    let reported = c.speak_to-accepted.ensures in (
+    let reported = c.speak_to-accepted.ensures in
+    let sends : NodeView → List Deed = λ x. sends_if c.speak_to-accepted.result c.loop-id.id (frame_of ((state_of x).port c.loop-id.id)) in
+    let mid = c.loop-id.notes in
+    let new = c.speak_to-accepted.new.notes in (
       reported.node ∙ before.0,
       reported.rest.0 ∙ before.1,
       reported.rest.1 ∙ before.2,
       reported.rest.2 ∙ before.3,
       reported.clients ∙ before.4,
-      spoken-next g.D.P.Pipe.gave g.D.P.Pipe.took g.D.P.Pipe.counts c.args.offers.now c.args.now _ _ _ c.loop-id.id c.speak_to-accepted.result before.5 reported.node reported.let_go reported.spoken reported.silent reported.known reported.others reported.pace,
+      record {
+        spoken = spoken-next g.D.P.Pipe.gave g.D.P.Pipe.took g.D.P.Pipe.counts c.args.offers.now c.args.now _ _ _ c.loop-id.id c.speak_to-accepted.result before.5.spoken reported.node reported.let_go reported.spoken reported.silent reported.known reported.others reported.pace;
+        noted = grown before.5.spoken.sends (sends c.args.self.now.node) c.args.notes.now mid new before.5.noted (subst (λ x. new ≡ after_all (sends x) mid) before.0 reported.noted);
+      },
     )
 
 pub returns-clause-spoken : goal.returns-clause-spoken
@@ -31,7 +42,15 @@ returns-clause-spoken g c =
     let self = c.args.self.now in
     let nodes : self.node.registers.ranges.nodes ≡ self.net.nodes = ap (λ s. s.ranges.nodes) self.wired in
     let all : self.node.registers.ranges.nodes ≤ c.loop-id.id = let end = c.loop-id-test.false in let count = c.nodes-id-end.ensures.nodes in omega arith in
-    spoken-end g.D.P.Pipe.gave g.D.P.Pipe.took g.D.P.Pipe.counts c.args.offers.now c.args.now _ _ _ c.loop-id.id all c.loop-id.invariant.5 refl refl
+    let spoken = c.loop-id.invariant.5 in
+    let mid = c.loop-id.notes in
+    let new = c.write_all.new.notes in
+    let left = subst (λ x. Did IsLeave x c.write_all.new.node mid new) c.loop-id.invariant.0 c.write_all.ensures.node in
+    record {
+      speaks = spoken-end g.D.P.Pipe.gave g.D.P.Pipe.took g.D.P.Pipe.counts c.args.offers.now c.args.now _ _ _ c.loop-id.id all spoken.spoken refl refl;
+      leaves = left.became;
+      noted = grown spoken.spoken.sends left.became.deeds c.args.notes.now mid new spoken.noted left.noted;
+    }
 
 pub returns-clause-lives : goal.returns-clause-lives
 returns-clause-lives g c =

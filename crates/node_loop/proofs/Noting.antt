@@ -1,0 +1,98 @@
+-- What is noted of deeds one after the other.
+use Rattle.std.specs.Prelude.{is_none}
+use Rattle.std.proofs.Common.{◌≡◌, ℕ, Bool, List, Option, [], ◌∷◌, ◌++◌, ◌+◌, ◌∙◌, ap, refl, sym, subst, append_assoc}
+use Rattle.topology.specs.declared.frame.Frame.{Frame}
+use Rattle.socket_links.specs.Counts.{Counts}
+use Rattle.lock_desk.specs.Act.{desk_act}
+use Rattle.node_core.specs.Step.{ticked}
+use Rattle.node_core.specs.View.{NodeView, site_in, state_of}
+use Rattle.node_core.specs.declared.ticked.Ticked.{Ticked}
+use Rattle.node_loop.specs.Deeds.{Deed, IsLeave, IsOfClient, Leads, Ticks}
+use Rattle.node_loop.specs.declared.port.NodePort.{NodePort}
+use Rattle.node_loop.specs.NotesView.{NotesView}
+use Rattle.node_loop.specs.Noting.{after_all, after_note, as_entry, Did, DidAct, DidTake}
+use Rattle.node_loop.specs.Moments.{Moment}
+use Rattle.node_loop.proofs.Speaking.{SpokenTo}
+use Rattle.node_loop.proofs.Hearing.{HeardBelow, heard-next, heard-start, takes-join}
+use Rattle.node_loop.proofs.Became.{joins, leaves-are-clients, one, same, stays}
+
+-- deeds and then deeds
+pub all-join : (ds es : List Deed) (n : NotesView) → after_all (ds ++ es) n ≡ after_all es (after_all ds n)
+all-join [] es n = refl
+all-join (d ∷ ds) es n = all-join ds es (after_note (as_entry d) n)
+
+-- notes that grew by deeds and then by deeds
+pub grown : (ds es : List Deed) (n m o : NotesView) → m ≡ after_all ds n → o ≡ after_all es m → o ≡ after_all (ds ++ es) n
+grown ds es n m o f g = g ∙ (ap (λ x. after_all es x) f ∙ sym (all-join ds es n))
+
+-- no deeds at all
+abbrev pub did-none : (kind : Deed → Type 0) (x : NodeView) (n : NotesView) → Did kind x x n n
+did-none kind x n = record { became = stays kind x; noted = refl }
+
+pub did-same : (kind : Deed → Type 0) (x y : NodeView) (n : NotesView) → site_in y ≡ site_in x → state_of y ≡ state_of x → Did kind x y n n
+did-same kind x y n site state = record { became = same kind x y site state; noted = refl }
+
+-- one deed
+pub did-one : (kind : Deed → Type 0) (d : Deed) (x y : NodeView) (n m : NotesView) → kind d → site_in y ≡ site_in x
+    → Leads (site_in x) (d ∷ []) (state_of x) (state_of y) → m ≡ after_all (d ∷ []) n → Did kind x y n m
+did-one kind d x y n m k site leads noted = record { became = one kind d x y k site leads; noted = noted }
+
+-- deeds and then deeds
+pub did-joins : (kind : Deed → Type 0) (x y z : NodeView) (n m o : NotesView) → Did kind x y n m → Did kind y z m o → Did kind x z n o
+did-joins kind x y z n m o f g = record {
+  became = joins kind x y z f.became g.became;
+  noted = grown f.became.deeds g.became.deeds n m o f.noted g.noted;
+}
+
+pub leaves-did : (x y : NodeView) (n m : NotesView) → Did IsLeave x y n m → Did IsOfClient x y n m
+leaves-did x y n m f = record { became = leaves-are-clients x y f.became; noted = f.noted }
+
+-- a tick, and then some tickets left
+pub did-act : (says : Ticked) (x y z : NodeView) (n m o : NotesView) → says.act ≡ desk_act (state_of x).desk (state_of y).desk → says.full ≡ is_none (state_of y).desk.lent
+    → site_in y ≡ site_in x → state_of y ≡ ticked (site_in x) (state_of x) → m ≡ after_note (as_entry Ticks) n → Did IsLeave y z m o → DidAct says x z n o
+did-act says x y z n m o act full site state ticks f = record {
+  acts = record { acted = y; act = act; full = full; site = site; state = state; leaves = f.became };
+  noted = f.noted ∙ ap (λ w. after_all f.became.deeds w) ticks;
+}
+
+module _ {P : Type 0} (R : List Frame → NodePort P → NodePort P → Type 0) where
+  -- the nodes below i were heard, and just the frames that were taken are noted
+  pub record HeardNoted (x y : NodeView) (a b : List (NodePort P)) (i : ℕ) (n m : NotesView) : Type 0 where
+    pub heard : HeardBelow R x y a b i
+    pub noted : m ≡ after_all heard.takes.deeds n
+
+  pub noted-start : (x : NodeView) (a : List (NodePort P)) (n : NotesView) → HeardNoted x x a a 0 n n
+  noted-start x a n = record { heard = heard-start R x a; noted = refl }
+
+  pub noted-next : (x y z : NodeView) (a b c : List (NodePort P)) (i : ℕ) (n m o : NotesView) → HeardNoted x y a b i n m → DidTake R i y z b c m o → HeardNoted x z a c (i + 1) n o
+  noted-next x y z a b c i n m o f g = record {
+    heard = heard-next R x y z a b c i f.heard g.takes;
+    noted = grown f.heard.takes.deeds g.takes.takes.deeds n m o f.noted g.noted;
+  }
+
+  -- frames of one port, and then frames of it
+  pub take-join : (S T : List Frame → NodePort P → NodePort P → Type 0)
+      → ((xs ys : List Frame) (p q s : NodePort P) → R xs p q → S ys q s → T (xs ++ ys) p s)
+      → (i : ℕ) (x y z : NodeView) (a b c : List (NodePort P)) (n m o : NotesView) → DidTake R i x y a b n m → DidTake S i y z b c m o → DidTake T i x z a c n o
+  take-join S T join i x y z a b c n m o f g = record {
+    takes = takes-join R S T join i x y z a b c f.takes g.takes;
+    noted = grown f.takes.takes.deeds g.takes.takes.deeds n m o f.noted g.noted;
+  }
+
+-- the node spoke to each neighbour below i, and just what was accepted is noted
+pub record SpokenNoted {P : Type 0} (gave took : P → Option (List ℕ)) (counts : P → Counts) (offers : List Bool) (now : ℕ)
+    (old new : Moment P) (i : ℕ) (n m : NotesView) : Type 0 where
+  pub spoken : SpokenTo gave took counts offers now old new i
+  pub noted : m ≡ after_all spoken.sends n
+
+-- the parts of a turn, and of what is done between two turns, one after the other
+pub turn-grown : (takes serves goes sends leaves : List Deed) (n m o p : NotesView) → m ≡ after_all (takes ++ serves) n → o ≡ after_all (Ticks ∷ goes) m → p ≡ after_all (sends ++ leaves) o
+    → p ≡ after_all (takes ++ (serves ++ (Ticks ∷ (goes ++ (sends ++ leaves))))) n
+turn-grown takes serves goes sends leaves n m o p f g h =
+    let rest = Ticks ∷ (goes ++ (sends ++ leaves)) in
+    subst (λ ds. p ≡ after_all ds n) (append_assoc takes serves rest) (grown (takes ++ serves) rest n m p f (grown (Ticks ∷ goes) (sends ++ leaves) m o p g h))
+
+pub attend-grown : (takes serves sends leaves : List Deed) (n m p : NotesView) → m ≡ after_all (takes ++ serves) n → p ≡ after_all (sends ++ leaves) m
+    → p ≡ after_all (takes ++ (serves ++ (sends ++ leaves))) n
+attend-grown takes serves sends leaves n m p f h =
+    subst (λ ds. p ≡ after_all ds n) (append_assoc takes serves (sends ++ leaves)) (grown (takes ++ serves) (sends ++ leaves) n m p f h)

@@ -1,0 +1,13 @@
+-- The deeds that were noted, room for how many there is, and whether one had none.
+use Rattle.std.specs.Prelude.{ℕ, Bool, List, Option, None, Some}
+use Rattle.flight_records.specs.declared.entry.Deed.{Deed}
+
+pub record NotesView : Type 0 where
+  pub deeds : List Deed
+  pub room : ℕ
+  pub is_torn : Bool
+
+-- what a function makes of what is there, and else this
+abbrev pub or_else : {X Y : Type 0} → Y → (X → Y) → Option X → Y
+or_else y f None = y
+or_else y f (Some x) = f x

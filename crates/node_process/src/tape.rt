@@ -1,0 +1,272 @@
+//! A node's record, in two files of its folder.
+ghost use Rattle.std.specs.Prelude.{◌≡◌, ◌≤◌, ◌⊎◌, IfOk, true, string_bytes};
+ghost use Rattle.node_recorder.specs.flight_recorder.Recorder.{after_failure, after_write, at_start};
+ghost use Rattle.node_recorder.specs.flight_recorder.Names.{record_name};
+ghost use Rattle.node_recorder.specs.flight_recorder.declared.recorder.Side.TheVariants.{First, Second};
+ghost use Rattle.node_process.specs.Tapes.{file_bytes, of_side, side_to_begin};
+
+use crate::fault::NodeFault;
+use crate::folder::new_file;
+use node_loop::{Doors, NodeRun, Notes};
+use node_recorder::NodeRecorder;
+use node_recorder::flight_recorder::flight_records::Deed;
+use node_recorder::flight_recorder::{LEAST_SIZE, Side, record_name};
+use node_state_file::Store;
+use std::alloc::{AllocError, Global};
+use std::fmt::Display;
+use std::fs::{self, File};
+use std::io::{self, ErrorKind, Write};
+use std::rt::{Clock, Files};
+use std::time::{SystemTime, UNIX_EPOCH};
+
+/// The most bytes of each of the two files of a record.
+#[derive(Clone, Copy, Debug, PartialEq, Eq)]
+pub struct RecordSize {
+    /// 65536 or more; less counts as 65536.
+    pub bytes: u64,
+}
+
+/// The size of a file of a record if none is chosen: 8 MiB.
+pub const USUAL_SIZE: RecordSize = RecordSize { bytes: 8_388_608 };
+
+/// The most nodes of a network.
+const NODES: usize = 64;
+
+/// The names of a record's two files.
+#[derive(Drop)]
+struct RecordNames {
+    first: String,
+    second: String,
+}
+
+impl RecordNames {
+    /// Those of node `id` in a folder.
+    ///
+    /// # Errors
+    /// If memory runs out.
+    fn new(alloc: Global, dir: &str, id: u16) -> Result<RecordNames, AllocError>
+        ensures { IfOk result (λ names. (string_bytes names.first ≡ record_name dir.now id First)
+            × (string_bytes names.second ≡ record_name dir.now id Second)) }
+    {
+        Ok(RecordNames {
+            first: record_name(alloc, dir, id, Side::First)?,
+            second: record_name(alloc, dir, id, Side::Second)?,
+        })
+    }
+
+    /// The name of one of them.
+    fn of(&self, side: Side) -> &str
+        ensures { result.now
+            ≡ of_side side (string_bytes self.now.first) (string_bytes self.now.second) }
+    {
+        match side {
+            Side::First => self.first.as_str(),
+            Side::Second => self.second.as_str(),
+        }
+    }
+}
+
+/// The record of a node that runs.
+#[derive(Drop)]
+pub struct Tape<'a, R> {
+    rt: &'a R,
+    recorder: NodeRecorder,
+    names: RecordNames,
+    /// The present file, once something is written to it.
+    file: Option<File>,
+    /// When the node's clock stood at 0, in microseconds since the start of 1970, UTC.
+    start: u64,
+    /// Which nodes it was last seen to have a connection with.
+    linked: [bool; NODES],
+}
+
+impl<'a, R: Files<File = File> + Clock + Eprint + AllocGlobal> Tape<'a, R> {
+    /// The record of this node, which runs in `dir` since its clock stood at 0. `now` is the time of
+    /// that clock, in microseconds. All memory is reserved here; no file is made or changed yet.
+    ///
+    /// # Errors
+    /// If memory runs out.
+    pub fn open<D: Doors, S: Store + Drop>(
+        rt: &'a R,
+        dir: &str,
+        size: RecordSize,
+        run: &NodeRun<D, S>,
+        now: u64,
+    ) -> Result<Tape<'a, R>, NodeFault>
+        ensures { IfOk result (λ tape. tape.recorder.pages
+            ≡ at_start (file_bytes size) tape.recorder.pages.side) }
+    {
+        let (alloc, id) = (rt.alloc(), run.node().id());
+        if id >= run.net().nodes() {
+            return Err(NodeFault::NoNode(run.net().nodes()));
+        }
+        let names = RecordNames::new(alloc, dir, id)?;
+        let side = side_to_begin(
+            written_at(rt, names.of(Side::First)),
+            written_at(rt, names.of(Side::Second)),
+        );
+        Ok(Tape {
+            rt,
+            recorder: NodeRecorder::new(alloc, run.net(), id, file_bytes(size), side)?,
+            names,
+            file: None,
+            start: micros_now(rt).unwrap_or(0).saturating_sub(now),
+            linked: [false; NODES],
+        })
+    }
+
+    /// The node took a turn, or did something between two turns, and noted its deeds. `now` is when
+    /// it began, by the node's clock. A record that has stopped sees nothing.
+    pub fn turn_ended<D: Doors, S: Store + Drop>(
+        &mut self,
+        run: &NodeRun<D, S>,
+        notes: &Notes,
+        now: u64,
+    )
+        ensures stopped { self.old.recorder.pages.is_stopped ≡ true → self.new ≡ self.old }
+    {
+        if self.recorder.pages().is_stopped() {
+            return;
+        }
+        let instant = self.start.saturating_add(now);
+        self.recorder
+            .turn_ended(run.node(), notes.deeds(), notes.has_all(), instant);
+        self.note_links(run, instant);
+        if self.recorder.pages().is_stopped() {
+            self.stop(&"a turn has no room in a page");
+        } else if self.recorder.pages().is_due() {
+            self.write();
+        }
+    }
+
+    /// Notes the connections that began or ended.
+    fn note_links<D: Doors, S: Store + Drop>(&mut self, run: &NodeRun<D, S>, instant: u64)
+        ensures { self.new.names ≡ self.old.names }
+    {
+        for id in 0..NODES {
+            let neighbour = id as u16;
+            let is_linked = matches!(run.link(neighbour), Some(sight) if sight.is_up);
+            if is_linked != self.linked[id] {
+                self.linked[id] = is_linked;
+                self.note_link(run, neighbour, is_linked, instant);
+            }
+        }
+    }
+
+    /// Notes that the connection with a neighbour began, or that it ended.
+    fn note_link<D: Doors, S: Store + Drop>(
+        &mut self,
+        run: &NodeRun<D, S>,
+        neighbour: u16,
+        is_linked: bool,
+        instant: u64,
+    )
+        ensures { (self.new.names ≡ self.old.names) × (self.new.linked ≡ self.old.linked) }
+    {
+        let deed = if is_linked {
+            Deed::Connects { neighbour }
+        } else {
+            Deed::Disconnects { neighbour }
+        };
+        self.recorder.turn_ended(run.node(), &[deed], true, instant);
+    }
+
+    /// The node may have other neighbours from now on.
+    pub fn rewired<D: Doors, S: Store + Drop>(&mut self, run: &NodeRun<D, S>)
+        ensures { self.new.recorder.pages ≡ self.old.recorder.pages }
+    {
+        if !self.recorder.knows_neighbours_of(run.node()) {
+            self.recorder.rewire(run.net());
+        }
+    }
+
+    /// The node ends: what was noted and not yet written is written.
+    pub fn end(&mut self)
+        ensures stopped { self.old.recorder.pages.is_stopped ≡ true → self.new ≡ self.old }
+    {
+        if !self.recorder.pages().is_stopped() && !self.recorder.pages().page().is_empty() {
+            self.write();
+        }
+    }
+
+    /// Writes the page to the end of the present file. If that fails, the record stops, and a line
+    /// says so.
+    fn write(&mut self)
+        ensures { (self.new.recorder.pages ≡ after_write self.old.recorder.pages)
+            ⊎ (self.new.recorder.pages ≡ after_failure self.old.recorder.pages) }
+    {
+        match self.append() {
+            Ok(()) => {
+                if self.recorder.wrote() {
+                    self.file = None;
+                }
+            }
+            Err(error) => self.stop(&error),
+        }
+    }
+
+    /// Stops the record, and says why.
+    fn stop<T: Display>(&mut self, why: &T)
+        ensures { self.new.recorder.pages ≡ after_failure self.old.recorder.pages }
+    {
+        self.recorder.failed();
+        self.file = None;
+        let path = self.names.of(self.recorder.pages().side());
+        let _ = eprintln!(self.rt;
+            "tokentree: {path}: the record ends, and the node runs on: {why}"
+        );
+    }
+
+    /// Writes the page to the end of the present file, which is made before its first page.
+    fn append(&mut self) -> io::Result<()>
+        ensures { self.new.recorder ≡ self.old.recorder }
+    {
+        let mut file = match self.file.take() {
+            Some(file) => file,
+            None => new_file(self.rt, self.names.of(self.recorder.pages().side()))?,
+        };
+        let page = self.recorder.pages().page();
+        if file.write(page)? < page.len() {
+            return Err(io::Error::from(ErrorKind::WriteZero));
+        }
+        self.file = Some(file);
+        Ok(())
+    }
+}
+
+/// The most bytes of a file.
+fn file_bytes(size: RecordSize) -> u64
+    ensures bytes { result ≡ file_bytes size }
+    ensures least { 65536 ≤ result }
+{
+    size.bytes.max(LEAST_SIZE)
+}
+
+/// The file with which a record begins, by when each was written, if it is there: the one that was
+/// written earlier, or one that is not there.
+fn side_to_begin(first: Option<u64>, second: Option<u64>) -> Side
+    ensures { result ≡ side_to_begin first second }
+{
+    match (first, second) {
+        (Some(first), Some(second)) if first > second => Side::Second,
+        (Some(_), None) => Side::Second,
+        _ => Side::First,
+    }
+}
+
+/// When a file was written last, in microseconds since the start of 1970, UTC; none if it is not
+/// there.
+fn written_at<F: Files>(files: &F, name: &str) -> Option<u64> {
+    let written = fs::symlink_metadata(files, name).ok()?.modified().ok()?;
+    micros_of(written)
+}
+
+/// The microseconds since the start of 1970, UTC, if the system says them.
+fn micros_now<C: Clock>(clock: &C) -> Option<u64> {
+    micros_of(SystemTime::now(clock).ok()?)
+}
+
+/// The microseconds from the start of 1970, UTC, to this time.
+fn micros_of(time: SystemTime) -> Option<u64> {
+    u64::try_from(time.duration_since(UNIX_EPOCH).ok()?.as_micros()).ok()
+}

@@ -1,0 +1,291 @@
+//! The record of a node that runs as a process.
+use crate::hold::hold;
+use crate::nodes::{
+    ABSENT, LINE, LOADED, begins, comes_to, in_folder, spawn_recorded, stops, stops_with,
+};
+use node_recorder::flight_recorder::flight_records::{Deed, Entry, EntryReader, Noted, StatePart};
+use node_recorder::flight_recorder::{Side, record_name};
+use std::os::unix::fs::symlink;
+use std::process::Child;
+use std::test::Fail;
+use std::time::Duration;
+use std::{fs, thread};
+
+/// What a record was seen to have.
+#[derive(Clone, Copy, Default)]
+struct Seen {
+    states: u32,
+    ticks: u32,
+    takes: u32,
+    sends: u32,
+    connections: u32,
+    /// A deed stood in front of all states.
+    is_headless: bool,
+    /// All of its bytes were read.
+    is_whole: bool,
+}
+
+impl Seen {
+    /// It has this entry too.
+    fn note(&mut self, entry: &Entry) {
+        match entry.noted {
+            Noted::State(StatePart::Start { .. }) => self.states = self.states.saturating_add(1),
+            Noted::State(_) => {}
+            Noted::Deed(deed) => self.note_deed(&deed),
+        }
+    }
+
+    /// It has this deed too.
+    fn note_deed(&mut self, deed: &Deed) {
+        self.is_headless |= self.states == 0;
+        match deed {
+            Deed::Ticks => self.ticks = self.ticks.saturating_add(1),
+            Deed::Takes { .. } | Deed::TakesAgain { .. } => {
+                self.takes = self.takes.saturating_add(1);
+            }
+            Deed::Sends { .. } | Deed::SendsAgain { .. } => {
+                self.sends = self.sends.saturating_add(1);
+            }
+            Deed::Connects { .. } => self.connections = self.connections.saturating_add(1),
+            _ => {}
+        }
+    }
+}
+
+/// What a record has.
+fn contents(bytes: &[u8]) -> Seen {
+    let mut reader = EntryReader::new();
+    let mut rest = bytes;
+    let mut seen = Seen::default();
+    while let Ok((entry, after)) = reader.next(rest) {
+        seen.note(&entry);
+        rest = after;
+    }
+    seen.is_whole = rest.is_empty();
+    seen
+}
+
+/// Whether a record begins with the state of node 0 after its first tick: it is the root, so its
+/// distance is 0 and it has no parent; its only neighbour is node 1, and it lends to nobody.
+fn begins_with_state(bytes: &[u8]) -> bool {
+    let mut reader = EntryReader::new();
+    let mut rest = bytes;
+    for place in 0..5u32 {
+        let Ok((entry, after)) = reader.next(rest) else {
+            return false;
+        };
+        if !is_of_root(place, &entry) {
+            return false;
+        }
+        rest = after;
+    }
+    true
+}
+
+/// Whether this is the entry at a place of that state.
+fn is_of_root(place: u32, entry: &Entry) -> bool {
+    match (place, entry.noted) {
+        (0, Noted::State(StatePart::Start { node: 0, .. })) => true,
+        (
+            1,
+            Noted::State(
+                StatePart::Own {
+                    distance: 0,
+                    parent: None,
+                },
+            ),
+        ) => true,
+        (2, Noted::State(StatePart::Port { neighbour: 1, .. })) => true,
+        (
+            3,
+            Noted::State(
+                StatePart::Loan {
+                    lent: None,
+                    left: 0,
+                    ..
+                },
+            ),
+        ) => true,
+        (4, Noted::State(StatePart::Whole)) => true,
+        _ => false,
+    }
+}
+
+/// Whether bytes are a whole record of node 0 alone: its state once, at the beginning, and then its
+/// ticks, with nobody to talk to.
+fn is_of_one(bytes: &[u8]) -> bool {
+    let seen = contents(bytes);
+    seen.is_whole
+        && begins_with_state(bytes)
+        && !seen.is_headless
+        && seen.states == 1
+        && seen.ticks >= 10
+        && seen.takes == 0
+        && seen.sends == 0
+        && seen.connections == 0
+}
+
+/// Whether bytes are a whole record of a node that talked to one neighbour.
+fn is_of_two(bytes: &[u8]) -> bool {
+    let seen = contents(bytes);
+    seen.is_whole
+        && !seen.is_headless
+        && seen.states == 1
+        && seen.ticks >= 10
+        && seen.takes >= 2
+        && seen.sends >= 2
+        && seen.connections == 1
+}
+
+/// What a file of a node's record has; nothing if it is not there.
+fn record_of(rt: &HostRuntime, dir: &str, id: u16, side: Side) -> Result<Option<Vec<u8>>, Fail> {
+    let name = record_name(rt.alloc(), dir, id, side)?;
+    if !fs::exists(rt, name.as_str())? {
+        return Ok(None);
+    }
+    Ok(Some(fs::read(rt, name.as_str())?))
+}
+
+/// Starts node 0, which prints these lines first, and stops it after a while.
+fn run_alone(rt: &HostRuntime, dir: &str, lines: [&str; 2]) -> Result<(), Fail> {
+    let mut node = spawn_recorded(rt, dir, "0")?;
+    begins(rt, &mut node, lines)?;
+    thread::sleep(rt, Duration::from_millis(200));
+    hold(
+        stops(rt, dir, 0, &mut node)?,
+        "the node that records does not stop",
+    )
+}
+
+/// Whether there is such a record of node 0 in this file.
+fn has_record(rt: &HostRuntime, dir: &str, side: Side) -> Result<bool, Fail> {
+    match record_of(rt, dir, 0, side)? {
+        Some(bytes) => Ok(is_of_one(bytes.as_slice())),
+        None => Ok(false),
+    }
+}
+
+/// Whether this is all that the folder has: two records or one, the state and the lock.
+fn has_only(rt: &HostRuntime, dir: &str, files: u32) -> Result<bool, Fail> {
+    let mut count: u32 = 0;
+    for entry in fs::read_dir(rt, dir)? {
+        let _known = entry?;
+        count = count.saturating_add(1);
+    }
+    Ok(count == files)
+}
+
+/// Whether the first file of node 0's record is what it was.
+fn is_still(rt: &HostRuntime, dir: &str, was: &Option<Vec<u8>>) -> Result<bool, Fail> {
+    let now = record_of(rt, dir, 0, Side::First)?;
+    match (was, &now) {
+        (Some(was), Some(now)) => Ok(was.as_slice() == now.as_slice()),
+        _ => Ok(false),
+    }
+}
+
+/// Node 0 runs again, and its record goes on in the second file.
+fn run_on(rt: &HostRuntime, dir: &str) -> Result<(), Fail> {
+    let first = record_of(rt, dir, 0, Side::First)?;
+    run_alone(rt, dir, LOADED)?;
+    hold(is_still(rt, dir, &first)?, "the first file has changed")?;
+    hold(
+        has_record(rt, dir, Side::Second)?,
+        "the second file is no whole record",
+    )?;
+    hold(has_only(rt, dir, 4)?, "there are other files too")
+}
+
+/// Node 0 runs alone, and then once more.
+fn record_twice(rt: &HostRuntime, dir: &str) -> Result<(), Fail> {
+    run_alone(rt, dir, ABSENT)?;
+    hold(
+        has_record(rt, dir, Side::First)?,
+        "the first file is no whole record",
+    )?;
+    hold(has_only(rt, dir, 3)?, "there are other files already")?;
+    run_on(rt, dir)
+}
+
+#[test]
+fn a_record_goes_on_in_the_other_file(rt: HostRuntime) -> Result<(), Fail> {
+    in_folder(&rt, "recorded", LINE, |dir| record_twice(&rt, dir))
+}
+
+/// A node's process that keeps a record, once it is ready.
+fn start_recorded(rt: &HostRuntime, dir: &str, number: &str) -> Result<Child, Fail> {
+    let mut node = spawn_recorded(rt, dir, number)?;
+    begins(rt, &mut node, ABSENT)?;
+    Ok(node)
+}
+
+/// Whether there is such a record of a node that talked to another.
+fn has_talked(rt: &HostRuntime, dir: &str, id: u16) -> Result<bool, Fail> {
+    match record_of(rt, dir, id, Side::First)? {
+        Some(bytes) => Ok(is_of_two(bytes.as_slice())),
+        None => Ok(false),
+    }
+}
+
+/// Node 1 joins node 0, and both stop.
+fn talk(rt: &HostRuntime, dir: &str, first: &mut Child) -> Result<(), Fail> {
+    let mut second = start_recorded(rt, dir, "1")?;
+    hold(
+        comes_to(rt, dir, 1, 1)?,
+        "node 1 does not come to its distance",
+    )?;
+    hold(stops(rt, dir, 1, &mut second)?, "node 1 does not stop")?;
+    hold(stops(rt, dir, 0, first)?, "node 0 does not stop")
+}
+
+/// Nodes 0 and 1 run side by side.
+fn record_two(rt: &HostRuntime, dir: &str) -> Result<(), Fail> {
+    let mut first = start_recorded(rt, dir, "0")?;
+    talk(rt, dir, &mut first)?;
+    hold(has_talked(rt, dir, 0)?, "node 0 has another record")?;
+    hold(has_talked(rt, dir, 1)?, "node 1 has another record")
+}
+
+#[test]
+fn records_have_what_two_nodes_did(rt: HostRuntime) -> Result<(), Fail> {
+    in_folder(&rt, "talked", LINE, |dir| record_two(&rt, dir))
+}
+
+/// Puts symbolic links to a file of the folder in place of both files of node 0's record.
+fn link_elsewhere(rt: &HostRuntime, dir: &str, target: &str) -> Result<(), Fail> {
+    let first = record_name(rt.alloc(), dir, 0, Side::First)?;
+    let second = record_name(rt.alloc(), dir, 0, Side::Second)?;
+    fs::create_dir(rt, dir)?;
+    fs::write(rt, target, "stays")?;
+    symlink(rt, target, first.as_str())?;
+    Ok(symlink(rt, target, second.as_str())?)
+}
+
+/// Node 0 runs and stops, and says that its record ends.
+fn run_unrecorded(rt: &HostRuntime, dir: &str) -> Result<(), Fail> {
+    let reported = format!(in rt.alloc();
+        "tokentree: {dir}/record-0.0: the record ends, and the node runs on: it is no plain file\n"
+    )?;
+    let mut node = start_recorded(rt, dir, "0")?;
+    hold(
+        stops_with(rt, dir, 0, &mut node, reported.as_str())?,
+        "the node does not stop, or says something else",
+    )
+}
+
+/// A record is not written through a symbolic link.
+fn follow_no_link(rt: &HostRuntime, dir: &str) -> Result<(), Fail> {
+    let target = format!(in rt.alloc(); "{dir}/target")?;
+    link_elsewhere(rt, dir, target.as_str())?;
+    run_unrecorded(rt, dir)?;
+    let now = fs::read(rt, target.as_str())?;
+    hold(
+        now.as_slice() == b"stays".as_slice(),
+        "the file to which the links lead has changed",
+    )
+}
+
+#[test]
+fn a_record_follows_no_symbolic_link(rt: HostRuntime) -> Result<(), Fail> {
+    in_folder(&rt, "linked", LINE, |dir| follow_no_link(&rt, dir))
+}
