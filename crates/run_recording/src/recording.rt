@@ -405,6 +405,7 @@ impl<A: Allocator + Copy> Recording<A> {
     }
 
     /// The next line: lets its event happen.
+    #[inline(always)]
     fn line(&mut self, line: TextLine)
         requires { self.old.events < 2 ^ 61 }
         ensures records { RecordsNext self.old (said_events (line ∷ [])) self.new }
