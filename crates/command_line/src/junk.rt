@@ -1,4 +1,7 @@
 //! The words of `junk`.
+ghost use Rattle.std.specs.Prelude.{◌≡◌, IfOk};
+ghost use Rattle.std.specs.Process.{exit_status};
+
 use crate::refusal::Refusal;
 use clap::{ArgMatches, Command};
 use command_grammar::{Grammar, Number, Parameter, given_number, with_command};
@@ -53,7 +56,9 @@ const LINES: Number<'static> = Number {
 };
 
 /// Does what the words of `junk` say.
-pub fn run<R: Print + AllocGlobal>(rt: &R, given: &ArgMatches) -> Result<ExitCode, Refusal> {
+pub fn run<R: Print + AllocGlobal>(rt: &R, given: &ArgMatches) -> Result<ExitCode, Refusal>
+    ensures { IfOk result (λ status. exit_status status ≡ 0) }
+{
     let seed = given_number(given, SEED)? as u32;
     let lines = given_number(given, LINES)? as u32;
     Ok(junk::run(rt, seed, lines)?)

@@ -1,5 +1,6 @@
 //! The words of `network`.
-ghost use Rattle.std.specs.Prelude.{◌≡◌};
+ghost use Rattle.std.specs.Prelude.{◌≡◌, IfOk};
+ghost use Rattle.std.specs.Process.{exit_status};
 ghost use Rattle.command_line.specs.Named.{kind_named, most_edges, usual_edges};
 
 use crate::refusal::{KindFault, Refusal};
@@ -129,7 +130,9 @@ const SEED: Number<'static> = Number {
 };
 
 /// Does what the words of `network` say.
-pub fn run<R: Print + AllocGlobal>(rt: &R, given: &ArgMatches) -> Result<ExitCode, Refusal> {
+pub fn run<R: Print + AllocGlobal>(rt: &R, given: &ArgMatches) -> Result<ExitCode, Refusal>
+    ensures { IfOk result (λ status. exit_status status ≡ 0) }
+{
     let wanted = wanted(given)?;
     Ok(network::run(rt, wanted)?)
 }

@@ -1,5 +1,6 @@
 //! The words of `schedule`.
-ghost use Rattle.std.specs.Prelude.{IfOk, IfErr, codes};
+ghost use Rattle.std.specs.Prelude.{◌≡◌, IfOk, IfErr, codes};
+ghost use Rattle.std.specs.Process.{exit_status};
 ghost use Rattle.clap.specs.Matches.{found_of};
 ghost use Rattle.command_grammar.specs.Given.{IsGiven, IsRefused};
 ghost use Rattle.command_line.specs.Turns.{AreTurnsOf, AreTurnsRefused};
@@ -150,10 +151,9 @@ const GIVE_BACK: Number<'static> = Number {
 };
 
 /// Does what the words of `schedule` say.
-pub fn run<R: Files + Print + AllocGlobal>(
-    rt: &R,
-    given: &ArgMatches,
-) -> Result<ExitCode, Refusal> {
+pub fn run<R: Files + Print + AllocGlobal>(rt: &R, given: &ArgMatches) -> Result<ExitCode, Refusal>
+    ensures { IfOk result (λ status. exit_status status ≡ 0) }
+{
     let network = word(given, "FILE")?;
     let scramble = number_if_given(given, SCRAMBLE)?.map(|seed| seed as u32);
     let loan = loan(given)?;

@@ -1,4 +1,7 @@
 //! The words of `simulate`.
+ghost use Rattle.std.specs.Prelude.{◌≡◌, ◌⊎◌, IfOk};
+ghost use Rattle.std.specs.Process.{exit_status};
+
 use crate::program::{EVENTS_TEXT, NETWORK_FILE};
 use crate::refusal::Refusal;
 use clap::{ArgMatches, Command};
@@ -128,7 +131,9 @@ refused.";
 pub fn run<R: Files + Input + Print + Eprint + AllocGlobal>(
     rt: &R,
     given: &ArgMatches,
-) -> Result<ExitCode, Refusal> {
+) -> Result<ExitCode, Refusal>
+    ensures { IfOk result (λ status. (exit_status status ≡ 0) ⊎ (exit_status status ≡ 3)) }
+{
     Ok(simulate::run(
         rt,
         word(given, "FILE")?,

@@ -1,4 +1,7 @@
 //! The words of `threads`.
+ghost use Rattle.std.specs.Prelude.{◌≡◌, IfOk};
+ghost use Rattle.std.specs.Process.{exit_status};
+
 use crate::program::{NETWORK_FILE, Runtime};
 use crate::refusal::Refusal;
 use clap::{ArgMatches, Command};
@@ -72,7 +75,9 @@ const TURNS: Number<'static> = Number {
 };
 
 /// Does what the words of `threads` say. `progress` says whether to show progress.
-pub fn run<R: Runtime>(rt: &R, given: &ArgMatches, progress: bool) -> Result<ExitCode, Refusal> {
+pub fn run<R: Runtime>(rt: &R, given: &ArgMatches, progress: bool) -> Result<ExitCode, Refusal>
+    ensures { IfOk result (λ status. exit_status status ≡ 0) }
+{
     let network = word(given, "FILE")?;
     let turns = given_number(given, TURNS)? as u32;
     Ok(threads::run(rt, network, turns, given.get_str("events"), progress)?)

@@ -1,5 +1,6 @@
 //! The words of `worst`.
-ghost use Rattle.std.specs.Prelude.{IfOk, IfErr};
+ghost use Rattle.std.specs.Prelude.{◌≡◌, IfOk, IfErr};
+ghost use Rattle.std.specs.Process.{exit_status};
 ghost use Rattle.clap.specs.Matches.{found_of};
 ghost use Rattle.command_line.specs.Worst.{IsExtentOf, IsExtentRefused, IsSearchOf, IsSearchRefused};
 
@@ -117,7 +118,9 @@ const SEED: Number<'static> = Number {
 };
 
 /// Does what the words of `worst` say, and shows its progress if that is asked for.
-pub fn run<R: Runtime>(rt: &R, given: &ArgMatches, progress: bool) -> Result<ExitCode, Refusal> {
+pub fn run<R: Runtime>(rt: &R, given: &ArgMatches, progress: bool) -> Result<ExitCode, Refusal>
+    ensures { IfOk result (λ status. exit_status status ≡ 0) }
+{
     let (file, plan) = (word(given, "FILE")?, plan(given, progress)?);
     Ok(worst::run(rt, file, plan, given.get_str("events"))?)
 }

@@ -270,16 +270,13 @@ fn make_doors<'a, R: Sockets + AllocGlobal>(
 }
 
 /// Takes turns until the node must end, and says how it ends.
-fn run_turns<'a, R>(
+fn run_turns<'a, R: Files<File = File> + Sockets + Clock + Input + Eprint + AllocGlobal>(
     rt: &'a R,
     words: &NodeWords<'_>,
     observer: &mut Observer<'a, '_, R>,
     names: &mut Names<'a>,
     run: &mut Run<'a, R>,
-) -> AfterSave
-where
-    R: Files<File = File> + Sockets + Clock + Input + Eprint + AllocGlobal,
-{
+) -> AfterSave {
     for _ in 0..u64::MAX {
         run.wait(observer.watch.last());
         let now = observer.watch.now();
