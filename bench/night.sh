@@ -1,0 +1,96 @@
+#!/usr/bin/env bash
+# A night in small: 16 nodes in a grid keep records, 8 clients take the lock again and again, and every ten seconds one
+# node is killed. Then `gather` weaves the records, `simulate` judges the list, and this script compares:
+#
+# - each difference is at a node that was killed then, or a frame of it, since a killed node loses the end of its record;
+# - the state at the end of the list is the one that `status` last showed.
+#
+#   bench/night.sh [SECONDS]     600 if left out
+#
+# Prints what gather says, the state and each finding; status 1 if one is wrong. The program is ./tokentree, or what
+# TOKENTREE names. Needs python3.
+set -euo pipefail
+seconds=${1:-600}
+cd "$(dirname "$0")/.."
+program=$(realpath "${TOKENTREE:-./tokentree}")
+"$program" --help > /dev/null
+[ -n "${TOKENTREE:-}" ] || program=$PWD/crates/tokentree/out/tokentree
+folder=$(mktemp -d)
+trap 'rm -rf "$folder"' EXIT
+"$program" network grid 4 4 --lease 2000 > "$folder/grid.toml"
+python3 - "$program" "$folder" "$seconds" << 'PYTHON'
+import os, random, re, signal, subprocess, sys, threading, time
+
+program, folder, seconds = sys.argv[1], sys.argv[2], float(sys.argv[3])
+NETWORK, RUN = f"{folder}/grid.toml", f"{folder}/run"
+NODES = 16
+draw = random.Random(1)
+end = time.time() + seconds
+kills, grants = [], [0]
+
+
+def said(words):
+    return subprocess.run([program, *words], capture_output=True, text=True)
+
+
+def pids(node):
+    """The process of a node, found by its words."""
+    found = []
+    for name in os.listdir("/proc"):
+        if name.isdigit():
+            try:
+                with open(f"/proc/{name}/cmdline", "rb") as file:
+                    words = file.read().split(b"\0")
+            except OSError:
+                continue
+            if b"node" in words and words[-4:-1] == [NETWORK.encode(), str(node).encode(), RUN.encode()]:
+                found.append(int(name))
+    return found
+
+
+def client(number):
+    chosen = random.Random(number)
+    while time.time() < end - 2:
+        done = said(["lock", RUN, str(chosen.randrange(NODES)), "--timeout", "20", "--", "sleep", "0.02"])
+        grants[0] += done.returncode == 0
+
+
+up = subprocess.Popen([program, "up", NETWORK, RUN, "--record", "--record-size", "1073741824"],
+                      stdin=subprocess.PIPE, stdout=subprocess.DEVNULL, stderr=subprocess.DEVNULL)
+while said(["status", RUN, "--check"]).returncode != 0:
+    time.sleep(0.2)
+clients = [threading.Thread(target=client, args=(number,)) for number in range(8)]
+for one in clients:
+    one.start()
+while time.time() < end - 8:
+    time.sleep(10)
+    node = draw.randrange(NODES)
+    for process in pids(node):
+        os.kill(process, signal.SIGKILL)
+        kills.append((node, time.time() * 1e6))
+for one in clients:
+    one.join()
+time.sleep(3)
+status = said(["status", RUN]).stdout
+up.send_signal(signal.SIGTERM)
+up.wait()
+with open(f"{folder}/events", "w") as file:
+    gathered = subprocess.run([program, "gather", RUN, "--network", NETWORK], stdout=file, stderr=subprocess.PIPE, text=True)
+print(gathered.stderr, end="")
+judged = said(["simulate", NETWORK, f"{folder}/events"])
+wrong = []
+differs = re.compile(r"node (\d+) differs at microsecond (\d+): (.*)")
+for node, instant, field in differs.findall(gathered.stderr):
+    sender = re.search(r"a frame that node (\d+) did not send", field)
+    named = {int(node)} | ({int(sender.group(1))} if sender else set())
+    if not any(killed in named and -20e6 < int(instant) - at < 5e6 for killed, at in kills):
+        wrong.append(f"node {node} differs at {instant} ({field}), and was not killed then")
+places = re.compile(r"^node (\d+) distance (\d+) parent (\S+)", re.M)
+before, after = places.findall(status), places.findall(judged.stdout)
+if not before or before != after:
+    wrong.append(f"the state at the end is another one:\n{status}\n{judged.stdout}")
+print(f"{len(kills)} kills, {grants[0]} locks, {os.path.getsize(folder + '/events')} bytes of events")
+print("\n".join(line for line in judged.stdout.splitlines() if line.startswith(("sweeps", "served", "legitimate"))))
+print("\n".join(f"WRONG  {one}" for one in wrong) if wrong else "all is as it should be")
+sys.exit(bool(wrong))
+PYTHON
