@@ -48,17 +48,18 @@ record says that it stood.
 
 A record begins with the whole state of its node, and the state comes again
 whenever what was noted does not lead to it. If it differs from where the list
-leads, lines of harm set it right. At the begin of a record they only show how
-the node stood. Later ones show damage, and a line on standard error names the
-field that differs:
+leads, lines of harm set it right. At first they only show how the node stood
+when its record began. Later ones show damage, and a line on standard error
+names the field that differs:
 
   tokentree: node 1 differs at microsecond 73519946: parent
 
 The fields are distance and parent; the number of what the node sends to a
 neighbour, the last number from there, the payloads for it and from it, and the
 ring value from it; the tickets that wait, the ticket of the loan, its ticks
-left, and whether the desk served. A frame that no neighbour sent is named too.
-The first 64 are named. Four lines sum it all up:
+left, and whether the desk served. A frame that no neighbour sent is named too,
+also one that was sent before the neighbour's record began. The first 64 are
+named. Four lines sum it all up:
 
   tokentree: nodes 3, events 1200, time 5000000 microseconds
   tokentree: frames lost 3, harms 2, frames that nobody sent 0
