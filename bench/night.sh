@@ -57,7 +57,7 @@ def client(number):
 
 up = subprocess.Popen([program, "up", NETWORK, RUN, "--record", "--record-size", "1073741824"],
                       stdin=subprocess.PIPE, stdout=subprocess.DEVNULL, stderr=subprocess.DEVNULL)
-while said(["status", RUN, "--check"]).returncode != 0:
+while said(["status", RUN, "--check", NETWORK]).returncode != 0:
     time.sleep(0.2)
 clients = [threading.Thread(target=client, args=(number,)) for number in range(8)]
 for one in clients:
