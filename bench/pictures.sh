@@ -1,11 +1,12 @@
 #!/usr/bin/env bash
-# Draws the pictures of docs/ again: the forged tokens, a scrambled square whose edge 1-3 goes and joins again, and what
-# three nodes did on threads, which differs from run to run; and the films of the square, without that edge's part and
-# with it. It also makes films of a star of 64 over 170,000 events, alone and in a page, and prints their sizes and
-# times. If there is a Chromium (CHROMIUM, or chromium in PATH), it renders each picture without a screen, as NAME.png
-# in the folder $1 (or in a new folder), and each film at 0, 25, 50 and 100 % of its time, as NAME-PERCENT.png. If there
-# is Node.js too, it tries pages of the square over 1,000 and 100,000 events by their keys, with four pictures of each
-# (bench/page.js). The program is ./tokentree, or what TOKENTREE names.
+# Draws the pictures of docs/ again: the forged tokens, a scrambled square whose edge 1-3 goes and joins again, and
+# what three nodes did on threads, and as processes of which one is killed, which differ from run to run; and the
+# films of the square, without that edge's part and with it. It also makes films of a star of 64 over 170,000 events,
+# alone and in a page, and prints their sizes and times. If there is a Chromium (CHROMIUM, or chromium in PATH), it
+# renders each picture without a screen, as NAME.png in the folder $1 (or in a new folder), and each film at 0, 25, 50
+# and 100 % of its time, as NAME-PERCENT.png. If there is Node.js too, it tries pages of the square over 1,000 and
+# 100,000 events by their keys, with four pictures of each (bench/page.js). The program is ./tokentree, or what
+# TOKENTREE names.
 set -euo pipefail
 cd "$(dirname "$0")/.."
 program=$(realpath "${TOKENTREE:-./tokentree}")
@@ -62,6 +63,18 @@ sed 's/^lease = .*/lease = 0/' examples/square.toml > "$folder/square.toml"
 "$program" threads examples/line-of-three.toml 60000 --events "$folder/threads" > /dev/null
 "$program" draw examples/line-of-three.toml "$folder/threads" --from 0 --to 60 > docs/threads.svg
 
+# Three nodes keep records while clients take the lock; node 1 is killed, and comes again.
+run=$folder/run
+sleep 9 | "$program" up examples/ring-of-three.toml "$run" --record > /dev/null 2>&1 &
+sleep 2.5
+for node in 0 1 2; do "$program" lock "$run" "$node" -- sleep 0.2; done
+kill -KILL "$(pgrep -f "ring-of-three.toml 1 $run")"
+sleep 1.5
+for node in 1 2; do "$program" lock "$run" "$node" -- sleep 0.2; done
+wait
+"$program" gather "$run" --network examples/ring-of-three.toml > "$folder/killed"
+"$program" draw examples/ring-of-three.toml "$folder/killed" --columns 300 --layers > docs/killed-node.svg
+
 # The films of both runs.
 "$program" draw "$folder/square.toml" "$folder/square" --film > docs/square-film.svg
 "$program" draw "$folder/square.toml" "$folder/scrambled-square" --film --seconds 40 > docs/edge-film.svg
@@ -107,7 +120,7 @@ for events in 1000 100000; do
     fi
 done
 
-for name in forged-tokens scrambled-square threads; do
+for name in forged-tokens scrambled-square threads killed-node; do
     echo "docs/$name.svg $(wc -c < "docs/$name.svg") bytes"
     if [ -n "$browser" ]; then
         "$browser" --headless --no-sandbox --disable-gpu --hide-scrollbars --window-size=1440,900 \
