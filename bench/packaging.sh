@@ -326,9 +326,12 @@ try_zsh() {
         while IFS="	" read -r typed word; do
             zpty -n -w shell "$typed"$'\''\x18'\''
             wait_for_lines $((++count))
-            [[ $(tail -n 1 $shown) == "${typed% *} $word " ]] || echo $typed
+            # After a whole word comes a space, unless another word begins with it.
+            end=" "
+            grep -qe "^${typed% *} ${word}[^[:space:]]" $2 && end=
+            [[ $(tail -n 1 $shown) == "${typed% *} $word$end" ]] || echo $typed
         done
-        zpty -d shell' zsh "$made/shown"
+        zpty -d shell' zsh "$made/shown" "$made/wanted"
 }
 
 for shell in bash zsh fish; do
