@@ -123,7 +123,7 @@ fn spawn_as(rt: &HostRuntime, dir: &str, number: &str) -> Result<Child, Fail> {
 }
 
 /// Starts a node's process, with its number, which keeps a record.
-pub fn spawn_recorded(rt: &HostRuntime, dir: &str, number: &str) -> Result<Child, Fail> {
+pub fn spawn_recorded<'x>(rt: &HostRuntime, dir: &'x str, number: &'x str) -> Result<Child, Fail> {
     let test = "nodes::acts_as_a_node";
     let variables = [
         ("TOKENTREE_ID", number),

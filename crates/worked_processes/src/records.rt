@@ -57,7 +57,10 @@ fn contents(bytes: &[u8]) -> Seen {
     let mut reader = EntryReader::new();
     let mut rest = bytes;
     let mut seen = Seen::default();
-    while let Ok((entry, after)) = reader.next(rest) {
+    for _ in 0..bytes.len() {
+        let Ok((entry, after)) = reader.next(rest) else {
+            break;
+        };
         seen.note(&entry);
         rest = after;
     }
