@@ -116,7 +116,7 @@ pub fn sender(alloc: Global) -> Result<Vec<u8>, Fail> {
     )
 }
 
-/// The record of node 1, whose clock is behind: it takes a frame, and ticks twice.
+/// The record of node 1, whose clock is slow: it takes a frame, and ticks twice.
 pub fn taker(alloc: Global, network: u32, node: u16, frame: Frame) -> Result<Vec<u8>, Fail> {
     record_of(
         alloc,
