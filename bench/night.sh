@@ -1,8 +1,10 @@
 #!/usr/bin/env bash
 # A night in small: 16 nodes in a grid keep records, 8 clients take the lock again and again, and every ten seconds one
-# node is killed. Then `gather` weaves the records, `simulate` judges the list, and this script compares:
+# node is killed. Then `gather` weaves the records, `simulate` judges the list, and this script checks:
 #
-# - each difference is at a node that was killed then, or a frame of it, since a killed node loses the end of its record;
+# - no field differs and no frame is unsent from the start to the first kill, and from 4 s after each kill to 2 s before
+#   the next one (`gather --from` begins there, and its first difference comes later): a killed node loses the end of
+#   its record;
 # - the state at the end of the list is the one that `status` last showed.
 #
 #   bench/night.sh [SECONDS]     600 if left out
@@ -19,7 +21,7 @@ folder=$(mktemp -d)
 trap 'rm -rf "$folder"' EXIT
 "$program" network grid 4 4 --lease 2000 > "$folder/grid.toml"
 python3 - "$program" "$folder" "$seconds" << 'PYTHON'
-import os, random, re, signal, subprocess, sys, threading, time
+import math, os, random, re, signal, subprocess, sys, threading, time
 
 program, folder, seconds = sys.argv[1], sys.argv[2], float(sys.argv[3])
 NETWORK, RUN = f"{folder}/grid.toml", f"{folder}/run"
@@ -55,6 +57,7 @@ def client(number):
         grants[0] += done.returncode == 0
 
 
+began = time.time()
 up = subprocess.Popen([program, "up", NETWORK, RUN, "--record", "--record-size", "1073741824"],
                       stdin=subprocess.PIPE, stdout=subprocess.DEVNULL, stderr=subprocess.DEVNULL)
 while said(["status", RUN, "--check", NETWORK]).returncode != 0:
@@ -79,12 +82,16 @@ with open(f"{folder}/events", "w") as file:
 print(gathered.stderr, end="")
 judged = said(["simulate", NETWORK, f"{folder}/events"])
 wrong = []
-differs = re.compile(r"node (\d+) differs at microsecond (\d+): (.*)")
-for node, instant, field in differs.findall(gathered.stderr):
-    sender = re.search(r"a frame that node (\d+) did not send", field)
-    named = {int(node)} | ({int(sender.group(1))} if sender else set())
-    if not any(killed in named and -20e6 < int(instant) - at < 5e6 for killed, at in kills):
-        wrong.append(f"node {node} differs at {instant} ({field}), and was not killed then")
+differs = re.compile(r"node \d+ differs at microsecond (\d+): .*")
+# From when on no field may differ, and until when.
+ends = [at / 1e6 for _, at in kills]
+quiet = list(zip([0.0] + [at - began + 4 for at in ends], ends + [float("inf")]))
+for first, last in quiet:
+    words = [program, "gather", RUN, "--network", NETWORK, "--from", str(math.ceil(first))]
+    later = subprocess.run(words, stdout=subprocess.DEVNULL, stderr=subprocess.PIPE, text=True)
+    found = differs.search(later.stderr)
+    if later.returncode != 0 or found and int(found.group(1)) / 1e6 < last - 2:
+        wrong.append(f"after {first:.1f} s, {last - began:.1f} s being the next kill: {later.stderr}")
 places = re.compile(r"^node (\d+) distance (\d+) parent (\S+)", re.M)
 before, after = places.findall(status), places.findall(judged.stdout)
 if not before or before != after:

@@ -49,7 +49,7 @@ _tokentree() {
     measure) flags='--runs --seed --rounds --random --schedule --share --table --csv --plot --json --help' valued='--runs --seed --schedule --share --plot' places='FILE' ;;
     worst) flags='--searches --minutes --steps --seed --events --help' valued='--searches --minutes --steps --seed --events' places='FILE' ;;
     draw) flags='--columns --from --to --layers --film --page --seconds --help' valued='--columns --from --to --seconds' places='FILE EVENTS' ;;
-    gather) flags='--network --help' valued='--network' places='DIR' ;;
+    gather) flags='--network --from --last --help' valued='--network --from --last' places='DIR' ;;
     threads) flags='--events --help' valued='--events' places='FILE TURNS' ;;
     help)
         [ "$COMP_CWORD" -gt 2 ] || mapfile -t COMPREPLY < <(compgen -W 'bound simulate lock status scramble cut junk node up stop network schedule measure worst draw gather threads' -- "$current")

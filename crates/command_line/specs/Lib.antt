@@ -6,4 +6,5 @@ pub mod Scheduling
 pub mod Plan
 pub mod Wanted
 pub mod Worst
+pub mod Gather
 pub mod Interval

@@ -1,11 +1,15 @@
 //! The words of `gather`.
-ghost use Rattle.std.specs.Prelude.{◌≡◌, ◌⊎◌, IfOk};
+ghost use Rattle.std.specs.Prelude.{◌≡◌, ◌⊎◌, IfErr, IfOk};
 ghost use Rattle.std.specs.Process.{exit_status};
+ghost use Rattle.clap.specs.Matches.{found_of};
+ghost use Rattle.command_line.specs.Gather.{IsStretchOf, IsStretchRefused};
 
 use crate::refusal::Refusal;
 use clap::{ArgMatches, Command};
-use command_grammar::{Choice, Grammar, Parameter, with_command, word};
-use gather_command::command;
+use command_grammar::{
+    Choice, Grammar, Number, Parameter, WordFault, number_if_given, with_command, word,
+};
+use gather_command::{Stretch, command};
 use std::alloc::{AllocError, Global};
 use std::process::ExitCode;
 use std::rt::Files;
@@ -18,9 +22,19 @@ const GATHER: Grammar<'static> = Grammar {
     parameters: &[
         Parameter::Place("DIR", "The folder of the nodes' records"),
         Parameter::Value("network", "FILE", "The network file (TOML); must be given"),
+        Parameter::Value(
+            "from",
+            "SECONDS",
+            "Begin so many seconds after the first entry",
+        ),
+        Parameter::Value(
+            "last",
+            "SECONDS",
+            "Begin so many seconds before the last entry",
+        ),
     ],
     needs: &[],
-    excludes: &[],
+    excludes: &[("from", "last")],
     choice: Some(Choice {
         name: "networks",
         of: &["network"],
@@ -57,15 +71,24 @@ names the field that differs:
 The fields are distance and parent; the number of what the node sends to a
 neighbour, the last number from there, the payloads for it and from it, and the
 ring value from it; the tickets that wait, the ticket of the loan, its ticks
-left, and whether the desk served. A frame that no neighbour sent is named too,
-also one that was sent before the neighbour's record began. The first 64 are
-named. Four lines sum it all up:
+left, and whether the desk served. A frame is named too if its neighbour's
+record does not have it. So it is if the neighbour did not send it, and also if
+that record begins later or ends earlier: a node that runs writes 4 KiB at once,
+and the rest when it stops. A node that is killed loses the rest. The first 64
+are named. Four lines sum it all up:
 
   tokentree: nodes 3, events 1200, time 5000000 microseconds
   tokentree: frames lost 3, harms 2, frames that nobody sent 0
   tokentree: differences 1
   tokentree: longest turn 2500 microseconds, loans 7, longest loan 90000
              microseconds to ticket 7 at node 1
+
+With --from or --last, 0 to 4294967295 seconds, the list begins later: lines of
+harm first set each node, edge and frame under way as it stood then. The numbers
+are those of this list, harms and all, but nothing from before counts. The
+records are read from their beginnings all the same. Two records of different
+length begin at different times; until the later one begins, its node's frames
+count as sent by nobody, so begin after that.
 
 The time is that from the first entry to the last one. A frame counts as lost
 once a later one was taken. A turn is the time from one tick of a node to its
@@ -80,6 +103,22 @@ changed.
 Statuses: 0 done; 1 a file, memory or standard output failed, or a file was not
 read to its end, and a line on standard error says which; 2 invalid arguments.";
 
+/// Seconds after the first entry.
+const FROM: Number<'static> = Number {
+    id: "from",
+    name: "--from",
+    least: 0,
+    most: 4_294_967_295,
+};
+
+/// Seconds before the last entry.
+const LAST: Number<'static> = Number {
+    id: "last",
+    name: "--last",
+    least: 0,
+    most: 4_294_967_295,
+};
+
 /// Does what the words of `gather` say.
 pub fn run<R: Files + Print + Eprint + AllocGlobal>(
     rt: &R,
@@ -89,5 +128,22 @@ pub fn run<R: Files + Print + Eprint + AllocGlobal>(
 {
     let dir = word(given, "DIR")?;
     let network = word(given, "network")?;
-    Ok(command::run(rt, dir, network)?)
+    Ok(command::run(rt, dir, network, stretch(given)?)?)
+}
+
+/// Which part of the records is gathered, by the words of `gather`.
+///
+/// # Errors
+/// If a word spells no number in its range.
+fn stretch(given: &ArgMatches) -> Result<Stretch, WordFault<'static>>
+    ensures ok { IfOk result (IsStretchOf (found_of given.now)) }
+    ensures err { IfErr result (IsStretchRefused (found_of given.now)) }
+{
+    if let Some(seconds) = number_if_given(given, FROM)? {
+        return Ok(Stretch::From(seconds as u32));
+    }
+    match number_if_given(given, LAST)? {
+        Some(seconds) => Ok(Stretch::Last(seconds as u32)),
+        None => Ok(Stretch::Whole),
+    }
 }

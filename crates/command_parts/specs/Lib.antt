@@ -1,3 +1,4 @@
+pub use Rattle.schedules.specs as schedules
 pub use Rattle.world.specs as world
 pub mod SimulationFault
 pub mod Simulated

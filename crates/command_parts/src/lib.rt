@@ -28,6 +28,7 @@ pub use network_file::{NetworkFault, network_of, read_network};
 pub use path_fault::PathFault;
 pub use progress::Progress;
 pub use returns::{Returns, return_hint, say_hint};
+pub use schedules;
 pub use simulation::{STANDARD_INPUT, events_status, simulate_between};
 pub use streams::{Flush, ReadSource, WriteSink};
 pub use world;

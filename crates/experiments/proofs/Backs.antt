@@ -13,12 +13,12 @@ use Rattle.run_model.specs.Run.{run, IsUndamaged}
 use Rattle.run_model.specs.Laws.{NetworkStays}
 use Rattle.run_model.specs.declared.event.Event.{Event}
 use Rattle.run_model.specs.declared.event.Event.TheVariants.{Send, Take, Lose, Tick, Ask, Leave, Damage}
-use Rattle.damage_tool.specs.Laws.{AreAccepted, DrawsAreBelow}
+use Rattle.schedules.specs.damage_tool.Laws.{AreAccepted, DrawsAreBelow}
 use Rattle.schedules.specs.Laws.{RoundIsUndamaged, RoundsAreAccepted}
 use Rattle.schedules.specs.Rounds.{round, rounds}
 use Rattle.schedules.specs.Random.{draw_step, admitted}
 use Rattle.schedules.specs.declared.random.Chances.{Chances}
-use Rattle.configuration.specs.ConfigurationView.{world_of}
+use Rattle.judge.specs.configuration.ConfigurationView.{world_of}
 use Rattle.experiments.specs.declared.giving_back.Lending.{Lending}
 use Rattle.experiments.specs.GivenBack.{WentBack, due, back_at, back_at_all, back_after, round_back, rounds_back, step_back, random_back}
 use Rattle.experiments.specs.Scheduled.{leave_of}

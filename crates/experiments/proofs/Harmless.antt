@@ -10,7 +10,7 @@ use Rattle.run_model.specs.Step.{step}
 use Rattle.run_model.specs.Run.{is_damage, has_damage, run, IsUndamaged}
 use Rattle.run_model.specs.declared.event.Event.{Event}
 use Rattle.run_model.specs.declared.event.Event.TheVariants.{Send, Take, Lose, Tick, Ask, Leave, Damage}
-use Rattle.damage_tool.specs.Laws.{DrawsAreBelow}
+use Rattle.schedules.specs.damage_tool.Laws.{DrawsAreBelow}
 use Rattle.schedules.specs.Laws.{RoundIsUndamaged, SlowRoundIsUndamaged}
 use Rattle.schedules.specs.Random.{draw_step}
 use Rattle.schedules.specs.Slow.{slow_link, slow_node}

@@ -6,7 +6,7 @@ use Rattle.run_model.specs.World.{World}
 use Rattle.run_model.specs.Start.{default_world}
 use Rattle.run_model.specs.Run.{run}
 use Rattle.run_model.specs.Laws.{NetworkStays, StartIsInRange}
-use Rattle.damage_tool.specs.Laws.{AreAccepted, ScrambleIsAccepted, ScrambleKeepsNetwork, DrawsAreBelow}
+use Rattle.schedules.specs.damage_tool.Laws.{AreAccepted, ScrambleIsAccepted, ScrambleKeepsNetwork, DrawsAreBelow}
 use Rattle.schedules.specs.Laws.{RoundIsUndamaged, RoundsAreAccepted}
 use Rattle.schedules.specs.Rounds.{rounds}
 use Rattle.experiments.specs.Plan.{harms_of, ordered, planned, turns}

@@ -6,7 +6,7 @@ use Rattle.run_model.specs.Step.{with_desk}
 use Rattle.run_model.specs.declared.event.Event.{Event}
 use Rattle.run_model.specs.declared.event.Event.TheVariants.{Leave, Send, Take, Tick}
 use Rattle.run_model.proofs.RowsTwo.{two_nodes, calm}
-use Rattle.damage_tool.specs.Draws.{draw}
+use Rattle.schedules.specs.damage_tool.Draws.{draw}
 use Rattle.experiments.specs.declared.plan.Order.TheVariants as order
 use Rattle.experiments.specs.GivenBack.{due, back_at, back_at_all, back_after, rounds_back}
 use Rattle.experiments.specs.Plan.{planned, turns}

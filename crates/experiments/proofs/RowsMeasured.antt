@@ -5,7 +5,7 @@ use Rattle.std.proofs.lemmas.Grind.{common_steps}
 use Rattle.std.specs.Ordering.{nat_cmp}
 use Rattle.std.specs.List.Sorted.{IsSorted}
 use Rattle.rand_pcg.specs.Lcg.{Lcg}
-use Rattle.damage_tool.specs.Draws.{draw}
+use Rattle.schedules.specs.damage_tool.Draws.{draw}
 use Rattle.topology.specs.Eccentricity.{sharp_of}
 use Rattle.run_model.specs.World.{World}
 use Rattle.run_model.specs.Step.{with_desk}

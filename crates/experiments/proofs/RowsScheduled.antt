@@ -11,7 +11,7 @@ use Rattle.run_model.specs.Headline.{IsServing}
 use Rattle.run_model.specs.declared.event.Event.TheVariants.{Leave, Send, Take, Tick}
 use Rattle.run_model.proofs.RowsTwo.{two_nodes, calm}
 use Rattle.run_model.proofs.RowsServing.{calm-serves, two_tokens, two_tokens-do_not_serve}
-use Rattle.damage_tool.specs.Draws.{draw}
+use Rattle.schedules.specs.damage_tool.Draws.{draw}
 use Rattle.judge.specs.JudgeView.{JudgeView, HasSeen}
 use Rattle.experiments.specs.declared.plan.Order.TheVariants as order
 use Rattle.experiments.specs.declared.watch.LastFailures.{LastFailures}

@@ -12,8 +12,8 @@ use Rattle.run_model.specs.Laws.{NetworkStays}
 use Rattle.run_model.specs.declared.event.Event.{Event}
 use Rattle.run_model.specs.declared.event.EventFault.{EventFault}
 use Rattle.run_model.specs.declared.event.Event.TheVariants.{Send, Take, Lose, Tick, Ask, Leave, Damage}
-use Rattle.damage_tool.specs.Draws.{draw}
-use Rattle.damage_tool.specs.Laws.{AreAccepted, DrawsAreBelow}
+use Rattle.schedules.specs.damage_tool.Draws.{draw}
+use Rattle.schedules.specs.damage_tool.Laws.{AreAccepted, DrawsAreBelow}
 use Rattle.schedules.specs.Random.{draw_link, draw_arrival, draw_client, draw_step, node_at, admitted, random_steps}
 use Rattle.schedules.specs.declared.random.Chances.{Chances}
 

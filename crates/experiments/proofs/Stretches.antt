@@ -11,7 +11,7 @@ use Rattle.run_model.specs.Step.{step}
 use Rattle.run_model.specs.Run.{run}
 use Rattle.run_model.specs.declared.event.Event.{Event}
 use Rattle.run_model.specs.declared.event.Event.TheVariants.{Leave}
-use Rattle.configuration.specs.ConfigurationView.{world_of}
+use Rattle.judge.specs.configuration.ConfigurationView.{world_of}
 use Rattle.judge.specs.JudgeView.{JudgeView}
 use Rattle.schedules.specs.Random.{draw_step}
 use Rattle.experiments.specs.Recovery.{IsWatched}

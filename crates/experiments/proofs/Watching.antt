@@ -8,10 +8,10 @@ use Rattle.run_model.specs.Run.{run}
 use Rattle.run_model.specs.Count.{IsSweepCount}
 use Rattle.run_model.specs.Headline.{IsServing}
 use Rattle.run_model.specs.declared.event.Event.{Event}
-use Rattle.configuration.specs.ConfigurationView.{ConfigurationView, world_of}
+use Rattle.judge.specs.configuration.ConfigurationView.{ConfigurationView, world_of}
 use Rattle.judge.specs.Judging.{counted_up_to}
-use Rattle.configuration.specs.Sight.{IsTouchedSight}
-use Rattle.configuration.specs.declared.sight.Sight.{Sight}
+use Rattle.judge.specs.configuration.Sight.{IsTouchedSight}
+use Rattle.judge.specs.configuration.declared.sight.Sight.{Sight}
 use Rattle.experiments.specs.Recovery.{HoldsAfterEach, IsLastFailure, FailsLast, IsLastNow}
 
 pub run-append : (w : World) (xs ys : List Event) → run w (xs ++ ys) ≡ run (run w xs) ys

@@ -9,7 +9,7 @@ use Rattle.run_model.specs.Step.{step}
 use Rattle.run_model.specs.Run.{run}
 use Rattle.run_model.specs.declared.event.Event.{Event}
 use Rattle.run_model.specs.declared.event.Event.TheVariants.{Send, Take, Lose, Tick, Ask, Leave, Damage}
-use Rattle.configuration.specs.ConfigurationView.{world_of}
+use Rattle.judge.specs.configuration.ConfigurationView.{world_of}
 use Rattle.schedules.specs.Rounds.{round}
 use Rattle.schedules.specs.Random.{draw_step, admitted}
 use Rattle.schedules.specs.declared.random.Chances.{Chances}

@@ -3,7 +3,7 @@ use Rattle.std.specs.Prelude.{ℕ, Option}
 use Rattle.rand_pcg.specs.Lcg.{Lcg}
 use Rattle.topology.specs.Network.{Network, IsAcceptedNetwork}
 use Rattle.run_model.specs.Start.{default_world}
-use Rattle.damage_tool.specs.Laws.{AreAccepted}
+use Rattle.schedules.specs.damage_tool.Laws.{AreAccepted}
 use Rattle.experiments.specs.Plan.{planned}
 use Rattle.experiments.specs.declared.plan.Order.{Order}
 

@@ -7,7 +7,7 @@ use Rattle.run_model.specs.World.{World}
 use Rattle.run_model.specs.Start.{default_world}
 use Rattle.run_model.specs.Run.{run}
 use Rattle.run_model.specs.declared.event.Event.{Event}
-use Rattle.damage_tool.specs.Harms.{draw_world}
+use Rattle.schedules.specs.damage_tool.Harms.{draw_world}
 use Rattle.schedules.specs.Rounds.{rounds}
 use Rattle.schedules.specs.Random.{random_steps}
 use Rattle.experiments.specs.GivenBack.{ordered_back}

@@ -10,7 +10,7 @@ use Rattle.run_model.specs.Start.{default_world}
 use Rattle.run_model.specs.Run.{run, IsUndamaged}
 use Rattle.run_model.specs.Count.{IsSweepCount}
 use Rattle.run_model.specs.declared.event.Event.{Event}
-use Rattle.damage_tool.specs.Harms.{draw_world}
+use Rattle.schedules.specs.damage_tool.Harms.{draw_world}
 use Rattle.judge.specs.Judging.{counted_up_to}
 use Rattle.experiments.specs.declared.measured_run.Recovery.{Recovery}
 use Rattle.experiments.specs.Recovery.{FailedLast, counted_from}

@@ -3,14 +3,14 @@ ghost use Rattle.std.specs.Prelude.{◌≡◌, ◌-◌, ◌<◌, [], ◌∷◌, 
 ghost use Rattle.std.specs.List.{range_with_len};
 ghost use Rattle.byte_streams.specs.Streams.{CountsFailures};
 ghost use Rattle.run_model.specs.Run.{run};
-ghost use Rattle.configuration.specs.ConfigurationView.{world_of};
+ghost use Rattle.judge.specs.configuration.ConfigurationView.{world_of};
 ghost use Rattle.experiments.specs.GivenBack.{WentBack, back_at, back_at_all, due, ordered_back};
 ghost use Rattle.experiments.specs.GivenBack.{random_back, round_back, rounds_back, step_back};
 ghost use Rattle.schedules.specs.Random.{admitted, draw_step};
 
 use crate::plan::Order;
 use byte_streams::Failed;
-use configuration::Configuration;
+use judge::configuration::Configuration;
 use rand_pcg::Lcg64Xsh32;
 use run_model::Event;
 use schedules::{Chances, EventSink, give_round, next_step};

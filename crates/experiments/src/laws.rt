@@ -8,8 +8,8 @@ pub fn accepted()
 {
     run_model::laws::runs();
     run_model::laws::start();
-    damage_tool::laws::scramble();
-    damage_tool::laws::draws();
+    schedules::damage_tool::laws::scramble();
+    schedules::damage_tool::laws::draws();
     schedules::laws::accepted();
     schedules::laws::edges();
 }

@@ -50,8 +50,8 @@ pub fn measure_layers<A: Allocator + Copy>(
     run_model::laws::moments();
     run_model::laws::sweep_numbers();
     layers::convergence::laws::sharp();
-    damage_tool::laws::scramble();
-    damage_tool::laws::draws();
+    schedules::damage_tool::laws::scramble();
+    schedules::damage_tool::laws::draws();
     schedules::laws::accepted();
     schedules::laws::slow_rounds();
     schedules::laws::edges();

@@ -1,11 +1,11 @@
 //! What has been seen of the layers of the proof along a run under way.
 ghost use Rattle.std.specs.Prelude.{◌≡◌, ◌+◌, not, ◌&&◌, ◌||◌, if◌then◌else◌, Some};
 ghost use Rattle.judge.specs.Judging.{counted_up_to};
-ghost use Rattle.configuration.specs.ConfigurationView.{world_of};
+ghost use Rattle.judge.specs.configuration.ConfigurationView.{world_of};
 ghost use Rattle.experiments.specs.Delays.{is_harm};
 ghost use Rattle.experiments.specs.Recovery.{counted_from, unseen, AreLayersNow, LayersGoOn};
 
-use configuration::Configuration;
+use judge::configuration::Configuration;
 use layers::{are_links_stable, are_loans_privileged, is_token_ring_good, is_tree_reached};
 use run_model::Event;
 use std::alloc::Allocator;

@@ -26,6 +26,7 @@ mod summary;
 mod watch;
 
 pub use delay::{Delay, replay};
+pub use judge;
 pub use layered_run::{Settling, measure_layers};
 pub use layers;
 pub use measured_run::{Recovery, Scheduler, measure_run};

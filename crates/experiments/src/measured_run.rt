@@ -1,7 +1,7 @@
 //! One run: a scrambled world, and a schedule up to the sharper bound.
 ghost use Rattle.std.specs.Prelude.{◌≡◌, ◌+◌, ◌*◌, length, IfOk};
 ghost use Rattle.run_model.specs.Run.{run};
-ghost use Rattle.configuration.specs.ConfigurationView.{world_of};
+ghost use Rattle.judge.specs.configuration.ConfigurationView.{world_of};
 ghost use Rattle.experiments.specs.Shown.{scrambled, seeded, IsRunOf};
 ghost use Rattle.schedules.specs.Rounds.{round};
 ghost use Rattle.schedules.specs.Slow.{slow_round};
@@ -9,12 +9,12 @@ ghost use Rattle.experiments.specs.Scheduled.{plain_steps, stretch_of, lent_at, 
 ghost use Rattle.experiments.specs.Watched.{GoesOn, GoesOnBy, GoesOnScheduled};
 
 use crate::watch::Watch;
-use configuration::Configuration;
-use damage_tool::scramble_world;
 use judge::World;
+use judge::configuration::Configuration;
 use rand_core::SeedableRng;
 use rand_pcg::Lcg64Xsh32;
 use run_model::Event;
+use schedules::damage_tool::scramble_world;
 use schedules::{
     Chances, EventSink, Slow, draw_step, give_round, give_slow_round, slow_link, slow_node,
 };
@@ -78,8 +78,8 @@ pub fn measure_run<A: Allocator + Copy>(
     run_model::laws::moments();
     run_model::laws::sweep_numbers();
     layers::convergence::laws::sharp();
-    damage_tool::laws::scramble();
-    damage_tool::laws::draws();
+    schedules::damage_tool::laws::scramble();
+    schedules::damage_tool::laws::draws();
     schedules::laws::accepted();
     schedules::laws::slow_rounds();
     schedules::laws::edges();

@@ -1,16 +1,16 @@
 //! A whole schedule: a scramble if it is asked for, and then rounds or random steps.
 ghost use Rattle.std.specs.Prelude.{◌≡◌, OnOk};
 ghost use Rattle.byte_streams.specs.Streams.{CountsFailures};
-ghost use Rattle.configuration.specs.ConfigurationView.{world_of};
+ghost use Rattle.judge.specs.configuration.ConfigurationView.{world_of};
 ghost use Rattle.run_model.specs.Run.{run};
 ghost use Rattle.experiments.specs.Plan.{harms_of, ordered, planned, turns, CountsSinkFailures};
 
 use crate::giving_back::{Lending, give_order_back};
 use byte_streams::Failed;
-use configuration::Configuration;
-use damage_tool::scramble_world;
+use judge::configuration::Configuration;
 use rand_pcg::Lcg64Xsh32;
 use run_model::Event;
+use schedules::damage_tool::scramble_world;
 use schedules::{Chances, EventSink, give_random, give_rounds};
 use std::alloc::{AllocError, Allocator};
 use topology::Net;

@@ -1,6 +1,6 @@
 //! A run under way, and since when it serves.
 ghost use Rattle.std.specs.Prelude.{◌≡◌, ◌∷◌, [], true, false, IsOk, if◌then◌else◌, Some};
-ghost use Rattle.configuration.specs.ConfigurationView.{world_of};
+ghost use Rattle.judge.specs.configuration.ConfigurationView.{world_of};
 ghost use Rattle.judge.specs.JudgeView.{AreSweepsSeen};
 ghost use Rattle.experiments.specs.Recovery.{beginning, counted_from, AnyLayersGoOn, AreAnyLayersFirst};
 ghost use Rattle.experiments.specs.Recovery.{IsWatched};
@@ -8,7 +8,7 @@ ghost use Rattle.experiments.specs.Watched.{GoesOn};
 
 use crate::layers_seen::{LayersSeen, last_failure, sweeps_after};
 use byte_streams::Failed;
-use configuration::{Configuration, serves, serves_after, touched_sight};
+use judge::configuration::{Configuration, serves, serves_after, touched_sight};
 use judge::{Judge, World};
 use run_model::Event;
 use schedules::EventSink;
@@ -37,7 +37,7 @@ pub struct Watch<A: Allocator + Copy = Global> {
 
 impl<A: Allocator + Copy> Model for Watch<A> {
     ghost use Rattle.std.specs.Prelude.{◌↔◌, IsTrue};
-    ghost use Rattle.configuration.specs.ConfigurationView.{world_of};
+    ghost use Rattle.judge.specs.configuration.ConfigurationView.{world_of};
     ghost use Rattle.run_model.specs.Headline.{IsServing};
     ghost use Rattle.experiments.specs.Recovery.{WatchView};
 

@@ -1,2 +1,3 @@
 mod Files
+mod Fronts
 mod Rows

@@ -1,5 +1,5 @@
 -- Recorders that are small enough to see through.
-use Rattle.std.proofs.Common.{◌≡◌, ℕ, Bool, true, false, List, [], ◌∷◌, refl, arith, length}
+use Rattle.std.proofs.Common.{◌≡◌, ℕ, Bool, true, false, List, [], ◌∷◌, Result, Ok, refl, arith, length}
 use Rattle.std.proofs.lemmas.Grind.{common_steps}
 use Rattle.flight_records.specs.declared.entry.Entry.{Entry}
 use Rattle.flight_records.specs.declared.entry.Noted.{Noted}
@@ -9,6 +9,9 @@ use Rattle.flight_records.specs.declared.entry.Deed.TheVariants.{Ticks}
 use Rattle.flight_records.specs.Again.{no_frames}
 use Rattle.flight_recorder.specs.View.{RecorderView}
 use Rattle.flight_recorder.specs.Recorder.{at_start, is_at_start, after_note, after_write, after_failure, is_due, fills}
+use Rattle.flight_records.specs.leb128.declared.unread.Unread.{Unread}
+use Rattle.flight_recorder.specs.Resume.{Begins, IsFront}
+use Rattle.flight_recorder.proofs.Fronts.{none-left}
 use Rattle.flight_recorder.specs.Laws.{BeginsWithStart, Holds}
 use Rattle.flight_recorder.specs.declared.recorder.Side.TheVariants.{First, Second}
 
@@ -36,7 +39,7 @@ not-due = refl
 -- a file of 65536 bytes of which 32766 are written has room for a page more after one of 2 bytes, and
 -- none after one of 3
 abbrev late : List ℕ → RecorderView
-late page = record { page = page; size = 65536; written = 32766; last = 7; frames = no_frames; side = First; is_stopped = false }
+late page = record { page = page; size = 65536; written = 32766; last = 7; frames = no_frames; side = First; is_begun = true; is_stopped = false }
 
 goes-on : fills (late (1 ∷ 2 ∷ [])) ≡ false
 goes-on = refl
@@ -57,3 +60,33 @@ not-a-deed h = grind (arith, common_steps)
 -- bytes that are no entry are held by no recorder
 nothing-of_it : Holds (late (1 ∷ [])) [] [] → ⊥
 nothing-of_it h = let e = h.bytes in absurd cc
+
+-- a file that begins with the start of node 1's state is gone on with by node 1, and by no other node
+abbrev read_first : Result (Entry × List ℕ) Unread
+read_first = Ok (record { instant = 5; noted = beginning }, [])
+
+of-node : Begins 0 1 read_first
+of-node = refl
+
+of-no_other : Begins 0 2 read_first → ⊥
+of-no_other is = absurd cc
+
+of-no_other_network : Begins 3 1 read_first → ⊥
+of-no_other_network is = absurd cc
+
+-- no file has no front but nothing
+front : IsFront [] 0 0 []
+front = record { within = omega arith; read = refl; last_is = refl; no_more = none-left 0 [] (omega arith) }
+
+no-front : IsFront [] 0 5 [] → ⊥
+no-front is = omega (arith, is.last_is)
+
+-- a recorder that goes on after 32766 bytes of a file of 65536, at microsecond 7, begins with the start of a state
+abbrev gone_on : RecorderView
+gone_on = record (at_start 65536 First) { written = 32766; last = 7 }
+
+no-deed_there : after_note 9 tick gone_on ≡ gone_on
+no-deed_there = refl
+
+start-there : (after_note 9 beginning gone_on).is_begun ≡ true
+start-there = refl

@@ -28,12 +28,13 @@ at_start size side =
       last = 0;
       frames = no_frames;
       side = side;
+      is_begun = false;
       is_stopped = false;
     }
 
--- nothing is noted yet of what belongs into the present file
+-- nothing is noted yet since the recorder began, or since the present file did
 abbrev pub is_at_start : RecorderView → Bool
-is_at_start r = r.written == 0 && length r.page == 0
+is_at_start r = not r.is_begun
 
 -- the start of a state
 abbrev pub is_start_part : StatePart → Bool
@@ -69,6 +70,7 @@ after_note instant n r =
       page = r.page ++ spelling r.last (short_entry r.frames (entry_noted instant n r));
       last = max instant r.last;
       frames = frames_after r.frames n;
+      is_begun = true;
     }
 
 -- the page must be written
@@ -82,7 +84,14 @@ fills r = nat_lt r.size (r.written + length r.page + 32768)
 -- the page was written
 abbrev pub after_write : RecorderView → RecorderView
 after_write r =
-    if fills r then record r { page = []; written = 0; last = 0; frames = no_frames; side = other r.side }
+    if fills r then record r {
+      page = [];
+      written = 0;
+      last = 0;
+      frames = no_frames;
+      side = other r.side;
+      is_begun = false;
+    }
     else record r { page = []; written = r.written + length r.page }
 
 -- it was not: the record stops, and nothing else

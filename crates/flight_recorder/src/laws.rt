@@ -2,12 +2,14 @@
 ghost use Rattle.flight_recorder.specs.Laws.{FilesAreRecords};
 
 /// What is written to a file, page after page, is a record that begins with the start of a state, of
-/// all that was noted since the file began; a file that is left is whole; and who reads it reads what
-/// was noted. Whoever drives a recorder stands on it.
+/// all that was noted since the file began; a file that is left is whole; and reading it gives what
+/// was noted. A recorder that goes on after the front of a file, of which the rest is cut off, leaves a file
+/// that gives the entries of that front and then what was noted. Whoever drives a recorder stands on it.
 pub fn files_are_records()
     ensures { FilesAreRecords }
 {
     flight_records::laws::records_grow();
     flight_records::laws::one_reading();
+    flight_records::laws::pieces_are_read();
     flight_records::laws::short_forms_stand();
 }

@@ -19,10 +19,15 @@
 //! state, for until then nothing else is noted. A write that failed stops the record, and nothing
 //! else: from then on nothing is noted, and nothing is due.
 //!
+//! A node that starts again goes on in the file that was written last: [`Recorder::resumed`] looks at what
+//! stands there, and goes on after the whole entries at its front, with the start of a state. What
+//! stands after them, as half an entry that was not written to its end, must be cut off first.
+//!
 //! The trap: what stands in the page is not yet in a file. A process that is killed loses up to one
 //! page of what it did last.
 #![tactic(auto)]
 
+mod front;
 pub mod laws;
 mod name;
 mod recorder;

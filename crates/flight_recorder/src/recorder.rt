@@ -2,7 +2,9 @@
 ghost use Rattle.std.specs.Prelude.{◌≡◌, ◌≤◌, ◌+◌, IfOk, length};
 ghost use Rattle.flight_recorder.specs.Recorder.{at_start, after_note, after_write, fills};
 ghost use Rattle.flight_recorder.specs.Recorder.{after_failure, is_due, is_start, is_at_start, other};
+ghost use Rattle.flight_recorder.specs.Resume.{IsResumed};
 
+use crate::front::{Front, begins_with, front_of};
 use flight_records::{Entry, LastFrames, Noted, StatePart, write_entry};
 use std::alloc::{AllocError, Allocator, Global};
 use std::marker::Model;
@@ -30,7 +32,7 @@ pub enum Side {
 
 impl Side {
     /// The other one of the two.
-    fn other(self) -> Side
+    pub fn other(self) -> Side
         ensures { result ≡ other self }
     {
         match self {
@@ -53,6 +55,8 @@ pub struct Recorder<A: Allocator = Global> {
     /// The frames that were noted last in the present file.
     frames: LastFrames,
     side: Side,
+    /// Something is noted since the recorder began, or since the present file did.
+    is_begun: bool,
     is_stopped: bool,
 }
 
@@ -69,6 +73,7 @@ impl<A: Allocator> Model for Recorder<A> {
       last = r.last;
       frames = r.frames;
       side = r.side;
+      is_begun = r.is_begun;
       is_stopped = r.is_stopped;
     } };
 
@@ -90,13 +95,49 @@ impl<A: Allocator> Recorder<A> {
             last: 0,
             frames: LastFrames::new(),
             side,
+            is_begun: false,
             is_stopped: false,
         })
     }
 
+    /// A recorder that goes on after the whole entries at the front of a file, in front of `file`'s other
+    /// bytes, if it begins with the start of a state of this node, of the network with this number, and
+    /// has room for one more page; else none. All memory is reserved here; `AllocError` comes only if
+    /// that is refused.
+    pub fn resumed(
+        alloc: A,
+        size: u64,
+        side: Side,
+        file: &[u8],
+        network: u32,
+        node: u16,
+    ) -> Result<Option<Recorder<A>>, AllocError>
+        requires { 65536 ≤ size }
+        ensures { IfOk result (IsResumed size side network node file.now) }
+    {
+        if !begins_with(file, network, node) {
+            return Ok(None);
+        }
+        let front = front_of(file);
+        if front.count as u64 > size - ROOM as u64 {
+            return Ok(None);
+        }
+        let mut recorder = Recorder::new(alloc, size, side)?;
+        recorder.goes_on_after(front);
+        Ok(Some(recorder))
+    }
+
+    /// Goes on after the front of a file.
+    fn goes_on_after(&mut self, front: Front)
+        requires { front.count + 32768 ≤ self.old.size }
+        ensures { self.new ≡ record self.old { written = front.count; last = front.last } }
+    {
+        self.written = front.count as u64;
+        self.last = front.last;
+    }
+
     /// Notes something of this instant, or of the one noted last if that is later; a frame that was
-    /// the last one of its link, in its short form. At the start of a file only the start of a state
-    /// is noted; once the record has stopped, nothing is; and where the page has no room for one more
+    /// the last one of its link, in its short form. At the start only the start of a state is noted; once the record has stopped, nothing is; and where the page has no room for one more
     /// entry, the record stops.
     pub fn note(&mut self, instant: u64, noted: Noted)
         ensures { self.new ≡ after_note instant noted self.old }
@@ -114,14 +155,22 @@ impl<A: Allocator> Recorder<A> {
         };
         write_entry(self.last, &entry, &mut self.page);
         self.last = entry.instant;
+        self.is_begun = true;
     }
 
-    /// Whether nothing is noted yet of what belongs into the present file: then it must be
-    /// emptied, and the whole state noted.
+    /// Whether nothing is noted yet since the recorder began, or since the present file did: then the
+    /// whole state must be noted.
     pub fn is_at_start(&self) -> bool
         ensures { result ≡ is_at_start self.now }
     {
-        self.written == 0 && self.page.is_empty()
+        !self.is_begun
+    }
+
+    /// How many bytes of the present file are written. If there are none, it must be emptied.
+    pub fn written(&self) -> u64
+        ensures { result ≡ self.now.written }
+    {
+        self.written
     }
 
     /// Whether the page must be written.
@@ -162,6 +211,7 @@ impl<A: Allocator> Recorder<A> {
         self.last = 0;
         self.frames = LastFrames::new();
         self.side = self.side.other();
+        self.is_begun = false;
         true
     }
 

@@ -22,7 +22,7 @@ use Rattle.gather_command.specs.Laws.{entries_of}
 refused-stays : (w : World) (e : Event) → is_some (refusal w e) ≡ true → step w e ≡ w
 refused-stays w e r = grind (arith, common_steps)
 
-accepted-append : (w : World) (xs ys : List Event) → accepted w (xs ++ ys) ≡ accepted w xs ++ accepted (run w xs) ys
+pub accepted-append : (w : World) (xs ys : List Event) → accepted w (xs ++ ys) ≡ accepted w xs ++ accepted (run w xs) ys
 accepted-append w [] ys = refl
 accepted-append w (x ∷ xs) ys =
     let by : (b : Bool) → is_some (refusal w x) ≡ b
@@ -100,7 +100,7 @@ same-place [] v e h = absurd (cc h)
 same-place (es ∷ records) zero e h = refl
 same-place (es ∷ records) (suc v) e h = same-place records v e h
 
-other-place : (records : List (List Entry)) (v u : ℕ) (es : List Entry) → v ≢ u
+pub other-place : (records : List (List Entry)) (v u : ℕ) (es : List Entry) → v ≢ u
     → slice_index_or (slice_set records v es) u [] ≡ slice_index_or records u []
 other-place records v u es n = grind (arith, common_steps)
 
@@ -110,7 +110,7 @@ own-place records v e es h m =
     ap (λ (l : List Entry). e ∷ l) (m ∙ same-place records v e h)
     ∙ sym (rest-of (slice_index_or records v []) e (sym (head-at records v) ∙ h))
 
-same-node : (records : List (List Entry)) (u v : ℕ) (e : Entry) (es : List Entry) → u ≡ v → head_of (heads_of records) u ≡ Some e
+pub same-node : (records : List (List Entry)) (u v : ℕ) (e : Entry) (es : List Entry) → u ≡ v → head_of (heads_of records) u ≡ Some e
     → es ≡ slice_index_or (without_next records u) v [] → e ∷ es ≡ slice_index_or records v []
 same-node records u v e es s =
     subst (λ (n : ℕ). head_of (heads_of records) u ≡ Some e → es ≡ slice_index_or (without_next records u) n [] → e ∷ es ≡ slice_index_or records n [])
@@ -120,10 +120,10 @@ none-of : (es : List Entry) → next_of es ≡ None → [] ≡ es
 none-of [] h = refl
 none-of (x ∷ es) h = absurd (cc h)
 
-same : (u v : ℕ) → (u == v) ≡ true → u ≡ v
+pub same : (u v : ℕ) → (u == v) ≡ true → u ≡ v
 same u v t = grind (arith, common_steps)
 
-others : (u v : ℕ) → (u == v) ≡ false → u ≢ v
+pub others : (u v : ℕ) → (u == v) ≡ false → u ≢ v
 others u v t = grind (arith, common_steps)
 
 pub complete : FrameStays → (w : World) (queues : List (List ℕ)) (records : List (List Entry)) (ms : List Moment) (v : ℕ)

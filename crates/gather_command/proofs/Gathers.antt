@@ -69,6 +69,9 @@ record-fault-as R S B D mark v f m b (inr (inr (e, x, y))) = inr (inr (e, m Firs
 
 -- ---- records are opened one after the other
 
+pub plus-one : (v : ℕ) → v + 1 ≡ suc v
+plus-one v = omega arith
+
 module _ (C : Type 0) (R : ℕ → Side → List Entry → Option FlawKind → Type 0) (mark : ℕ) where
   pub opened-none : (v : ℕ) → AreOpened C R mark v []
   opened-none v entries flaws (e, f) = (
@@ -86,9 +89,6 @@ module _ (C : Type 0) (R : ℕ → Side → List Entry → Option FlawKind → T
             (subst (λ (l : List Flaw). AreRecordsOf R mark v (es ∷ ess) l) (sym f) (OneMore own more (one es own come) records)),
         ap length e ∙ ap suc n,
       )
-
-  plus-one : (v : ℕ) → v + 1 ≡ suc v
-  plus-one v = omega arith
 
   pub next-opened : (v : ℕ) (nodes new : List NodeRecordView) (r : NodeRecordView)
       → ((rest : List NodeRecordView) → AreOpened C R mark v rest → AreOpened C R mark 0 (nodes ++ rest))

@@ -6,3 +6,7 @@ pub mod Sights
 pub mod Gathers
 pub mod Text
 pub mod Rows
+pub mod Scenes
+pub mod Parts
+pub mod Stretches
+pub mod StretchesFaithful

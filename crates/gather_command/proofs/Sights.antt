@@ -1,8 +1,8 @@
 -- What is watched stays watched, and flaws are listed one after the other.
-use Rattle.std.proofs.Common.{◌≡◌, ◌∙◌, ap, sym, refl, subst, ℕ, Bool, true, false, List, [], ◌∷◌, ◌++◌, Option, Some, ◌<◌, ◌+◌, length, take, append_assoc}
+use Rattle.std.proofs.Common.{◌≡◌, ◌∙◌, ap, sym, refl, subst, arith, ℕ, zero, suc, Bool, true, false, List, [], ◌∷◌, ◌++◌, Option, Some, ◌<◌, ◌+◌, length, take, drop, map, append_assoc}
 use Rattle.std.proofs.lemmas.List.{length-set, append-nil, take_more}
 use Rattle.std.proofs.lemmas.Option.{slice_get-get_or}
-use Rattle.std.specs.Prelude.{if◌then◌else◌, slice_get, slice_index_or}
+use Rattle.std.specs.Prelude.{if◌then◌else◌, slice_get, slice_index_or, slice_set}
 use Rattle.gather_command.specs.declared.fault.Flaw.{Flaw}
 use Rattle.gather_command.specs.View.{NodeRecordView}
 use Rattle.gather_command.specs.Records.{flaws_of, flaws_in}
@@ -54,3 +54,21 @@ flaws-step rs i r old new same l added before =
     ∙ sym (ap flaws_in (take_more rs i r l)
     ∙ flaws-more (take i rs) (slice_index_or rs i r)
     ∙ ap (λ (x : NodeRecordView). flaws_in (take i rs) ++ flaws_of x) (sym same))
+
+-- one more of the elements of a list is made again
+again-step : {X : Type 0} (f : X → X) (old : List X) (i : ℕ) (d : X) → i < length old
+    → slice_set (map f (take i old) ++ drop i old) i (f (slice_index_or (map f (take i old) ++ drop i old) i d))
+    ≡ map f (take (suc i) old) ++ drop (suc i) old
+again-step f [] i d l = absurd (omega (arith, l))
+again-step f (x ∷ xs) zero d l = refl
+again-step {X = X} f (x ∷ xs) (suc i) d l = ap (λ (ys : List X). f x ∷ ys) (again-step f xs i d (omega (arith, l)))
+
+pub again-more : {X : Type 0} (f : X → X) (old now new : List X) (i : ℕ) (x d : X) → i < length old
+    → now ≡ map f (take i old) ++ drop i old → x ≡ f (slice_index_or now i d) → new ≡ slice_set now i x
+    → new ≡ map f (take (i + 1) old) ++ drop (i + 1) old
+again-more {X = X} f old now new i x d l before is after =
+    let next : i + 1 ≡ suc i = omega arith in
+    after ∙ ap (slice_set now i) is
+    ∙ ap (λ (ys : List X). slice_set ys i (f (slice_index_or ys i d))) before
+    ∙ again-step f old i d l
+    ∙ ap (λ (n : ℕ). map f (take n old) ++ drop n old) (sym next)

@@ -13,7 +13,7 @@ use Rattle.gather_command.specs.declared.fault.FlawKind.{FlawKind}
 use Rattle.gather_command.specs.View.{FileView, NodeRecordView, heads_in}
 use Rattle.gather_command.specs.WeavingView.{WeavingView}
 use Rattle.gather_command.specs.Records.{listed, flaws_in, ComesOf, ComesFrom, IsToCome, AreToCome, GoesOn}
-use Rattle.gather_command.specs.Weave.{Moment, moment_at, events_at, world_after, events_of, next_of, heads_of, without_next, IsWoven, NoneLeft, Next}
+use Rattle.gather_command.specs.Weave.{Moment, moment_at, events_at, world_after, events_of, next_of, heads_of, without_next, IsLed, Stays, Leads, IsWoven, NoneLeft, Next}
 use Rattle.gather_command.specs.Watch.{Seen, seen_after}
 use Rattle.gather_command.specs.Woven.{world_in, IsTurn, IsNoted, HasPassed, LeadsOn, HasWoven, IsOneWoven}
 
@@ -87,9 +87,17 @@ head-at (x ∷ rs) (suc v) r e g h = head-at rs v r e g h
 
 -- ---- one entry leads on
 
+-- nothing is woven, and what follows is named otherwise
+stays-at : (w x : World) (q r : List (List ℕ)) (es fs : List (List Entry)) → x ≡ w → r ≡ q → es ≡ fs
+    → IsLed w q fs [] x r es
+stays-at w x q r es fs p s t =
+    subst (λ (y : World). IsLed w q fs [] y r es) (sym p)
+    (subst (λ (y : List (List ℕ)). IsLed w q fs [] w y es) (sym s)
+    (subst (λ (y : List (List Entry)). IsLed w q fs [] w q y) (sym t) Stays))
+
 pub one-leads : (C : Type 0) (w : WeavingView) (v : ℕ) (e : Entry) (mid new : WeavingView) → IsTurn w (Some (v, e))
     → IsNoted w v e mid → HasPassed C mid v new → LeadsOn C w (moment_at (world_in w) w.gathering.queues v e ∷ []) new
-one-leads C w v e mid new (turn, head, number) noted (before, after, g, on, same) entries flaws later come woven =
+one-leads C w v e mid new (turn, head, number) noted (before, after, g, on, same) entries flaws come =
     let world = world_in w in
     let queues = w.gathering.queues in
     let got : slice_get w.records v ≡ Some before = ap (λ (l : List NodeRecordView). slice_get l v) (sym noted.records) ∙ g in
@@ -98,17 +106,17 @@ one-leads C w v e mid new (turn, head, number) noted (before, after, g, on, same
     (subst (λ (x : WeavingView). AreToCome C x.records entries flaws) same come) in
     let was = was-to-come C w.records v before after e got (head-at w.records v before e got head) on entries flaws come_here in
     let heads : heads_in w.records ≡ heads_of was.before = sym (heads-agree C w.records was.before flaws was.come) in
-    let here : IsWoven (world_in mid) mid.gathering.queues entries later =
-    subst (λ (x : WeavingView). IsWoven (world_in x) x.gathering.queues entries later) same woven in
-    let there : IsWoven (world_after world queues v e) (queues_after queues v e.noted) entries later =
-    subst (λ (x : World). IsWoven x (queues_after queues v e.noted) entries later) noted.world
-    (subst (λ (q : List (List ℕ)). IsWoven (world_in mid) q entries later) noted.queues here) in (
+    let there : IsLed (world_after world queues v e) (queues_after queues v e.noted) (without_next was.before v) []
+    (world_in new) new.gathering.queues entries =
+    stays-at (world_after world queues v e) (world_in new) (queues_after queues v e.noted) new.gathering.queues entries
+    (without_next was.before v)
+    (ap world_in same ∙ noted.world)
+    (ap (λ (x : WeavingView). x.gathering.queues) same ∙ noted.queues)
+    (sym was.passed) in (
       was.before,
       was.come,
-      Next (subst (λ (hs : List (Option Entry)). IsNext world hs world.net.nodes (Some v)) heads turn)
-          (subst (λ (hs : List (Option Entry)). head_of hs v ≡ Some e) heads head)
-          (subst (λ (ess : List (List Entry)). IsWoven (world_after world queues v e) (queues_after queues v e.noted) ess later)
-          (sym was.passed) there),
+      Leads (subst (λ (hs : List (Option Entry)). IsNext world hs world.net.nodes (Some v)) heads turn)
+          (subst (λ (hs : List (Option Entry)). head_of hs v ≡ Some e) heads head) there,
     )
 
 -- ---- many entries
@@ -118,15 +126,34 @@ events-append [] ns = refl
 events-append (m ∷ ms) ns =
     ap (λ (es : List Event). m.events ++ es) (events-append ms ns) ∙ sym (append_assoc m.events (events_of ms) (events_of ns))
 
-none-leads : (C : Type 0) (w : WeavingView) → LeadsOn C w [] w
-none-leads C w entries flaws later come woven = (entries, come, woven)
+-- what is led on twice is led on
+led-both : (w x y : World) (q r s : List (List ℕ)) (es fs gs : List (List Entry)) (ms ns : List Moment)
+    → IsLed w q es ms x r fs → IsLed x r fs ns y s gs → IsLed w q es (ms ++ ns) y s gs
+led-both w x y q r s es fs gs all ns Stays more = more
+led-both w x y q r s es fs gs all ns (Leads {v = v} {e = e} {ms = ms} turn head rest) more =
+    Leads turn head
+    (led-both (world_after w q v e) x y (queues_after q v e.noted) r s (without_next es v) fs gs ms ns rest more)
 
-both-lead : (C : Type 0) (a b c : WeavingView) (ms ns : List Moment) → LeadsOn C a ms b → LeadsOn C b ns c
+-- and what is woven from there is woven from the start
+pub led-woven : (w x : World) (q r : List (List ℕ)) (es fs : List (List Entry)) (ms later : List Moment)
+    → IsLed w q es ms x r fs → IsWoven x r fs later → IsWoven w q es (ms ++ later)
+led-woven w x q r es fs all later Stays woven = woven
+led-woven w x q r es fs all later (Leads {v = v} {e = e} {ms = ms} turn head rest) woven =
+    Next turn head (led-woven (world_after w q v e) x (queues_after q v e.noted) r (without_next es v) fs ms later rest woven)
+
+pub none-leads : (C : Type 0) (w : WeavingView) → LeadsOn C w [] w
+none-leads C w entries flaws come = (entries, come, Stays)
+
+pub both-lead : (C : Type 0) (a b c : WeavingView) (ms ns : List Moment) → LeadsOn C a ms b → LeadsOn C b ns c
     → LeadsOn C a (ms ++ ns) c
-both-lead C a b c ms ns x y entries flaws later come woven =
-    let (mid, mid_come, mid_woven) = y entries flaws later come woven in
-    let (start, start_come, start_woven) = x mid flaws (ns ++ later) mid_come mid_woven in
-    (start, start_come, subst (λ (l : List Moment). IsWoven (world_in a) a.gathering.queues start l) (sym (append_assoc ms ns later)) start_woven)
+both-lead C a b c ms ns x y entries flaws come =
+    let (mid, mid_come, mid_led) = y entries flaws come in
+    let (start, start_come, start_led) = x mid flaws mid_come in (
+      start,
+      start_come,
+      led-both (world_in a) (world_in b) (world_in c) a.gathering.queues b.gathering.queues c.gathering.queues start mid entries ms ns
+          start_led mid_led,
+    )
 
 module _ {K : Type 0} (C : Type 0) (takes : K → List Event → K → Type 0) (failures : K → ℕ)
     (takes_none : (s : K) → takes s [] s)
@@ -166,7 +193,7 @@ module _ {K : Type 0} (C : Type 0) (takes : K → List Event → K → Type 0) (
 
 -- ---- none is left
 
-ended-one : (C : Type 0) (r : NodeRecordView) → r.head ≡ None → IsToCome C r [] (listed r.earlier ++ listed r.flaw)
+pub ended-one : (C : Type 0) (r : NodeRecordView) → r.head ≡ None → IsToCome C r [] (listed r.earlier ++ listed r.flaw)
 ended-one C r h =
     subst (λ (o : Option Entry). ComesFrom C r o [] (listed r.earlier ++ listed r.flaw)) (sym h) (refl, refl)
 
@@ -206,7 +233,9 @@ was-all C old new ms leads (none, number) =
     let none_left : IsWoven (world_in new) new.gathering.queues (no_entries rs) [] =
     NoneLeft (subst (λ (hs : List (Option Entry)). IsNext (world_in new) hs (world_in new).net.nodes None)
     (sym (heads-agree C rs (no_entries rs) (flaws_in rs) come)) none) in
-    let (before, before_come, woven) = leads (no_entries rs) (flaws_in rs) [] come none_left in
+    let (before, before_come, led) = leads (no_entries rs) (flaws_in rs) come in
+    let woven : IsWoven (world_in old) old.gathering.queues before (ms ++ []) =
+    led-woven (world_in old) (world_in new) old.gathering.queues new.gathering.queues before (no_entries rs) ms [] led none_left in
     record {
       before = before;
       come = before_come;

@@ -14,9 +14,10 @@ use Rattle.gather_command.specs.declared.fault.GatherFault.TheVariants as fault
 use Rattle.gather_command.specs.declared.damage.Difference.{Difference}
 use Rattle.gather_command.specs.declared.summary.Summary.{Summary}
 use Rattle.gather_command.specs.View.{NodeRecordView}
-use Rattle.gather_command.specs.Records.{AreRecordsOf, AreToCome, IsFault}
+use Rattle.gather_command.specs.Records.{AreRecordsOf, AreToCome, IsFault, flaws_in}
 use Rattle.gather_command.specs.Weave.{Moment, events_of, IsWoven}
-use Rattle.gather_command.specs.Watch.{seen_of, summary_of}
+use Rattle.gather_command.specs.Watch.{seen_of, numbers_of, summary_of}
+use Rattle.gather_command.specs.WeavingView.{WeavingView}
 
 -- The records of all nodes were read to their ends, or to their first flaws, and woven from the network
 -- as it starts. A sink took the events of what was woven, and they are counted; the first differences are
@@ -32,6 +33,13 @@ pub record IsGathered {K : Type 0} (Reads : ℕ → Side → List Entry → Opti
   pub taken : takes before (events_of moments) after
   pub numbers : summary ≡ summary_of net.nodes moments
   pub differences_are : differences ≡ (seen_of net.nodes moments).damage.shown
+
+-- the numbers, the first differences and the flaws of a weaving of all nodes' records
+pub record IsFinished (net : Network) (w : WeavingView) (summary : Summary) (differences : List Difference)
+    (flaws : List Flaw) : Type 0 where
+  pub numbers : summary ≡ numbers_of net.nodes w.seen
+  pub differences_are : differences ≡ w.seen.damage.shown
+  pub flaws_are : flaws ≡ flaws_in w.records
 
 -- why nothing was gathered: the sink failed, or memory ran out, or there are too many entries; or a record
 -- is refused, and then the sink is as it was

@@ -2,7 +2,7 @@ pub use Rattle.flight_recorder.specs as flight_recorder
 pub use Rattle.node_recorder.specs as node_recorder
 pub use Rattle.record_pages.specs as record_pages
 pub use Rattle.record_gathering.specs as record_gathering
-pub use Rattle.schedules.specs as schedules
+pub use Rattle.command_parts.specs.schedules as schedules
 pub use Rattle.command_parts.specs as command_parts
 pub mod Memory
 pub mod Reading
@@ -13,8 +13,11 @@ pub mod Weave
 pub mod Damage
 pub mod Watch
 pub mod WeavingView
+pub mod Scene
 pub mod Woven
+pub mod Stretch
 pub mod Gathered
+pub mod Part
 pub mod Lines
 pub mod Ends
 pub mod Laws

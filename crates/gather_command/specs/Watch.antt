@@ -1,5 +1,5 @@
 -- What is watched of the nodes while their records are woven: turns, loans, and the stretch of time.
-use Rattle.std.specs.Prelude.{ℕ, ◌-◌, min, max, Bool, true, false, if◌then◌else◌, List, Option, Some, None, option_map, slice_index_or, slice_set, nat_lt, fold, replicate}
+use Rattle.std.specs.Prelude.{ℕ, ◌-◌, min, max, Bool, true, false, if◌then◌else◌, List, Option, Some, None, option_map, slice_index_or, slice_set, nat_lt, fold, map, replicate}
 use Rattle.record_gathering.specs.flight_records.Again.{same_node}
 use Rattle.record_gathering.specs.flight_records.declared.entry.Entry.{Entry}
 use Rattle.record_gathering.specs.flight_records.declared.entry.Noted.{Noted}
@@ -8,7 +8,7 @@ use Rattle.record_gathering.specs.flight_records.declared.entry.Deed.{Deed}
 use Rattle.record_gathering.specs.flight_records.declared.entry.Deed.TheVariants as deed
 use Rattle.record_gathering.specs.flight_records.declared.entry.StatePart.{StatePart}
 use Rattle.record_gathering.specs.flight_records.declared.entry.StatePart.TheVariants.{Whole}
-use Rattle.record_gathering.specs.Counts.{one_more, with_events, nothing}
+use Rattle.record_gathering.specs.Counts.{one_more, with_entry, nothing}
 use Rattle.record_gathering.specs.declared.found.Found.{Found}
 use Rattle.gather_command.specs.declared.watch.Loan.{Loan}
 use Rattle.gather_command.specs.declared.watch.Watched.{Watched}
@@ -146,11 +146,23 @@ nothing_seen n = record { found = nothing; damage = no_damage; watch = unwatched
 
 abbrev pub seen_after : Seen → Moment → Seen
 seen_after s m = record {
-  found = with_events s.found m.events;
+  found = with_entry s.found m.events;
   damage = with_differences s.watch s.damage m;
   watch = with_moment s.watch m;
   span = with_instant s.span m.entry.instant;
 }
+
+-- Where a list of events begins in the midst, so many events set up the world in front of it: of what was
+-- seen before, only which nodes' whole states were noted is kept. A loan of then counts from its node's next
+-- entry on. The frames that the events put under way are none that nobody sent.
+abbrev pub one_again : Watched → Watched
+one_again n = record { is_known = n.is_known; ticked = None; loan = None }
+
+abbrev pub watched_again : WatchView → WatchView
+watched_again w = record { nodes = map one_again w.nodes; longest_turn = 0; loans = 0; longest_loan = None }
+
+abbrev pub seen_again : Seen → Found → Seen
+seen_again s found = record { found = record found { forged = 0 }; damage = no_damage; watch = watched_again s.watch; span = None }
 
 -- what a recording of so many nodes shows, in numbers
 abbrev pub numbers_of : ℕ → Seen → Summary

@@ -65,3 +65,14 @@ pub data IsWoven : World → List (List ℕ) → List (List Entry) → List Mome
       → IsNext w (heads_of records) w.net.nodes (Some v) → head_of (heads_of records) v ≡ Some e
       → IsWoven (world_after w queues v e) (queues_after queues v e.noted) (without_next records v) ms
       → IsWoven w queues records (moment_at w queues v e ∷ ms)
+
+-- The first of the entries that are still to come of each node's record are woven from this world, with
+-- these queues; they lead to a world and queues, and to those that are still to come then.
+pub data IsLed : World → List (List ℕ) → List (List Entry) → List Moment
+    → World → List (List ℕ) → List (List Entry) → Type 0 where
+  Stays : {w : World} {queues : List (List ℕ)} {records : List (List Entry)}
+      → IsLed w queues records [] w queues records
+  Leads : {w new : World} {queues later : List (List ℕ)} {records left : List (List Entry)} {v : ℕ} {e : Entry} {ms : List Moment}
+      → IsNext w (heads_of records) w.net.nodes (Some v) → head_of (heads_of records) v ≡ Some e
+      → IsLed (world_after w queues v e) (queues_after queues v e.noted) (without_next records v) ms new later left
+      → IsLed w queues records (moment_at w queues v e ∷ ms) new later left

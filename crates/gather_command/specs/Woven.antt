@@ -1,8 +1,9 @@
 -- One step of a weaving after the other.
-use Rattle.std.specs.Prelude.{◌≡◌, ℕ, ◌≤◌, Bool, true, false, List, [], ◌∷◌, ◌++◌, Option, Some, None, Result, Ok, Err, replicate, length, slice_set, slice_get, fold}
+use Rattle.std.specs.Prelude.{◌≡◌, ℕ, ◌<◌, ◌≤◌, ◌⊎◌, Bool, true, false, List, [], ◌∷◌, Option, Some, None, Result, Ok, Err, replicate, length, slice_set, slice_get, fold}
 use Rattle.topology.specs.Network.{Network}
 use Rattle.record_pages.specs.byte_streams.Streams.{Rose}
-use Rattle.record_gathering.specs.View.{gathered}
+use Rattle.record_gathering.specs.View.{GatheringView, gathered}
+use Rattle.record_gathering.specs.declared.found.Found.{Found}
 use Rattle.record_gathering.specs.configuration.run_model.World.{World}
 use Rattle.record_gathering.specs.configuration.run_model.Start.{world_with_spares}
 use Rattle.record_gathering.specs.configuration.run_model.declared.event.Event.{Event}
@@ -15,8 +16,8 @@ use Rattle.gather_command.specs.declared.fault.GatherFault.TheVariants as fault
 use Rattle.gather_command.specs.View.{NodeRecordView, heads_in}
 use Rattle.gather_command.specs.WeavingView.{WeavingView}
 use Rattle.gather_command.specs.Records.{GoesOn, AreToCome}
-use Rattle.gather_command.specs.Weave.{Moment, moment_at, world_after, events_of, IsWoven}
-use Rattle.gather_command.specs.Watch.{seen_after, nothing_seen}
+use Rattle.gather_command.specs.Weave.{Moment, moment_at, world_after, events_of, IsLed}
+use Rattle.gather_command.specs.Watch.{seen_after, seen_again, nothing_seen}
 
 -- the world of a weaving
 abbrev pub world_in : WeavingView → World
@@ -51,14 +52,49 @@ HasPassed Fails old v new =
     (before : NodeRecordView) × (after : NodeRecordView) × (slice_get old.records v ≡ Some before) × GoesOn Fails before after
     × (new ≡ record old { records = slice_set old.records v after })
 
--- What is woven of the records from now on is woven after these entries of what was to come of them
--- before.
+-- the same weaving in the world of a gathering that so many events set up
+abbrev pub moved_to : WeavingView → GatheringView → Found → WeavingView
+moved_to w g found = record {
+  gathering = record w.gathering { configuration = g.configuration };
+  records = w.records;
+  seen = seen_again w.seen found;
+}
+
+-- What is to come of the records from now on comes after these entries, which lead the weaving on, of what
+-- was to come of them before.
 abbrev pub LeadsOn : Type 0 → WeavingView → List Moment → WeavingView → Type 0
 LeadsOn Fails old ms new =
-    (entries : List (List Entry)) (flaws : List Flaw) (later : List Moment) → AreToCome Fails new.records entries flaws
-    → IsWoven (world_in new) new.gathering.queues entries later
+    (entries : List (List Entry)) (flaws : List Flaw) → AreToCome Fails new.records entries flaws
     → (before : List (List Entry)) × AreToCome Fails old.records before flaws
-    × IsWoven (world_in old) old.gathering.queues before (ms ++ later)
+    × IsLed (world_in old) old.gathering.queues before ms (world_in new) new.gathering.queues entries
+
+-- Entries were woven, and their events went nowhere: they lead the weaving on, and they were seen.
+pub record HasLed (Fails : Type 0) (old : WeavingView) (ms : List Moment) (new : WeavingView) : Type 0 where
+  pub leads : LeadsOn Fails old ms new
+  pub seen : new.seen ≡ fold seen_after old.seen ms
+  pub nodes : (world_in new).net.nodes ≡ (world_in old).net.nodes
+
+-- the entry that comes next is of this instant or later, or none is left
+abbrev pub IsCut : ℕ → WeavingView → Type 0
+IsCut instant w =
+    IsTurn w None ⊎ ((v : ℕ) × (e : Entry) × IsTurn w (Some (v, e)) × (instant ≤ e.instant))
+
+-- these entries are all earlier
+abbrev pub AreEarlier : ℕ → List Moment → Type 0
+AreEarlier instant [] = Unit {0}
+AreEarlier instant (m ∷ ms) = (m.entry.instant < instant) × AreEarlier instant ms
+
+-- one entry that is earlier was woven; or none is left, and nothing changed
+abbrev pub IsOnePassed : Type 0 → ℕ → WeavingView → Bool → WeavingView → Type 0
+IsOnePassed Fails instant old true new =
+    (m : Moment) × HasLed Fails old (m ∷ []) new × (m.entry.instant < instant)
+IsOnePassed Fails instant old false new = (new ≡ old) × IsCut instant old
+
+-- all entries that come before the first one of this instant or later
+pub record ArePassed (Fails : Type 0) (instant : ℕ) (old : WeavingView) (ms : List Moment) (new : WeavingView) : Type 0 where
+  pub led : HasLed Fails old ms new
+  pub earlier : AreEarlier instant ms
+  pub cut : IsCut instant new
 
 -- Entries were woven: they lead the weaving on, a sink took their events, and they were seen. `takes`
 -- says what a sink took, and `failures` how often it failed.

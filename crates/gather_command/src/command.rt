@@ -4,17 +4,20 @@ ghost use Rattle.std.specs.Io.Buffered.{writer_buffer, writer_contents};
 ghost use Rattle.std.specs.Process.{exit_status};
 ghost use Rattle.command_parts.specs.EventText.{GrowsByText};
 ghost use Rattle.gather_command.specs.Reading.{MayFail, Reads, Begins};
-ghost use Rattle.gather_command.specs.Gathered.{IsGathered, IsRefused};
+ghost use Rattle.gather_command.specs.Gathered.{IsRefused};
+ghost use Rattle.gather_command.specs.Part.{IsGatheredAs};
 ghost use Rattle.gather_command.specs.Ends.{EndsWith, flaws_status};
 
 use crate::damage::Difference;
 use crate::fault::{Flaw, GatherFault};
 use crate::folder::FolderRecords;
-use crate::gathered::{Gathered, gather};
+use crate::gathered::Gathered;
 use crate::lines::{
     DifferenceLine, DifferencesLine, FaultLine, FlawLine, FoundLine, LoansLine, StretchLine,
 };
+use crate::part::gather_stretch;
 use crate::records::Records;
+use crate::stretch::Stretch;
 use crate::summary::Summary;
 use command_parts::{EventText, Fault, read_network};
 use std::alloc::Global;
@@ -24,11 +27,13 @@ use std::process::ExitCode;
 use std::rt::Files;
 use topology::Net;
 
-/// Prints what the nodes of a file's network did, as their records in a folder say, as a list of
-/// events: a line each. Then a line on standard error names each file that was not read to its end, one
-/// each of the first fields that stood otherwise than what their nodes' records led to, and four lines say
-/// in numbers what the records show. The status is 1 if a file was not read to its end, or if a record
-/// gives no events; then a line on standard error says which and why.
+/// Prints what the nodes of a file's network did in a stretch of time, as their records in a folder
+/// say, as a list of events: a line each. If the stretch does not begin with the records, the list
+/// begins with harms that set up the network as it stood then. Afterwards a line on standard error names
+/// each file that was not read to its end, one each of the first fields that stood otherwise than what
+/// their nodes' records led to, and four lines say in numbers what the list shows. The status is 1 if a
+/// file was not read to its end, or if a record gives no events; then a line on standard error says which
+/// and why.
 ///
 /// What is unproved: that the entries that are woven are those of the folder's files, and that the
 /// text reaches standard output; neither says what its bytes are. [`gather_text`] says all the rest.
@@ -40,6 +45,7 @@ pub fn run<R: Files + Print + Eprint + AllocGlobal>(
     rt: &R,
     dir: &str,
     network: &str,
+    stretch: Stretch,
 ) -> Result<ExitCode, Fault>
     ensures { IfOk result (λ status. (exit_status status ≡ 0) ⊎ (exit_status status ≡ 1)) }
 {
@@ -48,7 +54,7 @@ pub fn run<R: Files + Print + Eprint + AllocGlobal>(
         let _ = eprintln!(rt; "tokentree: there is no folder {dir}");
         return Ok(ExitCode::FAILURE);
     }
-    match print_events(rt, dir, &net) {
+    match print_events(rt, dir, &net, stretch) {
         Ok(gathered) => {
             say_gathered(rt, dir, &gathered);
             Ok(flaws_status(&gathered.flaws))
@@ -70,27 +76,37 @@ fn print_events<R: Files + Print + AllocGlobal>(
     rt: &R,
     dir: &str,
     net: &Net,
+    stretch: Stretch,
 ) -> Result<Gathered, GatherFault> {
     let Ok(output) = BufWriter::new(rt.alloc(), writer(rt)) else {
         return Err(GatherFault::Memory);
     };
     let mut records = FolderRecords::new(rt, dir);
-    gather_text(rt.alloc(), net, &mut records, &mut EventText::new(output))
+    gather_text(
+        rt.alloc(),
+        net,
+        &mut records,
+        stretch,
+        &mut EventText::new(output),
+    )
 }
 
-/// Weaves the records of all nodes of a network into one list of events, and writes its whole text.
+/// Weaves a stretch of the records of all nodes of a network into one list of events, and writes its
+/// whole text.
 ///
 /// # Errors
-/// As [`gather`].
+/// As [`gather_stretch`].
 pub fn gather_text<R: Records, W: Write + Drop>(
     alloc: Global,
     net: &Net,
     records: &mut R,
+    stretch: Stretch,
     text: &mut EventText<W>,
 ) -> Result<Gathered, GatherFault>
     // The writer got the text of the events, if it shows its bytes.
     ensures gathered { IfOk result (λ g.
-        IsGathered (Reads (R.opens records.old) R.File.rest (MayFail R.File.failures))
+        IsGatheredAs stretch
+        (Reads (R.opens records.old) R.File.rest (MayFail R.File.failures))
         (λ a events b. GrowsByText (writer_contents W.contents a.writer) events
         (writer_contents W.contents b.writer))
         net.now text.old g.summary g.differences.items g.flaws.items text.new) }
@@ -99,7 +115,7 @@ pub fn gather_text<R: Records, W: Write + Drop>(
         IsRefused (Reads (R.opens records.old) R.File.rest (MayFail R.File.failures))
         (Begins (R.opens records.old) R.File.rest) (λ t. t.failures) net.now text.old fault text.new) }
 {
-    let gathered = gather(alloc, net, records, text)?;
+    let gathered = gather_stretch(alloc, net, records, stretch, text)?;
     match text.flush() {
         Ok(()) => Ok(gathered),
         Err(_) => Err(GatherFault::Output),

@@ -80,6 +80,14 @@ impl Damage {
         }
     }
 
+    /// None is found any more.
+    pub fn begins_again(&mut self)
+        ensures { self.new ≡ no_damage }
+    {
+        self.shown.clear();
+        self.count = 0;
+    }
+
     /// How many there are.
     pub fn count(&self) -> u64
         ensures { result ≡ self.now.count }

@@ -7,7 +7,7 @@ ghost use Rattle.gather_command.specs.Records.{IsFault};
 ghost use Rattle.gather_command.specs.Weave.{moment_at};
 ghost use Rattle.gather_command.specs.Woven.{IsOneWoven, AreAllWoven, IsTurn, HasWoven, IsBroken};
 ghost use Rattle.gather_command.specs.Woven.{world_in};
-ghost use Rattle.gather_command.specs.Gathered.{IsGathered, IsRefused, AreOpened};
+ghost use Rattle.gather_command.specs.Gathered.{IsGathered, IsRefused, AreOpened, IsFinished};
 
 use crate::damage::Difference;
 use crate::fault::{Flaw, GatherFault};
@@ -15,11 +15,11 @@ use crate::node_record::NodeRecord;
 use crate::records::Records;
 use crate::summary::Summary;
 use crate::weaving::Weaving;
+use command_parts::schedules::EventSink;
 use node_recorder::network_mark;
 use record_gathering::configuration::run_model::Event;
 use record_pages::byte_streams::{Failed, Source};
 use record_pages::flight_records::Entry;
-use schedules::EventSink;
 use std::alloc::{AllocError, Global};
 use topology::Net;
 
@@ -81,6 +81,19 @@ pub fn gather<R: Records, S: EventSink>(
     let nodes = open_all(alloc, net, records)?;
     let mut weaving = Weaving::new(alloc, net, nodes)?;
     weave_all(alloc, &mut weaving, sink)?;
+    let gathered = finish(alloc, net, &weaving)?;
+    Ok(gathered)
+}
+
+/// What a weaving of all nodes' records shows, in which no entry is left.
+pub fn finish<S: Source + Drop>(
+    alloc: Global,
+    net: &Net,
+    weaving: &Weaving<S>,
+) -> Result<Gathered, AllocError>
+    ensures { IfOk result (λ g. IsFinished net.now weaving.now g.summary g.differences.items
+        g.flaws.items) }
+{
     Ok(Gathered {
         summary: weaving.numbers(net.nodes()),
         differences: weaving.differences(alloc)?,
@@ -89,7 +102,7 @@ pub fn gather<R: Records, S: EventSink>(
 }
 
 /// Opens the records of all nodes.
-fn open_all<R: Records>(
+pub fn open_all<R: Records>(
     alloc: Global,
     net: &Net,
     records: &mut R,
@@ -123,7 +136,7 @@ fn add_record<S: Source + Drop>(
 }
 
 /// Weaves entries, one after the other, until none is left.
-fn weave_all<S: Source + Drop, K: EventSink>(
+pub fn weave_all<S: Source + Drop, K: EventSink>(
     alloc: Global,
     weaving: &mut Weaving<S>,
     sink: &mut K,
@@ -178,7 +191,7 @@ fn weave_turn<S: Source + Drop, K: EventSink>(
 }
 
 /// Gives the sink these events, one by one.
-fn give_all<K: EventSink>(events: &[Event], sink: &mut K) -> Result<(), Failed>
+pub fn give_all<K: EventSink>(events: &[Event], sink: &mut K) -> Result<(), Failed>
     ensures taken { OnOk result (K.takes sink.old events.now sink.new) }
     ensures cause { CountsFailures result (K.failures sink.old) (K.failures sink.new) }
 {

@@ -1,6 +1,6 @@
 //! What holds of the entries that are woven, and of their events: each law is the contract of a
 //! function that does nothing.
-ghost use Rattle.gather_command.specs.Laws.{WeavingIsFaithful};
+ghost use Rattle.gather_command.specs.Laws.{WeavingIsFaithful, StretchesAreFaithful};
 
 /// None of the events is refused where weaving began, so a simulation of them replays what was recorded;
 /// and each entry of each node is among them, in its order. Whoever trusts a recording stands on it.
@@ -9,4 +9,17 @@ pub fn weaving_is_faithful()
 {
     record_gathering::laws::accepted_is_enough();
     record_gathering::run_model::laws::runs();
+}
+
+/// A list that begins in the midst is set up as the world stood then; a simulation refuses none of its
+/// events, and no entry is missing. Whoever replays a stretch of a recording stands on it.
+pub fn stretches_are_faithful()
+    ensures { StretchesAreFaithful }
+{
+    record_gathering::laws::accepted_is_enough();
+    record_gathering::laws::facts_join();
+    record_gathering::laws::set_ups_are_reached();
+    record_gathering::run_model::laws::runs();
+    record_gathering::run_model::laws::start();
+    record_gathering::run_model::laws::in_range();
 }

@@ -8,15 +8,25 @@
 //! ```
 //! let gathered = gather(alloc, &net, &mut FolderRecords::new(rt, "run"), &mut sink)?;
 //! println!("{}", StretchLine(gathered.summary));      // nodes 3, events 1200, time 5000000 microseconds
-//! let status = command::run(rt, "run", "ring.toml")?; // prints the events; 1 if a record is damaged
+//! let all = Stretch::Whole;
+//! let status = command::run(rt, "run", "ring.toml", all)?; // prints the events; 1 if a record is damaged
 //! ```
+//!
+//! [`gather_stretch`] gathers a [`Stretch`] of the records alone: what comes so many seconds after the
+//! earliest entry of all records, or before the latest one, and later. Its list begins with events that
+//! set up the network as it stood when the first entry of the stretch came next: edges that had joined or
+//! parted, each node's state, and what was under way. So whoever plays the list needs no more than the
+//! network. All that comes before the stretch is woven too, but its events go nowhere. For the last seconds
+//! the records are read twice.
 //!
 //! A record that is missing, empty, of another network or of another node is a [`GatherFault`], before
 //! anything is written. One that ends within an entry, or is spoiled from a place on, is read up to
 //! there, and is a [`Flaw`] of what was gathered.
 //!
 //! The trap: instants are those of each node's machine. Only the order of what one node did, and
-//! that a frame is taken after it was sent, is the order in which things happened.
+//! that a frame is taken after it was sent, is the order in which things happened. A stretch begins with
+//! the first entry of its instant or later, in this order; so if a node's clock is late, earlier entries of
+//! that node may come after it, and are gathered too.
 #![tactic(auto)]
 
 mod begun_file;
@@ -28,8 +38,11 @@ mod gathered;
 pub mod laws;
 mod lines;
 mod node_record;
+mod part;
 mod records;
+mod scene;
 mod sight;
+mod stretch;
 mod summary;
 mod watch;
 mod weaving;
@@ -42,6 +55,8 @@ pub use gathered::{Gathered, gather};
 pub use lines::{
     DifferenceLine, DifferencesLine, FaultLine, FlawLine, FoundLine, LoansLine, StretchLine,
 };
+pub use part::gather_stretch;
 pub use record_gathering::Field;
 pub use records::{MemoryRecord, MemoryRecords, Opened, Records};
+pub use stretch::Stretch;
 pub use summary::{Lasted, Summary};

@@ -1,7 +1,7 @@
 //! What is seen of the entries that were woven.
 ghost use Rattle.std.specs.Prelude.{◌≡◌, ◌<◌, IfOk, length, if◌then◌else◌};
 ghost use Rattle.gather_command.specs.Watch.{nothing_seen, seen_after, numbers_of, is_tick};
-ghost use Rattle.gather_command.specs.Watch.{is_whole, watched_after};
+ghost use Rattle.gather_command.specs.Watch.{is_whole, watched_after, seen_again};
 
 use crate::damage::{Damage, Difference};
 use crate::summary::Summary;
@@ -94,12 +94,24 @@ impl Sight {
           fields = fields.now;
         }) }
     {
-        self.found.count(events);
+        self.found.count_entry(events);
         if self.watch.is_known(node) {
             self.damage.add(node, entry.instant, fields);
         }
         watch_entry(&mut self.watch, node, entry, lent);
         self.span = with_instant(self.span, entry.instant);
+    }
+
+    /// Nothing was seen but so many events, which set up the world. Which nodes' whole states were noted
+    /// stays known. The frames that are under way were sent before.
+    pub fn begins_again(&mut self, found: Found)
+        ensures { self.new ≡ seen_again self.old found }
+    {
+        self.found = found;
+        self.found.forged = 0;
+        self.damage.begins_again();
+        self.watch.begins_again();
+        self.span = None;
     }
 
     /// The first fields that stood otherwise, 64 at most.

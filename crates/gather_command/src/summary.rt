@@ -19,7 +19,8 @@ pub struct Summary {
     pub nodes: u16,
     /// From the first entry to the last one, in microseconds.
     pub stretch: u64,
-    /// How many events of which kind were written.
+    /// How many events of which kind were written. Of a list that begins in the midst, frames that were
+    /// under way then are none that nobody sent.
     pub found: Found,
     /// How many fields stood otherwise than what their nodes' records led to.
     pub differences: u64,

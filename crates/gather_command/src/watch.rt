@@ -1,8 +1,8 @@
 //! What is watched of each node while its record is read: its turns and its loans.
-ghost use Rattle.std.specs.Prelude.{◌≡◌, ◌<◌, IfOk, option_map, length};
+ghost use Rattle.std.specs.Prelude.{◌≡◌, ◌<◌, IfOk, option_map, length, map};
 ghost use Rattle.gather_command.specs.Watch.{unwatched, watched_of, with_state, with_tick};
 ghost use Rattle.gather_command.specs.Watch.{with_lent, since, loan_to, with_loan, ended_loan};
-ghost use Rattle.gather_command.specs.Watch.{longer, with_instant, length_of};
+ghost use Rattle.gather_command.specs.Watch.{longer, with_instant, length_of, one_again, watched_again};
 ghost use Rattle.record_pages.specs.flight_records.Again.{same_node};
 
 use crate::summary::Lasted;
@@ -124,6 +124,26 @@ fn longer(first: Option<Lasted>, more: Option<Lasted>) -> Option<Lasted>
     }
 }
 
+/// A node of which all is forgotten but whether its whole state was noted.
+fn one_again(node: Watched) -> Watched
+    ensures { result ≡ one_again node }
+{
+    Watched {
+        is_known: node.is_known,
+        ticked: None,
+        loan: None,
+    }
+}
+
+/// All is forgotten of each node but whether its whole state was noted.
+fn all_again(nodes: &mut [Watched])
+    ensures { nodes.new ≡ map one_again nodes.old }
+{
+    for place in 0..nodes.len() {
+        nodes[place] = one_again(nodes[place]);
+    }
+}
+
 impl Watch {
     /// So many nodes, of which nothing is known. All memory is reserved here.
     pub fn new(alloc: Global, nodes: u16) -> Result<Watch, AllocError>
@@ -182,6 +202,16 @@ impl Watch {
         self.longest_loan = longer(self.longest_loan, ended_loan(node, before, instant));
         self.nodes[place].loan = loan_to(lent, instant);
         self.loans = with_loan(lent, self.loans);
+    }
+
+    /// All is forgotten but which nodes' whole states were noted.
+    pub fn begins_again(&mut self)
+        ensures { self.new ≡ watched_again self.old }
+    {
+        all_again(self.nodes.as_mut_slice());
+        self.longest_turn = 0;
+        self.loans = 0;
+        self.longest_loan = None;
     }
 
     /// The longest time from one tick of a node to its next one.

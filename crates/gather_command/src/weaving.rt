@@ -6,14 +6,17 @@ ghost use Rattle.gather_command.specs.Weave.{events_at};
 ghost use Rattle.gather_command.specs.Watch.{numbers_of};
 ghost use Rattle.gather_command.specs.View.{heads_in};
 ghost use Rattle.gather_command.specs.Woven.{world_in, IsAtStart, IsTurn, IsNoted, HasPassed};
+ghost use Rattle.gather_command.specs.Woven.{moved_to};
+ghost use Rattle.record_gathering.specs.View.{gathered};
 
 use crate::damage::Difference;
 use crate::fault::Flaw;
 use crate::node_record::NodeRecord;
 use crate::sight::Sight;
 use crate::summary::Summary;
-use record_gathering::Gathering;
+use record_gathering::configuration::Configuration;
 use record_gathering::configuration::run_model::Event;
+use record_gathering::{Found, Gathering};
 use record_pages::byte_streams::Source;
 use record_pages::flight_records::Entry;
 use std::alloc::{AllocError, Global};
@@ -21,7 +24,7 @@ use std::marker::Model;
 use topology::Net;
 
 /// How many more edges may join than the network has at its start: as many as in a simulation.
-const SPARE_PAIRS: u16 = 8;
+pub const SPARE_PAIRS: u16 = 8;
 
 /// A world that the entries of all records lead on.
 #[derive(Drop)]
@@ -166,6 +169,23 @@ impl<S: Source + Drop> Weaving<S> {
         opened.advance();
         let head = opened.head();
         self.heads[place] = head;
+    }
+
+    /// The world that the entries so far led to.
+    pub fn world(&self) -> &Configuration
+        ensures { result.now ≡ self.now.gathering.configuration }
+    {
+        self.gathering.world()
+    }
+
+    /// Goes on in the world of a gathering that so many events set up. Of what was seen so far only
+    /// which nodes' whole states were noted is kept.
+    pub fn moves_to(&mut self, gathering: Gathering, found: Found)
+        requires { (gathered gathering).net.nodes ≡ (world_in self.old).net.nodes }
+        ensures { self.new ≡ moved_to self.old gathering found }
+    {
+        self.gathering.moves_to(gathering);
+        self.sight.begins_again(found);
     }
 
     /// The flaws of all records, by their nodes.

@@ -2,21 +2,25 @@
 use Rattle.std.proofs.Common.{◌≡◌, ◌≢◌, ◌<◌, ℕ, zero, suc, List, [], ◌∷◌, ◌++◌, Option, None, Some, codes, drop, ap, subst, refl, inl, inr, arith}
 use Rattle.std.specs.Fmt.{digits}
 use Rattle.std.specs.declared.alloc.Global.{Global}
+use Rattle.topology.specs.Network.{Network}
 use Rattle.byte_streams.specs.Streams.{Takes}
-use Rattle.run_model.specs.World.{World}
-use Rattle.run_model.specs.Start.{default_world}
-use Rattle.run_model.specs.Sweep.{IsSweep}
-use Rattle.run_model.specs.Count.{IsSweepCount}
-use Rattle.run_model.proofs.RowsTwo.{two_nodes}
-use Rattle.run_model.specs.declared.event.Event.{Event}
-use Rattle.judge.specs.configuration.ConfigurationView.{ConfigurationView, world_of}
-use Rattle.judge.specs.Judging.{counted_up_to}
+use Rattle.command_parts.specs.world.run_model.World.{World}
+use Rattle.command_parts.specs.world.run_model.Start.{default_world}
+use Rattle.command_parts.specs.world.run_model.Sweep.{IsSweep}
+use Rattle.command_parts.specs.world.run_model.Count.{IsSweepCount}
+use Rattle.command_parts.specs.world.run_model.declared.event.Event.{Event}
+use Rattle.command_parts.specs.world.judge.configuration.ConfigurationView.{ConfigurationView, world_of}
+use Rattle.command_parts.specs.world.judge.Judging.{counted_up_to}
 use Rattle.command_parts.specs.world.StateText.{state_text}
 use Rattle.thread_net.specs.ThreadRun.{IsThreadRun}
 use Rattle.thread_net.specs.declared.run.Woven.{Woven}
 use Rattle.thread_net.specs.declared.run.RunFault.TheVariants as run
 use Rattle.command_parts.specs.declared.fault.Fault.TheVariants.{Memory, Threads, Output}
 use Rattle.live_commands.specs.Threads.{AllRan, IsStateWritten, IsUnwritten, refused}
+
+-- two nodes, which one edge joins
+abbrev two_nodes : Network
+two_nodes = record { nodes = 2; root = 0; capacity = 1; lease = 0; edges = (0, 1) ∷ [] }
 
 abbrev start : World
 start = default_world two_nodes

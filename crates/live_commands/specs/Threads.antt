@@ -2,12 +2,12 @@
 use Rattle.std.specs.Prelude.{◌≡◌, ◌⊎◌, ℕ, List, Option}
 use Rattle.byte_streams.specs.Streams.{Takes}
 use Rattle.topology.specs.Network.{Network}
-use Rattle.run_model.specs.World.{World}
-use Rattle.run_model.specs.Start.{default_world}
-use Rattle.run_model.specs.Count.{IsSweepCount}
-use Rattle.run_model.specs.declared.event.Event.{Event}
-use Rattle.judge.specs.configuration.ConfigurationView.{world_of}
-use Rattle.judge.specs.Judging.{counted_up_to}
+use Rattle.command_parts.specs.world.run_model.World.{World}
+use Rattle.command_parts.specs.world.run_model.Start.{default_world}
+use Rattle.command_parts.specs.world.run_model.Count.{IsSweepCount}
+use Rattle.command_parts.specs.world.run_model.declared.event.Event.{Event}
+use Rattle.command_parts.specs.world.judge.configuration.ConfigurationView.{world_of}
+use Rattle.command_parts.specs.world.judge.Judging.{counted_up_to}
 use Rattle.command_parts.specs.world.StateText.{state_text}
 use Rattle.thread_net.specs.declared.run.Woven.{Woven}
 use Rattle.thread_net.specs.declared.run.RunFault.{RunFault}

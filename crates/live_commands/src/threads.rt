@@ -3,8 +3,8 @@
 ghost use Rattle.std.specs.Prelude.{◌≡◌, [], IfOk, IfErr, OnOk};
 ghost use Rattle.std.specs.Io.Buffered.{writer_buffer, writer_contents};
 ghost use Rattle.byte_streams.specs.Streams.{CountsFailures, Rose};
-ghost use Rattle.run_model.specs.Start.{default_world};
-ghost use Rattle.judge.specs.configuration.ConfigurationView.{world_of};
+ghost use Rattle.command_parts.specs.world.run_model.Start.{default_world};
+ghost use Rattle.command_parts.specs.world.judge.configuration.ConfigurationView.{world_of};
 ghost use Rattle.command_parts.specs.EventText.{GrowsByText};
 ghost use Rattle.live_commands.specs.Threads.{AllRan, IsStateWritten, IsUnwritten, refused};
 ghost use Rattle.std.specs.Process.{exit_status};
@@ -14,13 +14,13 @@ ghost use Rattle.command_parts.specs.declared.fault.Fault.TheVariants.{Output};
 mod progress;
 mod together;
 
+use command_parts::schedules::EventSink;
 use command_parts::world::report::judge;
 use command_parts::world::simulation::state_text;
 use command_parts::world::streams::Failed;
 use command_parts::world::{Event, World};
 use command_parts::{EventText, Fault, Flush, WriteSink, read_network};
 use progress::Watch;
-use schedules::EventSink;
 use std::alloc::Global;
 use std::fs;
 use std::io::{BufWriter, Write, writer};
@@ -165,7 +165,7 @@ fn give_events<S: EventSink>(events: &[Event], sink: &mut S) -> Result<(), Faile
     ensures taken { OnOk result (S.takes sink.old events.now sink.new) }
     ensures cause { CountsFailures result (S.failures sink.old) (S.failures sink.new) }
 {
-    schedules::laws::taking::<S>();
+    command_parts::schedules::laws::taking::<S>();
     for event in events {
         sink.take(event)?;
     }

@@ -1,5 +1,6 @@
 pub mod Drives
 pub mod GuardDriven
+pub mod Comings
 mod RowsWork
 mod RowsCourse
 mod RowsNotices

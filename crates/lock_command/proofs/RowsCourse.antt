@@ -1,7 +1,8 @@
 -- What is due when, and how long to rest: small examples, with some that fail.
-use Rattle.std.proofs.Common.{◌≡◌, ◌≢◌, true, false, Some, None, refl, arith}
+use Rattle.std.proofs.Common.{◌≡◌, true, false, Some, None, refl, arith, inr}
+use Rattle.lock_client.specs.declared.client.Deed.TheVariants as deed
 use Rattle.lock_command.specs.declared.course.Course.{Course}
-use Rattle.lock_command.specs.Course.{later, new_course, asked_course, timed, closed, connected, started, given_back, asked_to_end, is_past, without_due, killed_again, lacks_room, age_of, left_of}
+use Rattle.lock_command.specs.Course.{later, new_course, asked_course, timed, closed, connected, started, given_back, asked_to_end, is_past, without_due, killed_again, lacks_room, age_of, left_of, IsCourseAfter}
 use Rattle.lock_command.specs.Rest.{child_rest, longest_of, rest_of}
 
 -- the node closed a connection; the next one stands for 0.3 seconds; the command has run for 0.8, and an answer is due in 4
@@ -105,6 +106,25 @@ left-family = refl
 -- what is overdue is due now
 left_not-below : left_of false (timed 6000 course) ≡ Some 0
 left_not-below = refl
+
+-- ---- after a deed
+
+deed-ends : IsCourseAfter deed.EndCommand course (record course { kill_due = Some 4000 })
+deed-ends = refl
+
+-- a command that is asked to end is killed some time
+deed_not-patient : ¬ IsCourseAfter deed.EndCommand course course
+deed_not-patient e = grind (arith, e)
+
+deed-gives_back : IsCourseAfter deed.GiveBack course (record course { due = Some 11000 })
+deed-gives_back = refl
+
+deed_not-waiting : ¬ IsCourseAfter deed.Wait course (started course)
+deed_not-waiting e = grind (arith, e)
+
+-- 1.2 seconds after the start there is a connection again
+deed-connects : IsCourseAfter deed.ConnectAgain course (record course { time = 1200; connected = 1200 })
+deed-connects = inr (1200, refl)
 
 -- ---- rests
 

@@ -12,7 +12,6 @@ use Rattle.lock_client.specs.declared.outcome.Outcome.TheVariants as outcome
 use Rattle.held_signals.specs.declared.signals.Signal.TheVariants.{Terminate}
 use Rattle.lock_command.specs.declared.notice.Cause.TheVariants as cause
 use Rattle.lock_command.specs.declared.notice.Fate.TheVariants as fate
-use Rattle.lock_command.specs.declared.notice.Notice.{Notice}
 use Rattle.lock_command.specs.declared.notice.Notice.TheVariants as notice
 use Rattle.lock_command.specs.NoticeText.{cause_text, fate_text, notice_text, notice_line}
 use Rattle.lock_command.specs.Notices.{loss_notice, end_notice, course_notice, why_unserved, vain_notice, no_wait_notice}

@@ -1,17 +1,21 @@
 -- Small examples of what is done under the lock, how standard input is watched and which status
 -- follows, with some that fail.
-use Rattle.std.proofs.Common.{◌≡◌, ◌≢◌, ◌++◌, ℕ, List, [], ◌∷◌, Ok, Err, Some, None, true, false, codes, refl, arith, inl, inr}
+use Rattle.std.proofs.Common.{◌≡◌, ◌≢◌, [], ◌∷◌, Ok, Err, Some, None, true, false, codes, refl, arith, inl, inr}
+use Rattle.std.specs.Prelude.{is_some}
 use Rattle.std.specs.Fmt.{digits}
 use Rattle.std.specs.declared.io.ErrorKind.TheVariants.{Interrupted, BrokenPipe}
 use Rattle.lock_client.specs.declared.answer.Answer.TheVariants as answer
+use Rattle.held_signals.specs.declared.signals.Signal.TheVariants.{Terminate}
 use Rattle.lock_client.specs.declared.client.Event.TheVariants.{Line, Gone, Ended}
+use Rattle.lock_client.specs.declared.client.Event.TheVariants as event
 use Rattle.lock_client.specs.declared.guard.GuardEvent.TheVariants.{Said, Closed}
-use Rattle.lock_client.specs.declared.outcome.CommandEnd.TheVariants.{Exited}
+use Rattle.lock_client.specs.declared.outcome.CommandEnd.TheVariants.{Exited, Killed}
 use Rattle.lock_client.specs.declared.outcome.Outcome.TheVariants.{Done, Lost, NotInTime}
 use Rattle.lock_client.specs.declared.words.GuardWord.TheVariants as word
 use Rattle.lock_command.specs.declared.notice.Notice.TheVariants.{Memory}
+use Rattle.lock_command.specs.declared.session.Session.{Session}
 use Rattle.lock_command.specs.declared.waiter.Watch.TheVariants.{Not, Waiting, Ready, Always}
-use Rattle.lock_command.specs.declared.work.Work.{Work}
+use Rattle.lock_command.specs.Coming.{Comes, Stays}
 use Rattle.lock_command.specs.declared.work.Work.TheVariants as work
 use Rattle.lock_command.specs.Driving.{IsOutcomeOf}
 use Rattle.lock_command.specs.GuardDriving.{IsOver, named}
@@ -19,7 +23,7 @@ use Rattle.lock_command.specs.Held.{held_status}
 use Rattle.lock_command.specs.Marks.{EndsIn, IsClosed, IsMark}
 use Rattle.lock_command.specs.Reading.{is_end, is_for_later}
 use Rattle.lock_command.specs.Watching.{has_input, IsAwaited, IsTaken, IsWatched}
-use Rattle.lock_command.specs.Working.{EndsSo, FamilyEndsSo, GoesOn, IsAsked, IsKilled, is_family, is_running}
+use Rattle.lock_command.specs.Working.{EndsSo, FamilyEndsSo, GoesOn, IsAsked, IsKilled, after_signal, is_family, is_running, signal_event}
 
 -- a lost lock ends with the status that the user chose
 ends-lost : held_status (Ok (record { outcome = Lost })) 75 ≡ 75
@@ -171,3 +175,38 @@ module _ (P A B C : Type 0) where
 
   kills_not-input : ¬ IsKilled {P = P} {A = A} {B = B} {C = C} work.Input work.None
   kills_not-input e = grind (arith, e)
+
+  -- SIGTERM is 15
+  signal-input : signal_event {P = P} {A = A} {B = B} {C = C} work.Input Terminate ≡ Ended (Killed 15)
+  signal-input = refl
+
+  signal_not-family : signal_event {P = P} {A = A} {B = B} {C = C} (work.Family (Exited 3)) Terminate ≡ event.Signal Terminate
+  signal_not-family = refl
+
+  signal-over : after_signal {P = P} {A = A} {B = B} {C = C} work.Input ≡ work.None
+  signal-over = refl
+
+  signal_not-over : after_signal {P = P} {A = A} {B = B} {C = C} (work.Family (Exited 3)) ≢ work.None
+  signal_not-over e = grind (arith, e)
+
+-- ---- what comes
+
+module _ {P A B C : Type 0} (s : Session P A B C) where
+  comes-line : is_some s.desk ≡ true → Comes (Line answer.Granted) s s
+  comes-line connected = connected
+
+  -- without a connection no line comes
+  comes_not-unconnected : s.desk ≡ None → ¬ Comes (Line answer.Granted) s s
+  comes_not-unconnected none came = grind (arith, none, came)
+
+  -- a time that is up is not due any more
+  comes_not-again : s.course.due ≡ Some 5 → ¬ Comes event.TimeIsUp s s
+  comes_not-again due came = let over = came.1 in grind (arith, due, over)
+
+  stays-still : Stays s s
+  stays-still = (refl, refl, refl, refl, refl, refl)
+
+module _ {P A B C : Type 0} (s t : Session P A B C) where
+  -- a guard that is gone does not stay
+  stays_not-gone : is_some s.guard ≡ true → t.guard ≡ None → ¬ Stays s t
+  stays_not-gone guarded gone stays = let same = stays.2 in grind (arith, guarded, gone, same)

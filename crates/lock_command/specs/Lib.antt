@@ -11,3 +11,4 @@ pub mod Working
 pub mod Watching
 pub mod Marks
 pub mod Held
+pub mod Coming

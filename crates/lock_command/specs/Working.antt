@@ -1,7 +1,11 @@
 -- What is done under the lock, how it goes on, and how it ends.
 use Rattle.std.specs.Prelude.{◌≡◌, ◌⊎◌, Bool, true, false, Option, Some, None}
 use Rattle.lock_client.specs.declared.outcome.CommandEnd.{CommandEnd}
-use Rattle.lock_client.specs.declared.outcome.CommandEnd.TheVariants.{Exited}
+use Rattle.lock_client.specs.declared.outcome.CommandEnd.TheVariants.{Exited, Killed}
+use Rattle.lock_client.specs.declared.client.Event.{Event}
+use Rattle.lock_client.specs.declared.client.Event.TheVariants as event
+use Rattle.held_signals.specs.declared.signals.Signal.{Signal}
+use Rattle.held_signals.specs.Signals.{signal_number}
 use Rattle.lock_command.specs.declared.work.Work.{Work}
 use Rattle.lock_command.specs.declared.work.Work.TheVariants as work
 
@@ -47,3 +51,12 @@ IsAsked end old new = new ≡ old
 abbrev pub IsKilled : {P A B C : Type 0} → Work P A B C → Work P A B C → Type 0
 IsKilled (work.Running child) new = is_running new ≡ true
 IsKilled old new = new ≡ old
+
+-- a signal ends the wait for standard input, as it would end a command; in any other work it is only reported
+abbrev pub signal_event : {P A B C : Type 0} → Work P A B C → Signal → Event
+signal_event work.Input signal = event.Ended (Killed (signal_number signal))
+signal_event _ signal = event.Signal signal
+
+abbrev pub after_signal : {P A B C : Type 0} → Work P A B C → Work P A B C
+after_signal work.Input = work.None
+after_signal old = old

@@ -1,12 +1,15 @@
 //! One taking of the lock.
-ghost use Rattle.std.specs.Prelude.{◌≡◌, ◌≢◌, None, Some, IfOk, IfErr, IfSome, true, false};
+ghost use Rattle.std.specs.Prelude.{◌≡◌, ◌≢◌, None, Some, IfOk, IfErr, IfSome, is_some, true, false};
+ghost use Rattle.held_signals.specs.Signals.{holds, including};
 ghost use Rattle.lock_client.specs.declared.client.Event.TheVariants.{Ended};
-ghost use Rattle.lock_client.specs.declared.client.Deed.TheVariants.{Start};
+ghost use Rattle.lock_client.specs.declared.client.Deed.TheVariants.{Start, ConnectAgain};
 ghost use Rattle.lock_client.specs.declared.outcome.CommandEnd.{CommandEnd};
-ghost use Rattle.lock_command.specs.Course.{lacks_room, asked_course};
+ghost use Rattle.lock_command.specs.Coming.{Comes, Stays};
+ghost use Rattle.lock_command.specs.declared.desk.Heard.TheVariants.{Nothing};
+ghost use Rattle.lock_command.specs.Course.{lacks_room, asked_course, started, asked_to_end, IsCourseAfter};
 ghost use Rattle.lock_command.specs.Notices.{vain_notice, no_wait_notice};
 ghost use Rattle.lock_command.specs.Reaching.{IsUnbegun};
-ghost use Rattle.lock_command.specs.Working.{is_running};
+ghost use Rattle.lock_command.specs.Working.{is_running, signal_event, after_signal};
 
 use crate::course::Course;
 use crate::desk::{Desk, Heard};
@@ -83,11 +86,22 @@ impl<'a, R: System> Surroundings for Live<'_, R, Session<'a, R::Started>> {
 
     ghost runs = { λ live. is_running live.session.work };
 
-    fn next_event(&mut self) -> Event {
+    fn next_event(&mut self) -> Event
+        ensures starts_none { is_running self.new.session.work ≡ true
+            → is_running self.old.session.work ≡ true }
+        ensures ended { (end : CommandEnd) → result ≡ Ended end
+            → is_running self.new.session.work ≡ false }
+        ensures comes { Comes result self.old.session self.new.session }
+    {
         self.session.wait_for_event(self.rt)
     }
 
-    fn act(&mut self, event: Event, deed: Deed) {
+    fn act(&mut self, event: Event, deed: Deed)
+        ensures starts { deed ≢ Start
+            → is_running self.new.session.work ≡ is_running self.old.session.work }
+        // What is due then is set, and nothing else.
+        ensures course { IsCourseAfter deed self.old.session.course self.new.session.course }
+    {
         self.session.do_deed(self.rt, event, deed)
     }
 }
@@ -163,6 +177,7 @@ impl<'a, P: OpenProcess + Drop> Session<'a, P> {
     ) -> Event
         ensures starts_none { is_running self.new.work ≡ true → is_running self.old.work ≡ true }
         ensures ended { (end : CommandEnd) → result ≡ Ended end → is_running self.new.work ≡ false }
+        ensures comes { Comes result self.old self.new }
     {
         for _ in rt.forever() {
             self.look_at_the_clock(rt);
@@ -180,7 +195,8 @@ impl<'a, P: OpenProcess + Drop> Session<'a, P> {
     /// Notes the time, and kills a command whose grace is over. A clock that cannot be read stands
     /// still.
     fn look_at_the_clock<R: Files + Processes + Clock + AllocGlobal>(&mut self, rt: &R)
-        ensures { is_running self.new.work ≡ is_running self.old.work }
+        ensures work { is_running self.new.work ≡ is_running self.old.work }
+        ensures stays { Stays self.old self.new }
     {
         let now = self.stopwatch.millis(rt);
         self.course.set_time(now);
@@ -193,6 +209,8 @@ impl<'a, P: OpenProcess + Drop> Session<'a, P> {
     fn from_others(&mut self) -> Option<Event>
         ensures work { self.new.work ≡ self.old.work }
         ensures ended { (end : CommandEnd) → result ≢ Some (Ended end) }
+        ensures comes { IfSome result (λ event. Comes event self.old self.new) }
+        ensures stays { result ≡ None → Stays self.old self.new }
     {
         if self.is_unserved {
             self.is_unserved = false;
@@ -217,7 +235,9 @@ impl<'a, P: OpenProcess + Drop> Session<'a, P> {
 
     /// What the node says.
     fn heard_from_node(&mut self) -> Heard
-        ensures { self.new.work ≡ self.old.work }
+        ensures work { self.new.work ≡ self.old.work }
+        ensures desk { result ≢ Nothing → is_some self.old.desk ≡ true }
+        ensures stays { Stays self.old self.new }
     {
         match &mut self.desk {
             Some(_) if self.has_failed => Heard::Gone,
@@ -228,7 +248,9 @@ impl<'a, P: OpenProcess + Drop> Session<'a, P> {
 
     /// Whether there was a guard that has ended.
     fn has_lost_its_guard(&mut self) -> bool
-        ensures { self.new.work ≡ self.old.work }
+        ensures work { self.new.work ≡ self.old.work }
+        ensures guard { result ≡ true → is_some self.old.guard ≡ true }
+        ensures stays { Stays self.old self.new }
     {
         match &mut self.guard {
             Some(guard) => guard.is_gone(),
@@ -241,6 +263,8 @@ impl<'a, P: OpenProcess + Drop> Session<'a, P> {
         ensures starts_none { is_running self.new.work ≡ true → is_running self.old.work ≡ true }
         ensures ended { (end : CommandEnd) → result ≡ Some (Ended end)
             → is_running self.new.work ≡ false }
+        ensures comes { IfSome result (λ event. Comes event self.old self.new) }
+        ensures stays { result ≡ None → Stays self.old self.new }
     {
         if let Some(signal) = self.new_signal(rt) {
             return Some(self.event_of_signal(signal));
@@ -258,7 +282,11 @@ impl<'a, P: OpenProcess + Drop> Session<'a, P> {
 
     /// A held signal that came, the first time that it is seen.
     fn new_signal<R: Files + AllocGlobal>(&mut self, rt: &R) -> Option<Signal>
-        ensures { self.new.work ≡ self.old.work }
+        ensures work { self.new.work ≡ self.old.work }
+        ensures new { IfSome result (λ signal. (self.old.holds_signals_back ≡ true)
+            × (holds signal self.old.seen ≡ false)
+            × (self.new.seen ≡ including signal self.old.seen)) }
+        ensures stays { result ≡ None → Stays self.old self.new }
     {
         if !self.holds_signals_back {
             return None;
@@ -270,6 +298,9 @@ impl<'a, P: OpenProcess + Drop> Session<'a, P> {
 
     /// The event of a signal: if there is no command, it ends the holding of the lock.
     fn event_of_signal(&mut self, signal: Signal) -> Event
+        ensures event { result ≡ signal_event self.old.work signal }
+        ensures after { self.new.work ≡ after_signal self.old.work }
+        ensures seen { self.new.seen ≡ self.old.seen }
         ensures starts_none { is_running self.new.work ≡ is_running self.old.work }
         ensures ended { (end : CommandEnd) → result ≡ Ended end → is_running self.new.work ≡ false }
     {
@@ -290,6 +321,7 @@ impl<'a, P: OpenProcess + Drop> Session<'a, P> {
     ) -> Option<CommandEnd>
         ensures starts_none { is_running self.new.work ≡ true → is_running self.old.work ≡ true }
         ensures ended { IfSome result (λ _. is_running self.new.work ≡ false) }
+        ensures stays { result ≡ None → Stays self.old self.new }
     {
         if let Some(end) = self.work.ended(rt, has_input) {
             if !self.awaits_family {
@@ -318,7 +350,8 @@ impl<'a, P: OpenProcess + Drop> Session<'a, P> {
     fn do_deed<
         R: Env + Net + Files + Processes<Started = P> + Clock + Print + Eprint + AllocGlobal,
     >(&mut self, rt: &R, event: Event, deed: Deed)
-        ensures { deed ≢ Start → is_running self.new.work ≡ is_running self.old.work }
+        ensures starts { deed ≢ Start → is_running self.new.work ≡ is_running self.old.work }
+        ensures course { IsCourseAfter deed self.old.course self.new.course }
     {
         self.report_course(rt, event, deed);
         match deed {
@@ -342,7 +375,8 @@ impl<'a, P: OpenProcess + Drop> Session<'a, P> {
 
     /// Writes a line to the node.
     fn write_line(&mut self, line: ClientLine)
-        ensures { self.new.work ≡ self.old.work }
+        ensures work { self.new.work ≡ self.old.work }
+        ensures course { self.new.course ≡ self.old.course }
     {
         if let Some(desk) = &mut self.desk {
             self.has_failed = desk.write(line).is_err();
@@ -351,7 +385,8 @@ impl<'a, P: OpenProcess + Drop> Session<'a, P> {
 
     /// Connects again, after a rest, and asks for the lock.
     fn connect_again<R: Net + Files + Clock + Eprint + AllocGlobal>(&mut self, rt: &R)
-        ensures { self.new.work ≡ self.old.work }
+        ensures work { self.new.work ≡ self.old.work }
+        ensures course { IsCourseAfter ConnectAgain self.old.course self.new.course }
     {
         thread::sleep(rt, Duration::from_millis(FULL_REST));
         match desk_of(rt, &self.request) {
@@ -377,7 +412,9 @@ impl<'a, P: OpenProcess + Drop> Session<'a, P> {
     fn start_work<R: Env + Net + Files + Processes<Started = P> + Print + Eprint + AllocGlobal>(
         &mut self,
         rt: &R,
-    ) {
+    )
+        ensures { self.new.course ≡ started self.old.course }
+    {
         self.course.start();
         if self.request.command.is_empty() {
             return self.start_waiting(rt);
@@ -402,7 +439,9 @@ impl<'a, P: OpenProcess + Drop> Session<'a, P> {
     }
 
     /// Announces the command to the guard, and starts a guard if there is none.
-    fn have_guard<R: Net + Files + Processes + AllocGlobal>(&mut self, rt: &R) -> io::Result<()> {
+    fn have_guard<R: Net + Files + Processes + AllocGlobal>(&mut self, rt: &R) -> io::Result<()>
+        ensures { self.new.course ≡ self.old.course }
+    {
         if self.guard.is_none() {
             self.start_guard(rt)?;
         }
@@ -414,7 +453,8 @@ impl<'a, P: OpenProcess + Drop> Session<'a, P> {
 
     /// Starts the guard.
     fn start_guard<R: Net + Files + Processes + AllocGlobal>(&mut self, rt: &R) -> io::Result<()>
-        ensures { self.new.work ≡ self.old.work }
+        ensures work { self.new.work ≡ self.old.work }
+        ensures course { self.new.course ≡ self.old.course }
     {
         let Some(desk) = &mut self.desk else {
             return Err(io::Error::from(ErrorKind::NotConnected));
@@ -428,7 +468,9 @@ impl<'a, P: OpenProcess + Drop> Session<'a, P> {
     }
 
     /// Starts the command, and names its process to the guard.
-    fn start_command<R: Env + Processes<Started = P> + Eprint + AllocGlobal>(&mut self, rt: &R) {
+    fn start_command<R: Env + Processes<Started = P> + Eprint + AllocGlobal>(&mut self, rt: &R)
+        ensures { self.new.course ≡ self.old.course }
+    {
         let started = match with_marks_before(rt, self.mark.as_str()) {
             Ok(marks) => start(rt, rt.alloc(), self.request.command, marks.as_str()),
             Err(error) => Err(io::Error::from(error)),
@@ -443,7 +485,9 @@ impl<'a, P: OpenProcess + Drop> Session<'a, P> {
     }
 
     /// Names the command's process to the guard.
-    fn announce<R: AllocGlobal>(&mut self, rt: &R, process: u32) {
+    fn announce<R: AllocGlobal>(&mut self, rt: &R, process: u32)
+        ensures { self.new.course ≡ self.old.course }
+    {
         if let Ok(line) = format!(in rt.alloc(); "runs {process}\n")
             && let Some(guard) = &mut self.guard
         {
@@ -463,7 +507,9 @@ impl<'a, P: OpenProcess + Drop> Session<'a, P> {
     }
 
     /// Says that the lock is granted, and watches for the end of standard input from now on.
-    fn start_waiting<R: Print + Eprint>(&mut self, rt: &R) {
+    fn start_waiting<R: Print + Eprint>(&mut self, rt: &R)
+        ensures { self.new.course ≡ self.old.course }
+    {
         self.work = match rt.println("granted") {
             Ok(()) => {
                 self.waiter.watch_input();
@@ -478,7 +524,8 @@ impl<'a, P: OpenProcess + Drop> Session<'a, P> {
 
     /// Asks the command to end, and sets the time to kill it.
     fn end_command<R: Files + Processes + Eprint + AllocGlobal>(&mut self, rt: &R, event: Event)
-        ensures { is_running self.new.work ≡ is_running self.old.work }
+        ensures work { is_running self.new.work ≡ is_running self.old.work }
+        ensures course { self.new.course ≡ asked_to_end self.old.course }
     {
         self.report_loss(rt, event, Fate::Ended);
         self.awaits_family = true;
@@ -527,7 +574,8 @@ impl<'a, P: OpenProcess + Drop> Session<'a, P> {
 
     /// Waits for what happens next.
     fn wait_a_while(&mut self)
-        ensures { self.new.work ≡ self.old.work }
+        ensures work { self.new.work ≡ self.old.work }
+        ensures stays { Stays self.old self.new }
     {
         let age = self.course.age(self.work.is_running());
         let left = self.course.left(self.work.is_family());

@@ -1,5 +1,8 @@
 -- The files of a node's record.
-use Rattle.std.specs.Prelude.{ℕ, nat_lt, if◌then◌else◌, max, Option, None, Some}
+use Rattle.std.specs.Prelude.{◌≡◌, ◌⊎◌, ℕ, List, nat_lt, if◌then◌else◌, max, Option, None, Some}
+use Rattle.node_recorder.specs.flight_recorder.View.{RecorderView}
+use Rattle.node_recorder.specs.flight_recorder.Recorder.{at_start, other}
+use Rattle.node_recorder.specs.flight_recorder.Resume.{IsLeft, Resumes}
 use Rattle.node_recorder.specs.flight_recorder.declared.recorder.Side.{Side}
 use Rattle.node_recorder.specs.flight_recorder.declared.recorder.Side.TheVariants.{First, Second}
 use Rattle.node_process.specs.declared.tape.RecordSize.{RecordSize}
@@ -19,3 +22,16 @@ side_to_begin (Some first) (Some second) = if nat_lt second first then Second el
 abbrev pub of_side : {X : Type 0} → Side → X → X → X
 of_side First first second = first
 of_side Second first second = second
+
+-- The pages after the file that was written last: a recorder goes on in it, after its whole entries; or it
+-- cannot, and then the other file begins.
+abbrev pub ArePagesAfter : ℕ → Side → ℕ → ℕ → List ℕ → RecorderView → Type 0
+ArePagesAfter size earlier network node last pages =
+    Resumes size (other earlier) network node last pages
+    ⊎ (IsLeft size network node last × (pages ≡ at_start size earlier))
+
+-- the pages with which a record begins, after a file that is there, or at the start of one
+abbrev pub AreFirstPages : ℕ → RecorderView → Type 0
+AreFirstPages size pages =
+    (pages ≡ at_start size pages.side)
+    ⊎ ((network : ℕ) × (node : ℕ) × (last : List ℕ) × Resumes size pages.side network node last pages)

@@ -296,3 +296,18 @@ pub fn new_file<F: Files<File = File>>(files: &F, path: &str) -> io::Result<File
         .mode(FILE_MODE)
         .open(files, path)
 }
+
+/// A plain file that is there, of which all is cut off after so many bytes. What is written goes to its
+/// end. A symbolic link is not followed.
+///
+/// # Errors
+/// If it is no plain file, has fewer bytes, or the system does not open or cut it.
+pub fn file_up_to<F: Files<File = File>>(files: &F, path: &str, length: u64) -> io::Result<File> {
+    let found = fs::symlink_metadata(files, path)?;
+    if !found.is_file() || found.len() < length {
+        return Err(io::Error::new(ErrorKind::InvalidData, "it was changed"));
+    }
+    let file = OpenOptions::new().append(true).open(files, path)?;
+    file.set_len(length)?;
+    Ok(file)
+}

@@ -1,16 +1,17 @@
 //! A node's record, in two files of its folder.
 ghost use Rattle.std.specs.Prelude.{◌≡◌, ◌≤◌, ◌⊎◌, IfOk, true, string_bytes};
-ghost use Rattle.node_recorder.specs.flight_recorder.Recorder.{after_failure, after_write, at_start};
+ghost use Rattle.node_recorder.specs.flight_recorder.Recorder.{after_failure, after_write};
 ghost use Rattle.node_recorder.specs.flight_recorder.Names.{record_name};
 ghost use Rattle.node_recorder.specs.flight_recorder.declared.recorder.Side.TheVariants.{First, Second};
 ghost use Rattle.node_process.specs.Tapes.{file_bytes, of_side, side_to_begin};
+ghost use Rattle.node_process.specs.Tapes.{AreFirstPages, ArePagesAfter};
 
 use crate::fault::NodeFault;
-use crate::folder::new_file;
+use crate::folder::{file_up_to, new_file};
 use node_loop::{Doors, NodeRun, Notes};
-use node_recorder::NodeRecorder;
 use node_recorder::flight_recorder::flight_records::Deed;
-use node_recorder::flight_recorder::{LEAST_SIZE, Side, record_name};
+use node_recorder::flight_recorder::{LEAST_SIZE, Recorder, Side, record_name};
+use node_recorder::{NodeRecorder, network_mark};
 use node_state_file::Store;
 use std::alloc::{AllocError, Global};
 use std::fmt::Display;
@@ -28,6 +29,9 @@ pub struct RecordSize {
 
 /// The size of a file of a record if none is chosen: 8 MiB.
 pub const USUAL_SIZE: RecordSize = RecordSize { bytes: 8_388_608 };
+
+/// The most bytes of a file that a start goes on with: 16 MiB. Longer ones take too long to read.
+const MOST_READ: u64 = 16_777_216;
 
 /// The most nodes of a network.
 const NODES: usize = 64;
@@ -82,10 +86,12 @@ pub struct Tape<'a, R> {
 
 impl<'a, R: Files<File = File> + Clock + Eprint + AllocGlobal> Tape<'a, R> {
     /// The record of this node, which runs in `dir` since its clock stood at 0. `now` is the time of
-    /// that clock, in microseconds. All memory is reserved here; no file is made or changed yet.
+    /// that clock, in microseconds. It goes on in the file that was written last, if that is a record of
+    /// this node in this network that has room and at most 16 MiB; else in a new file, in place of the other
+    /// one. All memory is reserved here; no file is made or changed yet.
     ///
     /// # Errors
-    /// If memory runs out.
+    /// If memory runs out, or the network has no such node.
     pub fn open<D: Doors, S: Store + Drop>(
         rt: &'a R,
         dir: &str,
@@ -93,21 +99,17 @@ impl<'a, R: Files<File = File> + Clock + Eprint + AllocGlobal> Tape<'a, R> {
         run: &NodeRun<D, S>,
         now: u64,
     ) -> Result<Tape<'a, R>, NodeFault>
-        ensures { IfOk result (λ tape. tape.recorder.pages
-            ≡ at_start (file_bytes size) tape.recorder.pages.side) }
+        ensures { IfOk result (λ tape. AreFirstPages (file_bytes size) tape.recorder.pages) }
     {
         let (alloc, id) = (rt.alloc(), run.node().id());
         if id >= run.net().nodes() {
             return Err(NodeFault::NoNode(run.net().nodes()));
         }
         let names = RecordNames::new(alloc, dir, id)?;
-        let side = side_to_begin(
-            written_at(rt, names.of(Side::First)),
-            written_at(rt, names.of(Side::Second)),
-        );
+        let pages = first_pages(rt, &names, size, network_mark(run.net()), id)?;
         Ok(Tape {
             rt,
-            recorder: NodeRecorder::new(alloc, run.net(), id, file_bytes(size), side)?,
+            recorder: NodeRecorder::new(alloc, run.net(), run.node(), pages)?,
             names,
             file: None,
             start: micros_now(rt).unwrap_or(0).saturating_sub(now),
@@ -176,7 +178,7 @@ impl<'a, R: Files<File = File> + Clock + Eprint + AllocGlobal> Tape<'a, R> {
         ensures { self.new.recorder.pages ≡ self.old.recorder.pages }
     {
         if !self.recorder.knows_neighbours_of(run.node()) {
-            self.recorder.rewire(run.net());
+            self.recorder.rewire(run.net(), run.node());
         }
     }
 
@@ -217,21 +219,81 @@ impl<'a, R: Files<File = File> + Clock + Eprint + AllocGlobal> Tape<'a, R> {
         );
     }
 
-    /// Writes the page to the end of the present file, which is made before its first page.
+    /// Writes the page to the end of the present file.
     fn append(&mut self) -> io::Result<()>
         ensures { self.new.recorder ≡ self.old.recorder }
     {
         let mut file = match self.file.take() {
             Some(file) => file,
-            None => new_file(self.rt, self.names.of(self.recorder.pages().side()))?,
+            None => self.open_present()?,
         };
         let page = self.recorder.pages().page();
         if file.write(page)? < page.len() {
-            return Err(io::Error::from(ErrorKind::WriteZero));
+            return Err(io::Error::new(ErrorKind::WriteZero, "a page was not written to its end"));
         }
         self.file = Some(file);
         Ok(())
     }
+
+    /// Opens the present file: a new one, or, if something is written to it, the one that is there.
+    fn open_present(&self) -> io::Result<File> {
+        let pages = self.recorder.pages();
+        let path = self.names.of(pages.side());
+        match pages.written() {
+            0 => new_file(self.rt, path),
+            written => file_up_to(self.rt, path, written),
+        }
+    }
+}
+
+/// The pages with which a record in these files begins.
+fn first_pages<R: Files + AllocGlobal>(
+    rt: &R,
+    names: &RecordNames,
+    size: RecordSize,
+    network: u32,
+    id: u16,
+) -> Result<Recorder, AllocError>
+    ensures { IfOk result (AreFirstPages (file_bytes size)) }
+{
+    let earlier = side_to_begin(
+        written_at(rt, names.of(Side::First)),
+        written_at(rt, names.of(Side::Second)),
+    );
+    let (alloc, size) = (rt.alloc(), file_bytes(size));
+    match read_file(rt, names.of(earlier.other())) {
+        Some(last) => pages_after(alloc, size, earlier, last.as_slice(), network, id),
+        None => Recorder::new(alloc, size, earlier),
+    }
+}
+
+/// The pages with which a record begins, in files of at most `size` bytes: after the whole entries of the
+/// file that was written last, if it begins as a record of this node and has room; else at the start of the
+/// other one.
+fn pages_after(
+    alloc: Global,
+    size: u64,
+    earlier: Side,
+    last: &[u8],
+    network: u32,
+    id: u16,
+) -> Result<Recorder, AllocError>
+    requires { 65536 ≤ size }
+    ensures { IfOk result (ArePagesAfter size earlier network id last.now) }
+{
+    match Recorder::resumed(alloc, size, earlier.other(), last, network, id)? {
+        Some(pages) => Ok(pages),
+        None => Recorder::new(alloc, size, earlier),
+    }
+}
+
+/// What stands in a plain file of at most 16 MiB; none if it is not there or cannot be read.
+fn read_file<R: Files + AllocGlobal>(rt: &R, path: &str) -> Option<Vec<u8>> {
+    let found = fs::symlink_metadata(rt, path).ok()?;
+    if !found.is_file() || found.len() > MOST_READ {
+        return None;
+    }
+    fs::read(rt, path).ok()
 }
 
 /// The most bytes of a file.

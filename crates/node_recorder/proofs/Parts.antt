@@ -1,15 +1,15 @@
 -- The parts of a state that are noted one after the other are the state's.
-use Rattle.std.proofs.Common.{◌≡◌, ◌∙◌, ap, sym, ℕ, List, [], ◌∷◌, ◌++◌}
+use Rattle.std.proofs.Common.{◌≡◌, ◌∙◌, ap, ℕ, List, [], ◌∷◌, ◌++◌}
 use Rattle.std.specs.Prelude.{fold, map}
 use Rattle.std.proofs.lemmas.List.Sums.{fold-append}
 use Rattle.std.proofs.lemmas.List.Folds.{fold-map}
-use Rattle.flight_records.specs.declared.entry.Noted.TheVariants as noted
-use Rattle.flight_records.specs.declared.entry.StatePart.{StatePart}
-use Rattle.flight_records.specs.declared.entry.StatePart.TheVariants.{Start, Waits, Whole}
+use Rattle.flight_recorder.specs.flight_records.declared.entry.Noted.TheVariants as noted
+use Rattle.flight_recorder.specs.flight_records.declared.entry.StatePart.{StatePart}
+use Rattle.flight_recorder.specs.flight_records.declared.entry.StatePart.TheVariants.{Start, Waits, Whole}
 use Rattle.flight_recorder.specs.View.{RecorderView}
 use Rattle.flight_recorder.specs.Recorder.{after_note}
-use Rattle.node_core.specs.Site.{Site}
-use Rattle.node_core.specs.State.{LocalState}
+use Rattle.node_follower.specs.node_core.Site.{Site}
+use Rattle.node_follower.specs.node_core.State.{LocalState}
 use Rattle.node_follower.specs.Parts.{loan_part, own_part, port_part, state_parts}
 use Rattle.node_recorder.specs.Turns.{after_parts, after_ports, after_queue, after_state}
 

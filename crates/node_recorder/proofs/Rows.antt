@@ -1,10 +1,10 @@
 -- Networks and records that are small enough to see through.
 use Rattle.std.proofs.Common.{◌≡◌, ℕ, [], ◌∷◌, refl, arith}
 use Rattle.topology.specs.Network.{Network}
-use Rattle.flight_records.specs.declared.entry.Deed.TheVariants.{Ticks}
+use Rattle.flight_recorder.specs.flight_records.declared.entry.Deed.TheVariants.{Ticks}
 use Rattle.flight_recorder.specs.Recorder.{after_failure, at_start}
 use Rattle.flight_recorder.specs.declared.recorder.Side.TheVariants.{First}
-use Rattle.node_recorder.specs.Turns.{after_deeds, mixed, network_mark}
+use Rattle.node_recorder.specs.Turns.{after_deeds, network_mark}
 
 abbrev pair : ℕ → Network
 pair lease = record { nodes = 2; root = 0; capacity = 64; lease = lease; edges = (0, 1) ∷ [] }

@@ -1,16 +1,16 @@
 -- What a turn becomes in a node's record.
-use Rattle.std.specs.Prelude.{◌≡◌, ℕ, ◌+◌, ◌*◌, ◌%◌, Bool, true, false, ◌||◌, List, fold, ◌⊎◌}
+use Rattle.std.specs.Prelude.{◌≡◌, ℕ, ◌+◌, ◌*◌, ◌%◌, Bool, true, false, ◌||◌, if◌then◌else◌, List, fold, ◌⊎◌}
 use Rattle.topology.specs.Network.{Network}
-use Rattle.flight_records.specs.declared.entry.Noted.TheVariants as noted
-use Rattle.flight_records.specs.declared.entry.StatePart.{StatePart}
-use Rattle.flight_records.specs.declared.entry.StatePart.TheVariants.{Start, Waits, Whole}
-use Rattle.flight_records.specs.declared.entry.Deed.{Deed}
+use Rattle.flight_recorder.specs.flight_records.declared.entry.Noted.TheVariants as noted
+use Rattle.flight_recorder.specs.flight_records.declared.entry.StatePart.{StatePart}
+use Rattle.flight_recorder.specs.flight_records.declared.entry.StatePart.TheVariants.{Start, Waits, Whole}
+use Rattle.flight_recorder.specs.flight_records.declared.entry.Deed.{Deed}
 use Rattle.flight_recorder.specs.View.{RecorderView}
 use Rattle.flight_recorder.specs.Recorder.{after_note, is_at_start}
-use Rattle.accounts.specs.Deeds.{Leads}
-use Rattle.node_core.specs.Site.{Site}
-use Rattle.node_core.specs.State.{LocalState}
-use Rattle.node_core.specs.View.{NodeView, site_in, state_of}
+use Rattle.node_follower.specs.accounts.Deeds.{Leads}
+use Rattle.node_follower.specs.node_core.Site.{Site}
+use Rattle.node_follower.specs.node_core.State.{LocalState}
+use Rattle.node_follower.specs.node_core.View.{NodeView, site_in, state_of}
 use Rattle.node_follower.specs.Following.{account_of, AreSame}
 use Rattle.node_follower.specs.Parts.{loan_part, own_part, port_part, state_parts}
 use Rattle.node_recorder.specs.declared.recorder.NodeRecorder.{NodeRecorder}
@@ -46,25 +46,55 @@ after_state now network site s r =
     (after_note now (noted.State (own_part s))
     (after_note now (noted.State (Start network site.id)) r)))))
 
+-- the whole state of a node is to be noted before its next deeds: a file begins, or the node has other
+-- neighbours
+abbrev pub is_to_begin : {A : Type 0} → NodeRecorder A → Bool
+is_to_begin r = r.is_rewired || is_at_start r.pages
+
+-- then it is: the state in which the second node stands
+abbrev pub with_beginning : {A : Type 0} → ℕ → NodeRecorder A → RecorderView
+with_beginning now r =
+    if is_to_begin r then after_parts now (state_parts r.network (site_in r.follower) (state_of r.follower)) r.pages
+    else r.pages
+
+-- unless the recorder is lost, its second node stands as a node does
+abbrev pub Stands : {A : Type 0} → NodeRecorder A → NodeView → Type 0
+Stands r node =
+    r.is_lost ≡ false → AreSame (site_in r.follower).neighbours (state_of r.follower) (state_of node)
+
+-- a node's whole state is noted, and unless the recorder is lost, the second node stands there
+pub record TakesOver {A : Type 0} (now : ℕ) (node : NodeView) (old new : NodeRecorder A) : Type 0 where
+  pub pages : new.pages
+      ≡ after_parts now (state_parts old.network (site_in node) (state_of node)) old.pages
+  pub stands : Stands new node
+  pub rest : new ≡ record old { pages = new.pages; follower = new.follower; is_lost = new.is_lost }
+
 module _ {A : Type 0} (now : ℕ) (deeds : List Deed) (has_all : Bool) (node : NodeView)
     (old new : NodeRecorder A) where
-  -- The deeds are noted, and they lead the second node, by its own steps, to where the node stands.
+  -- The deeds are noted, after the state before them if that is to be noted. They lead the second node, by
+  -- its own steps, to where the node stands.
   pub record NotesDeeds : Type 0 where
     pub all : has_all ≡ true
-    pub known : (old.is_lost || is_at_start old.pages) ≡ false
-    pub still : new.is_lost ≡ old.is_lost
-    pub pages : new.pages ≡ after_deeds now deeds old.pages
+    pub known : old.is_lost ≡ false
+    pub still : new.is_lost ≡ false
+    pub pages : new.pages ≡ after_deeds now deeds (with_beginning now old)
     pub leads : Leads (site_in old.follower) (account_of deeds) (state_of old.follower)
         (state_of new.follower)
     pub stands : AreSame (site_in new.follower).neighbours (state_of new.follower) (state_of node)
 
-  -- The node's whole state is noted; and unless the recorder is lost, the second node stands there.
+  -- After the deeds, of which some may be missing, or which lead elsewhere, the node's whole state is noted
+  -- too.
+  pub record NotesBoth : Type 0 where
+    pub known : old.is_lost ≡ false
+    pub pages : new.pages ≡ after_parts now (state_parts old.network (site_in node) (state_of node))
+        (after_deeds now deeds (with_beginning now old))
+    pub stands : Stands new node
+
+  -- The recorder was lost: the node's whole state is noted.
   pub record NotesState : Type 0 where
-    pub pages : new.pages
-        ≡ after_parts now (state_parts old.network (site_in node) (state_of node)) old.pages
-    pub stands : new.is_lost ≡ false
-        → AreSame (site_in new.follower).neighbours (state_of new.follower) (state_of node)
+    pub lost : old.is_lost ≡ true
+    pub state : TakesOver now node old new
 
   -- a record that has stopped stays as it is
   abbrev pub Records : Type 0
-  Records = ((old.pages.is_stopped ≡ true) × (new ≡ old)) ⊎ (NotesDeeds ⊎ NotesState)
+  Records = ((old.pages.is_stopped ≡ true) × (new ≡ old)) ⊎ (NotesDeeds ⊎ (NotesBoth ⊎ NotesState))

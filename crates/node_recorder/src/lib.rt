@@ -1,18 +1,20 @@
 //! What a node's turns become in its record, as a pure machine over a recorder of pages.
 //!
 //! A [`NodeRecorder`] has a page of entries and a second node. At the end of each turn it is shown the
-//! node and the deeds that were noted in the turn. It has the second node do them; if that stands then as
-//! the node stands, the deeds are noted. Else, and at the start of a file, the node's whole state is, and
-//! the second node takes it over. So what is noted since a whole state is an account of the node: these
-//! deeds lead it from there, by its own steps, to where it stood at the end of the last turn.
+//! node and the deeds that were noted in the turn. It notes them, and has the second node do them. If that
+//! stands then elsewhere than the node, the node's whole state is noted as well, and the second node takes
+//! it over. At the start of a file, and when the node has other neighbours, the whole state in which the
+//! second node stands is noted first. So what is noted since a whole state is an account of the node, as
+//! long as no other one follows: these deeds lead it from there, by its own steps, to where it stood at the
+//! end of the last turn.
 //!
 //! ```
 //! recorder.turn_ended(run.node(), run.deeds(), run.has_all_deeds(), now);
 //! if recorder.pages().is_due() { /* write it, as flight_recorder says */ }
 //! ```
 //!
-//! A second node with other neighbours than the node's cannot take its state over; then the whole state is
-//! noted at each turn, until [`NodeRecorder::rewire`] gives it the node's new ones.
+//! A second node with other neighbours than the node's cannot take its state over; then the whole state
+//! alone is noted at each turn, until [`NodeRecorder::rewire`] gives it the node's new ones.
 //!
 //! The trap: what is noted of a turn may leave out a frame that came again and changed nothing.
 #![tactic(auto)]

@@ -1,16 +1,17 @@
 //! The recorder of a node.
-ghost use Rattle.std.specs.Prelude.{◌≡◌, ◌||◌, ◌<◌, ◌≤◌, IfOk, IsTrue};
-ghost use Rattle.accounts.specs.Deeds.{Leads};
-ghost use Rattle.node_core.specs.Site.{site_of};
-ghost use Rattle.node_core.specs.View.{site_in, state_of};
-ghost use Rattle.flight_recorder.specs.Recorder.{at_start, after_failure, after_write, fills, is_at_start};
+ghost use Rattle.std.specs.Prelude.{◌≡◌, ◌<◌, ◌⊎◌, IfOk, IsTrue, true, false};
+ghost use Rattle.node_follower.specs.accounts.Deeds.{Leads};
+ghost use Rattle.node_follower.specs.node_core.Site.{site_of};
+ghost use Rattle.node_follower.specs.node_core.View.{site_in, state_of};
+ghost use Rattle.flight_recorder.specs.Recorder.{after_failure, after_write, fills};
 ghost use Rattle.node_follower.specs.Following.{account_of, AreSame};
 ghost use Rattle.node_follower.specs.Parts.{state_parts};
 ghost use Rattle.node_recorder.specs.Turns.{after_deeds, after_parts, after_ports, after_queue, after_state};
-ghost use Rattle.node_recorder.specs.Turns.{mixed, network_mark, Records};
+ghost use Rattle.node_recorder.specs.Turns.{mixed, network_mark, is_to_begin, with_beginning};
+ghost use Rattle.node_recorder.specs.Turns.{Records, Stands, TakesOver};
 
+use flight_recorder::Recorder;
 use flight_recorder::flight_records::{Deed, Noted, StatePart};
-use flight_recorder::{Recorder, Side};
 use node_follower::flight_records::topology::Net;
 use node_follower::node_core::Node;
 use node_follower::{Follower, loan_part, own_part, port_part, start_part};
@@ -23,30 +24,34 @@ pub struct NodeRecorder<A: Allocator + Copy = Global> {
     follower: Follower<A>,
     /// The checksum of the network.
     network: u32,
+    /// The second node has other neighbours since its whole state was noted last.
+    is_rewired: bool,
     /// The second node may not stand as the node did at the end of its last turn.
     is_lost: bool,
 }
 
 impl<A: Allocator + Copy> NodeRecorder<A> {
-    /// The recorder of a node of the network, at the start of one of two files of at most `size` bytes.
-    /// All memory is reserved here; `AllocError` comes only where that is refused.
-    pub fn new(
+    /// The recorder of this node of the network, as the node stands now. What is noted goes to these
+    /// pages. All memory is reserved here; `AllocError` comes only if that is refused.
+    pub fn new<B: Allocator>(
         alloc: A,
         net: &Net,
-        id: u16,
-        size: u64,
-        side: Side,
+        node: &Node<B>,
+        pages: Recorder<A>,
     ) -> Result<NodeRecorder<A>, AllocError>
-        requires id { id < net.now.nodes }
-        requires size { 65536 ≤ size }
-        ensures pages { IfOk result (λ r. r.pages ≡ at_start size side) }
-        ensures site { IfOk result (λ r. site_in r.follower ≡ site_of net.now id) }
+        requires { (site_in node.now).id < net.now.nodes }
+        ensures pages { IfOk result (λ r. r.pages ≡ pages) }
+        ensures site { IfOk result (λ r. site_in r.follower ≡ site_of net.now (site_in node.now).id) }
+        ensures stands { IfOk result (λ r. Stands r node.now) }
     {
+        let mut follower = Follower::new(alloc, net, node.id())?;
+        let is_there = follower.take_over(node);
         Ok(NodeRecorder {
-            pages: Recorder::new(alloc, size, side)?,
-            follower: Follower::new(alloc, net, id)?,
+            pages,
+            follower,
             network: network_mark(net),
-            is_lost: false,
+            is_rewired: false,
+            is_lost: !is_there,
         })
     }
 
@@ -64,20 +69,35 @@ impl<A: Allocator + Copy> NodeRecorder<A> {
         if self.pages.is_stopped() {
             return;
         }
-        if has_all && !self.is_begun_again() && self.comes_to(node, deeds) {
-            note_deeds(&mut self.pages, deeds, now);
-        } else {
-            self.is_lost = !self.follower.take_over(node);
-            note_state(&mut self.pages, node, self.network, now);
+        if self.is_lost {
+            self.take_over(node, now);
+            return;
+        }
+        self.begin(now);
+        note_deeds(&mut self.pages, deeds, now);
+        if !has_all || !self.comes_to(node, deeds) {
+            self.take_over(node, now);
         }
     }
 
-    /// Whether the node's whole state is to be noted, whatever it did: a file begins, or the second node
-    /// may have stood elsewhere.
-    fn is_begun_again(&self) -> bool
-        ensures { result ≡ (self.now.is_lost || is_at_start self.now.pages) }
+    /// Notes the whole state in which the node stood before its turn, if a file begins, or the node has
+    /// other neighbours.
+    fn begin(&mut self, now: u64)
+        ensures { self.new
+            ≡ record self.old { pages = with_beginning now self.old; is_rewired = false } }
     {
-        self.is_lost || self.pages.is_at_start()
+        if self.is_rewired || self.pages.is_at_start() {
+            note_state(&mut self.pages, self.follower.node(), self.network, now);
+        }
+        self.is_rewired = false;
+    }
+
+    /// Notes the whole state of a node, and has the second node stand there.
+    fn take_over<B: Allocator>(&mut self, node: &Node<B>, now: u64)
+        ensures { TakesOver now node.now self.old self.new }
+    {
+        self.is_lost = !self.follower.take_over(node);
+        note_state(&mut self.pages, node, self.network, now);
     }
 
     /// Whether these deeds lead the second node to where the node stands.
@@ -86,20 +106,22 @@ impl<A: Allocator + Copy> NodeRecorder<A> {
             (state_of self.old.follower) (state_of self.new.follower) }
         ensures stands { IsTrue result → AreSame (site_in self.new.follower).neighbours
             (state_of self.new.follower) (state_of node.now) }
-        ensures rest { (self.new.pages ≡ self.old.pages) × (self.new.network ≡ self.old.network)
-            × (self.new.is_lost ≡ self.old.is_lost) }
+        ensures rest { self.new ≡ record self.old { follower = self.new.follower } }
     {
         self.follower.follow(deeds) && self.follower.stands_as(node)
     }
 
-    /// The node has the neighbours that it has in this network from now on: its whole state is noted at
-    /// the end of the next turn. If the network has other nodes, another root, capacity or lease, nothing
-    /// changes.
-    pub fn rewire(&mut self, net: &Net)
-        ensures { (self.new.pages ≡ self.old.pages) × (self.new.network ≡ self.old.network) }
+    /// The node has the neighbours that it has in this network from now on, and stands as it does: its
+    /// whole state is noted before its next deeds. If the network has other nodes, another root, capacity
+    /// or lease, nothing changes.
+    pub fn rewire<B: Allocator>(&mut self, net: &Net, node: &Node<B>)
+        ensures pages { (self.new.pages ≡ self.old.pages) × (self.new.network ≡ self.old.network) }
+        ensures done { (self.new ≡ self.old)
+            ⊎ ((self.new.is_rewired ≡ true) × Stands self.new node.now) }
     {
         if self.follower.rewire(net) {
-            self.is_lost = true;
+            self.is_lost = !self.follower.take_over(node);
+            self.is_rewired = true;
         }
     }
 

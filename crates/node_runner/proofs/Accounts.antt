@@ -3,8 +3,8 @@ use Rattle.std.proofs.Common.{◌≡◌, ℕ, ◌<◌, ◌≤◌, List, [], ◌�
 use Rattle.std.proofs.lemmas.Grind.{common_steps}
 use Rattle.std.specs.List.{AllByRecursion}
 use Rattle.topology.specs.Network.{Network}
-use Rattle.node_core.specs.Site.{site_of}
-use Rattle.node_core.specs.State.{LocalState}
+use Rattle.run_model.specs.node_core.Site.{site_of}
+use Rattle.run_model.specs.node_core.State.{LocalState}
 use Rattle.weaving.specs.declared.journal.Entry.{Entry}
 use Rattle.weaving.specs.Woven.{AreRising}
 use Rattle.link_model.specs.declared.item.Item.{Item}

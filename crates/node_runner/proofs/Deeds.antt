@@ -2,8 +2,8 @@
 use Rattle.std.proofs.Common.{◌≡◌, ℕ, ◌+◌, ◌<◌, ◌≤◌, List, [], ◌∷◌, ◌++◌, map, length, ap, sym, subst, ◌∙◌, arith, All, vec_capacity, length-append}
 use Rattle.std.specs.List.{AllByRecursion}
 use Rattle.topology.specs.Network.{Network}
-use Rattle.node_core.specs.Site.{site_of}
-use Rattle.node_core.specs.View.{site_in, state_of}
+use Rattle.run_model.specs.node_core.Site.{site_of}
+use Rattle.run_model.specs.node_core.View.{site_in, state_of}
 use Rattle.run_model.specs.World.{World}
 use Rattle.weaving.specs.Woven.{AreRising}
 use Rattle.weaving.specs.Account.{Note, entry_of, Leads}

@@ -1,3 +1,5 @@
+pub use Rattle.run_model.proofs.RowsTwo
+pub use Rattle.weaving.proofs.RowsRun
 pub mod Stamps
 pub mod Spends
 pub mod Accounts

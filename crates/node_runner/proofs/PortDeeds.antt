@@ -5,8 +5,8 @@ use Rattle.std.specs.List.Sorted.{IsStrictlyIncreasing}
 use Rattle.std.proofs.lemmas.List.{get_or-map}
 use Rattle.topology.specs.Network.{Network}
 use Rattle.topology.specs.Laws.{NeighboursAscend}
-use Rattle.node_core.specs.Site.{site_of}
-use Rattle.node_core.specs.View.{site_in, state_of}
+use Rattle.run_model.specs.node_core.Site.{site_of}
+use Rattle.run_model.specs.node_core.View.{site_in, state_of}
 use Rattle.run_model.specs.World.{World}
 use Rattle.weaving.specs.Account.{Note, sent_to, taken_from, entry_of, Leads}
 use Rattle.node_runner.specs.declared.runner.Port.{Port}

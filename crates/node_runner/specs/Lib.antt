@@ -1,3 +1,4 @@
+pub use Rattle.weaving.specs as weaving
 pub mod Stamps
 pub mod Ports
 pub mod Runner

@@ -1,8 +1,8 @@
 -- What one node does on its own thread, and how its ends of the links match that.
 use Rattle.std.specs.Prelude.{◌≡◌, ◌⊎◌, ℕ, ◌+◌, ◌*◌, ◌<◌, ◌≤◌, List, [], ◌∷◌, ◌++◌, All, map, length, slice_index_or, vec_capacity}
 use Rattle.std.specs.List.{AllByRecursion}
-use Rattle.node_core.specs.Site.{site_of}
-use Rattle.node_core.specs.View.{site_in, state_of}
+use Rattle.run_model.specs.node_core.Site.{site_of}
+use Rattle.run_model.specs.node_core.View.{site_in, state_of}
 use Rattle.run_model.specs.World.{World}
 use Rattle.weaving.specs.declared.journal.Stamped.{Stamped}
 use Rattle.weaving.specs.Woven.{AreRising}

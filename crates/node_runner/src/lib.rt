@@ -25,3 +25,4 @@ mod runner;
 pub use gates::{Gate, Meet, Open, Pace};
 pub use ports::{Incoming, Outgoing, StampBound};
 pub use runner::{Port, Runner};
+pub use weaving;

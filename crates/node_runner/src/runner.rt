@@ -1,7 +1,7 @@
 //! One node on its own thread.
 ghost use Rattle.std.specs.Prelude.{◌≡◌, ◌+◌, ◌<◌, ◌≤◌, ◌*◌, ℕ, List, [], ◌∷◌, ◌++◌, length};
 ghost use Rattle.std.specs.Prelude.{vec_capacity, slice_index_or};
-ghost use Rattle.node_core.specs.View.{site_in};
+ghost use Rattle.run_model.specs.node_core.View.{site_in};
 ghost use Rattle.weaving.specs.Account.{Note, Ticked, Sent, Took};
 ghost use Rattle.node_runner.specs.declared.runner.Port.{Port};
 ghost use Rattle.node_runner.specs.Runner.{IsReady, Does, IsOneSend, IsOneTake, port_ids};
@@ -13,8 +13,8 @@ ghost use Rattle.node_runner.specs.Due.{BeginsWhole};
 use crate::gates::Gate;
 use crate::ports::{Incoming, Outgoing};
 use link_model::Item;
-use node_core::Node;
 use run_model::Event;
+use run_model::node_core::Node;
 use std::alloc::{Allocator, Global};
 use weaving::{Entry, Journal};
 

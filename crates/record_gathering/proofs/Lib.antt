@@ -1,6 +1,7 @@
 pub mod Accepted
 pub mod Desks
 pub mod Differ
+pub mod FactsJoin
 pub mod Links
 pub mod Orders
 pub mod Places
@@ -10,5 +11,6 @@ pub mod Replays
 mod RowsEntries
 mod RowsFields
 pub mod Same
+pub mod SetUps
 pub mod Steps
 pub mod Whole

@@ -1,5 +1,5 @@
 -- What becomes of a link: items are lost, frames are taken and sent.
-use Rattle.std.proofs.Common.{◌≡◌, ◌∙◌, ℕ, ◌<◌, ◌≤◌, ◌+◌, Bool, true, false, nat_lt, List, [], ◌∷◌, ◌++◌, refl, ap, sym, subst, arith, suc, zero, drop, length, add-one}
+use Rattle.std.proofs.Common.{append_assoc, ◌≡◌, ◌∙◌, ℕ, ◌<◌, ◌≤◌, ◌+◌, Bool, true, false, nat_lt, List, [], ◌∷◌, ◌++◌, refl, ap, sym, subst, arith, suc, zero, drop, length, add-one}
 use Rattle.std.proofs.lemmas.Bool.{cond_both}
 use Rattle.std.proofs.lemmas.Grind.{common_steps}
 use Rattle.std.specs.Prelude.{if◌then◌else◌}
@@ -20,7 +20,7 @@ use Rattle.configuration.specs.run_model.declared.event.Event.{Event}
 use Rattle.configuration.specs.run_model.declared.event.Event.TheVariants.{Send, Take, Damage}
 use Rattle.configuration.specs.run_model.declared.event.Harm.TheVariants as harm
 use Rattle.record_gathering.specs.Differences.{harms_in, frame_harms}
-use Rattle.record_gathering.specs.Entries.{losses, forged_events, room_events, taken_events, sent_events}
+use Rattle.record_gathering.specs.Entries.{losses, forged_events, item_events, events_again, room_events, taken_events, sent_events}
 use Rattle.record_gathering.specs.Frames.{is_frame, is_under_way, in_front}
 use Rattle.record_gathering.proofs.Same.{frame-same}
 use Rattle.record_gathering.proofs.Steps.{send-step, lose-step, take-step, item-step}
@@ -116,32 +116,58 @@ module _ (join : RunsJoin) (w : World) (u v : ℕ) (f : Frame) (here : u < w.net
       ∙ ap (λ (n : Network). taken (site_of n v) u (item.Frame f) (m.node v)) network
       ∙ ap (λ (g : ℕ → LocalState). taken (site w v) u (item.Frame f) (g v)) node
 
+  -- after items were put on a link, the nodes are as they were
+  items-keep : (items : List Item) (x : World) → (run x (item_events u v items)).node ≡ x.node
+  items-keep [] x = refl
+  items-keep (i ∷ items) x =
+      let one : (step x (Damage (harm.Item u v i))).node ≡ x.node = grind (arith, common_steps) in
+      items-keep items (step x (Damage (harm.Item u v i))) ∙ one
+
+  -- the frame is taken after some events, and then what was under way is put there again
+  taken-then : (m : World) (es more : List Event) → (run m (es ++ Take u v ∷ [])).node v ≡ taken (site w v) u (item.Frame f) (w.node v)
+      → ((x : World) → (run x more).node ≡ x.node) → (run m (es ++ (Take u v ∷ more))).node v ≡ taken (site w v) u (item.Frame f) (w.node v)
+  taken-then m es more is keeps =
+      let first = run m (es ++ Take u v ∷ []) in
+      ap (λ (l : List Event). (run m l).node v) (sym (append_assoc es (Take u v ∷ []) more))
+      ∙ ap (λ (x : World). x.node v) (join m (es ++ Take u v ∷ []) more)
+      ∙ ap (λ (g : ℕ → LocalState). g v) (keeps first) ∙ is
+
   pub taken-leads : (run w (taken_events w u v f)).node v ≡ taken (site w v) u (item.Frame f) (w.node v)
   taken-leads =
-      let items = w.link u v in
-      let n = in_front f items in
-      let m = run w (losses u v n) in
-      let h : IsAfterLosses w u v n m = losses-lead u v n w here there joined (few-in_front f items) in
-      ap (λ (x : World). x.node v) (join w (losses u v n) (forged_events w u v f ++ Take u v ∷ []))
-      ∙ cond_both (is_under_way f items) [] (Damage (harm.Item u v (item.Frame f)) ∷ [])
-      (λ (es : List Event). (run m (es ++ Take u v ∷ [])).node v ≡ taken (site w v) u (item.Frame f) (w.node v))
-      (λ is. let rest = found f items is in takes-it m rest.0 h.network h.node (h.link ∙ rest.1))
-      (λ not_there.
-      let empty : m.link u v ≡ [] = h.link ∙ ap (λ (k : ℕ). drop k items) (not-found f items not_there) ∙ none-left items in
-      let m2 = with_link m u v (m.link u v ++ item.Frame f ∷ []) in
-      let room : has_room m u v ≡ true =
-      rw (empty, h.network) (positive w.net.capacity some) in
-      let forged : step m (Damage (harm.Item u v (item.Frame f))) ≡ m2 =
-      item-step m u v (subst (λ (k : Network). u < k.nodes) (sym h.network) here)
-      (subst (λ (k : Network). v < k.nodes) (sym h.network) there)
-      (subst (λ (k : Network). are_joined k.edges u v ≡ true) (sym h.network) joined)
-      f (subst (λ (k : Network). frame_fits (ranges_of k) f ≡ true) (sym h.network) fits) room in
-      ap (λ (x : World). (step x (Take u v)).node v) forged
-      ∙ takes-it m2 [] h.network h.node
-      (pair-here m.link u v (m.link u v ++ item.Frame f ∷ []) ∙ ap (λ (l : List Item). l ++ item.Frame f ∷ []) empty))
+      ap (λ (x : World). x.node v)
+      (join w (losses u v (in_front f (w.link u v))) (forged_events w u v f ++ (Take u v ∷ events_again w u v f)))
+      ∙ cases (is_under_way f (w.link u v)) refl
     where
       positive : (c : ℕ) → 1 ≤ c → nat_lt 0 c ≡ true
       positive c h = grind (arith, common_steps)
+
+      cases : (b : Bool) → is_under_way f (w.link u v) ≡ b
+          → (run (run w (losses u v (in_front f (w.link u v)))) (forged_events w u v f ++ (Take u v ∷ events_again w u v f))).node v
+          ≡ taken (site w v) u (item.Frame f) (w.node v)
+      cases true is =
+          let items = w.link u v in
+          let m = run w (losses u v (in_front f items)) in
+          let h : IsAfterLosses w u v (in_front f items) m = losses-lead u v (in_front f items) w here there joined (few-in_front f items) in
+          let rest = found f items is in
+          rw is (takes-it m rest.0 h.network h.node (h.link ∙ rest.1))
+      cases false not_there =
+          let items = w.link u v in
+          let n = in_front f items in
+          let m = run w (losses u v n) in
+          let h : IsAfterLosses w u v n m = losses-lead u v n w here there joined (few-in_front f items) in
+          let empty : m.link u v ≡ [] = h.link ∙ ap (λ (k : ℕ). drop k items) (not-found f items not_there) ∙ none-left items in
+          let m2 = with_link m u v (m.link u v ++ item.Frame f ∷ []) in
+          let room : has_room m u v ≡ true = rw (empty, h.network) (positive w.net.capacity some) in
+          let forged : step m (Damage (harm.Item u v (item.Frame f))) ≡ m2 =
+          item-step m u v (subst (λ (k : Network). u < k.nodes) (sym h.network) here)
+          (subst (λ (k : Network). v < k.nodes) (sym h.network) there)
+          (subst (λ (k : Network). are_joined k.edges u v ≡ true) (sym h.network) joined)
+          f (subst (λ (k : Network). frame_fits (ranges_of k) f ≡ true) (sym h.network) fits) room in
+          let one : (run m (Damage (harm.Item u v (item.Frame f)) ∷ Take u v ∷ [])).node v ≡ taken (site w v) u (item.Frame f) (w.node v) =
+          ap (λ (x : World). (step x (Take u v)).node v) forged
+          ∙ takes-it m2 [] h.network h.node
+          (pair-here m.link u v (m.link u v ++ item.Frame f ∷ []) ∙ ap (λ (l : List Item). l ++ item.Frame f ∷ []) empty) in
+          rw not_there (taken-then m (Damage (harm.Item u v (item.Frame f)) ∷ []) (item_events u v items) one (items-keep items))
 
 -- ---- a frame that was sent
 

@@ -51,7 +51,7 @@ first-taken = refl
 
 -- one that nobody sent is a harm, after all that was under way
 nobody-sent : entry_events (world (item.Frame first ∷ [])) [] 1 (noted.Deed (deed.Takes 0 second))
-    ≡ Lose 0 1 0 ∷ Damage (harm.Item 0 1 (item.Frame second)) ∷ Take 0 1 ∷ []
+    ≡ Lose 0 1 0 ∷ Damage (harm.Item 0 1 (item.Frame second)) ∷ Take 0 1 ∷ Damage (harm.Item 0 1 (item.Frame first)) ∷ []
 nobody-sent = refl
 
 -- no harm is put in front of a frame that is under way

@@ -1,5 +1,5 @@
 -- How much of what was found in records.
-use Rattle.std.specs.Prelude.{ℕ, ◌+◌, ◌-◌, ◌^◌, min, List, fold}
+use Rattle.std.specs.Prelude.{ℕ, ◌+◌, ◌-◌, ◌^◌, min, Bool, true, false, if◌then◌else◌, ◌||◌, List, fold}
 use Rattle.configuration.specs.run_model.declared.event.Event.{Event}
 use Rattle.configuration.specs.run_model.declared.event.Event.TheVariants as event
 use Rattle.configuration.specs.run_model.declared.event.Harm.{Harm}
@@ -27,6 +27,21 @@ with_event f e = with_kind (record f { events = one_more f.events }) e
 -- and all of these
 abbrev pub with_events : Found → List Event → Found
 with_events f es = fold with_event f es
+
+-- a frame or noise is written to a link
+abbrev pub is_written : Event → Bool
+is_written (event.Damage (harm.Item u v item)) = true
+is_written _ = false
+
+abbrev pub any_written : List Event → Bool
+any_written es = fold (λ b e. b || is_written e) false es
+
+-- And all of these, which one entry became. If a frame that nobody sent is among them, it is the only one of
+-- these, and none is lost: what was under way is put on its link again.
+abbrev pub with_entry : Found → List Event → Found
+with_entry f es =
+    if any_written es then record (with_events f es) { lost = f.lost; forged = one_more f.forged }
+    else with_events f es
 
 abbrev pub nothing : Found
 nothing = record { events = 0; harms = 0; lost = 0; forged = 0 }

@@ -1,5 +1,5 @@
 -- What an entry of a node's record becomes in a world: events.
-use Rattle.std.specs.Prelude.{ℕ, Bool, true, not, ◌&&◌, ◌||◌, nat_lt, if◌then◌else◌, List, [], ◌∷◌, ◌++◌, replicate}
+use Rattle.std.specs.Prelude.{ℕ, Bool, true, not, ◌&&◌, ◌||◌, nat_lt, if◌then◌else◌, List, [], ◌∷◌, ◌++◌, map, replicate}
 use Rattle.topology.specs.Network.{are_joined}
 use Rattle.topology.specs.Ranges.{ranges_of, frame_fits}
 use Rattle.topology.specs.declared.frame.Frame.{Frame}
@@ -9,6 +9,7 @@ use Rattle.flight_records.specs.declared.entry.StatePart.{StatePart}
 use Rattle.flight_records.specs.declared.entry.StatePart.TheVariants as part
 use Rattle.flight_records.specs.declared.entry.Deed.{Deed}
 use Rattle.flight_records.specs.declared.entry.Deed.TheVariants as deed
+use Rattle.configuration.specs.link_model.declared.item.Item.{Item}
 use Rattle.configuration.specs.link_model.declared.item.Item.TheVariants as item
 use Rattle.configuration.specs.run_model.World.{World}
 use Rattle.configuration.specs.run_model.Step.{has_room}
@@ -31,10 +32,20 @@ abbrev pub forged_events : World → ℕ → ℕ → Frame → List Event
 forged_events w u v f =
     if is_under_way f (w.link u v) then [] else Damage (harm.Item u v (item.Frame f)) ∷ []
 
--- v took the frame from u: all that was in front of it is lost
+-- items are put on the link from u to v, one after the other
+abbrev pub item_events : ℕ → ℕ → List Item → List Event
+item_events u v items = map (λ x. Damage (harm.Item u v x)) items
+
+-- after a frame that nobody sent, what was under way is put there again
+abbrev pub events_again : World → ℕ → ℕ → Frame → List Event
+events_again w u v f = if is_under_way f (w.link u v) then [] else item_events u v (w.link u v)
+
+-- v took the frame from u: all that was in front of it is lost. A frame that nobody sent stands alone on the
+-- link, until it is taken.
 abbrev pub taken_events : World → ℕ → ℕ → Frame → List Event
 taken_events w u v f =
-    losses u v (in_front f (w.link u v)) ++ (forged_events w u v f ++ Take u v ∷ [])
+    losses u v (in_front f (w.link u v))
+    ++ (forged_events w u v f ++ (Take u v ∷ events_again w u v f))
 
 -- a link that is full loses its oldest item
 abbrev pub room_events : World → ℕ → ℕ → List Event

@@ -11,8 +11,10 @@ use Rattle.configuration.specs.run_model.World.{World, IsWorldInRange, site}
 use Rattle.configuration.specs.run_model.Step.{has_room}
 use Rattle.configuration.specs.run_model.Run.{run, has_damage, IsUndamaged}
 use Rattle.configuration.specs.run_model.declared.event.Event.{Event}
+use Rattle.record_gathering.specs.declared.facts.Fact.{Fact}
 use Rattle.record_gathering.specs.Accepted.{accepted}
 use Rattle.record_gathering.specs.Entries.{is_of_link, taken_events, sent_events, part_events}
+use Rattle.record_gathering.specs.Facts.{set_events, set_queues}
 use Rattle.record_gathering.specs.Fields.{fields_of, no_fields, Differs, AreAll}
 use Rattle.record_gathering.specs.Frames.{is_under_way}
 use Rattle.record_gathering.specs.Standing.{StandsAs, IsPartInRange, IsOfNeighbour, IsSameBeside}
@@ -64,3 +66,13 @@ pub record ReplaysFollowRecords : Type 0 where
       → IsTrue (is_of_link w v u f)
       → (run w (sent_events w v u f)).link v u
       ≡ (if has_room w v u then w.link v u else drop 1 (w.link v u)) ++ item.Frame f ∷ []
+
+-- What facts become in two parts, they become together. And none of these events is refused.
+pub record FactsJoin : Type 0 where
+  pub events : (w : World) (queues : List (List ℕ)) (xs ys : List Fact)
+      → set_events w queues (xs ++ ys)
+      ≡ set_events w queues xs ++ set_events (run w (set_events w queues xs)) (set_queues queues xs) ys
+  pub queues : (queues : List (List ℕ)) (xs ys : List Fact)
+      → set_queues queues (xs ++ ys) ≡ set_queues (set_queues queues xs) ys
+  pub none_refused : (w : World) (queues : List (List ℕ)) (fs : List Fact)
+      → accepted w (set_events w queues fs) ≡ set_events w queues fs

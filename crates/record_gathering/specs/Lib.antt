@@ -5,6 +5,7 @@ pub mod Accepted
 pub mod Counts
 pub mod Differences
 pub mod Entries
+pub mod Facts
 pub mod Fields
 pub mod Firsts
 pub mod Frames
@@ -12,5 +13,6 @@ pub mod Laws
 pub mod Order
 pub mod Queues
 pub mod Standing
+pub mod SetUps
 pub mod States
 pub mod View

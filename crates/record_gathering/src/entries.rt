@@ -5,7 +5,7 @@ ghost use Rattle.configuration.specs.ConfigurationView.{world_of};
 ghost use Rattle.configuration.specs.run_model.Step.{has_room};
 ghost use Rattle.configuration.specs.run_model.declared.event.Event.TheVariants.{Ask, Leave};
 ghost use Rattle.record_gathering.specs.Differences.{harms_in, desk_events, port_harms};
-ghost use Rattle.record_gathering.specs.Entries.{losses, is_of_link, forged_events, taken_events};
+ghost use Rattle.record_gathering.specs.Entries.{losses, is_of_link, forged_events, item_events, taken_events};
 ghost use Rattle.record_gathering.specs.Entries.{room_events, sent_events, deed_events};
 ghost use Rattle.record_gathering.specs.Entries.{part_events, noted_events, entry_events};
 ghost use Rattle.record_gathering.specs.Entries.{is_deed_ready, is_ready};
@@ -100,7 +100,8 @@ fn add_losses<B: Allocator>(
     Ok(())
 }
 
-/// A frame was taken: all that was in front of it is lost. One that nobody sent is put there.
+/// A frame was taken: all that was in front of it is lost. One that nobody sent stands alone on the link
+/// until it is taken; then what was under way is put there again.
 fn add_taken<A: Allocator + Copy, B: Allocator>(
     world: &Configuration<A>,
     from: u16,
@@ -115,11 +116,32 @@ fn add_taken<A: Allocator + Copy, B: Allocator>(
 {
     let place = place_of(world, from, to, frame);
     add_losses(events, from, to, place.in_front)?;
-    if !place.is_there {
-        let item = Item::Frame(*frame);
+    if place.is_there {
+        return add(events, Event::Take { from, to });
+    }
+    let item = Item::Frame(*frame);
+    add(events, Event::Damage(Harm::Item { from, to, item }))?;
+    add(events, Event::Take { from, to })?;
+    add_items(world, from, to, events)
+}
+
+/// What is under way on a link is put there.
+fn add_items<A: Allocator + Copy, B: Allocator>(
+    world: &Configuration<A>,
+    from: u16,
+    to: u16,
+    events: &mut Vec<Event, B>,
+) -> Result<(), AllocError>
+    requires from_in { from < (world_of world.now).net.nodes }
+    requires to_in { to < (world_of world.now).net.nodes }
+    ensures { OnOk result (events.new.items
+        ≡ events.old.items ++ item_events from to ((world_of world.now).link from to)) }
+{
+    for index in 0..world.under_way(from, to) {
+        let item = world.item(from, to, index);
         add(events, Event::Damage(Harm::Item { from, to, item }))?;
     }
-    add(events, Event::Take { from, to })
+    Ok(())
 }
 
 /// A link accepted a frame: its sender's port sends it. A link that is full loses its oldest item.

@@ -1,7 +1,7 @@
 //! How much of what was found in records.
-ghost use Rattle.std.specs.Prelude.{◌≡◌, fold};
+ghost use Rattle.std.specs.Prelude.{◌≡◌, ◌||◌, fold};
 ghost use Rattle.record_gathering.specs.Counts.{one_more, with_harm, with_kind, with_event};
-ghost use Rattle.record_gathering.specs.Counts.{with_events, nothing};
+ghost use Rattle.record_gathering.specs.Counts.{with_events, with_entry, any_written, is_written, nothing};
 
 use configuration::run_model::{Event, Harm};
 
@@ -47,6 +47,19 @@ impl Found {
         }
     }
 
+    /// Counts these events too, which one entry became. A frame that nobody sent is one, and nothing is lost
+    /// for it, as what was under way is put on its link again.
+    pub fn count_entry(&mut self, events: &[Event])
+        ensures { self.new ≡ with_entry self.old events.now }
+    {
+        let before = *self;
+        self.count(events);
+        if any_written(events) {
+            self.lost = before.lost;
+            self.forged = one_more(before.forged);
+        }
+    }
+
     /// Counts one more event.
     fn count_one(&mut self, event: &Event)
         ensures { self.new ≡ with_event self.old event.now }
@@ -72,4 +85,29 @@ impl Found {
             self.forged = one_more(self.forged);
         }
     }
+}
+
+/// Whether one of these events writes a frame or noise to a link.
+fn any_written(events: &[Event]) -> bool
+    ensures { result ≡ any_written events.now }
+{
+    let mut found = false;
+    for event in events {
+        found = is_one_written(found, event);
+    }
+    found
+}
+
+/// Whether an event does, or one before it did.
+fn is_one_written(found: bool, event: &Event) -> bool
+    ensures { result ≡ (found || is_written event.now) }
+{
+    found || is_written(event)
+}
+
+/// Whether an event writes a frame or noise to a link.
+fn is_written(event: &Event) -> bool
+    ensures { result ≡ is_written event.now }
+{
+    matches!(event, Event::Damage(Harm::Item { .. }))
 }

@@ -1,22 +1,25 @@
 //! A world, as the entries of records led it.
-ghost use Rattle.std.specs.Prelude.{◌≡◌, ◌≤◌, OnOk, OnErr, IfOk, [], length, replicate, take};
+ghost use Rattle.std.specs.Prelude.{◌≡◌, ◌≤◌, OnOk, OnErr, IfOk, [], ◌∷◌, length, replicate, take};
 ghost use Rattle.configuration.specs.ConfigurationView.{world_of};
 ghost use Rattle.configuration.specs.run_model.Run.{run};
 ghost use Rattle.configuration.specs.run_model.Start.{world_with_spares};
 ghost use Rattle.record_gathering.specs.Accepted.{accepted};
+ghost use Rattle.configuration.specs.run_model.declared.event.Event.TheVariants.{Damage};
 ghost use Rattle.record_gathering.specs.Entries.{entry_events, is_ready};
+ghost use Rattle.record_gathering.specs.Facts.{fact_events, queues_with};
 ghost use Rattle.record_gathering.specs.Fields.{fields_of};
 ghost use Rattle.record_gathering.specs.Order.{IsNext};
 ghost use Rattle.record_gathering.specs.Queues.{queue_of, queues_after};
 ghost use Rattle.record_gathering.specs.View.{gathered};
 
 use crate::entries::{add_entry, is_ready};
+use crate::facts::Fact;
 use crate::fields::{Field, fields_of};
 use crate::laws::accepted_is_enough;
 use crate::order::next_node;
 use crate::queue::Queue;
 use configuration::Configuration;
-use configuration::run_model::Event;
+use configuration::run_model::{Event, Harm};
 use flight_records::{Entry, Noted};
 use std::alloc::{AllocError, Allocator, Global};
 use std::marker::Model;
@@ -182,5 +185,60 @@ impl<A: Allocator + Copy> Gathering<A> {
         self.let_happen(events);
         self.note_queue(node, noted);
         Ok(())
+    }
+
+    /// A harm is done. It becomes an event, unless it is refused, which is all that the list has
+    /// afterwards.
+    ///
+    /// # Errors
+    /// If memory runs out; then nothing has happened.
+    fn suffers<B: Allocator>(
+        &mut self,
+        harm: &Harm,
+        events: &mut Vec<Event, B>,
+    ) -> Result<(), AllocError>
+        ensures events { OnOk result (events.new.items
+            ≡ accepted (gathered self.old) (Damage harm.now ∷ [])) }
+        ensures world { OnOk result (gathered self.new
+            ≡ run (gathered self.old) events.new.items) }
+        ensures queues { OnOk result (self.new.queues ≡ self.old.queues) }
+        ensures unchanged { OnErr result (self.new ≡ self.old) }
+    {
+        events.clear();
+        events.push(Event::Damage(*harm))?;
+        self.let_happen(events);
+        Ok(())
+    }
+
+    /// A fact of another world holds here, too, from now on. It becomes events, which happen in this
+    /// world; these are all that the list has afterwards. What is refused here does not become true.
+    ///
+    /// # Errors
+    /// If memory runs out; then nothing has happened.
+    pub fn sets<B: Allocator>(
+        &mut self,
+        fact: &Fact,
+        events: &mut Vec<Event, B>,
+    ) -> Result<(), AllocError>
+        ensures events { OnOk result (events.new.items
+            ≡ fact_events (gathered self.old) self.old.queues fact.now) }
+        // The list leads the world on.
+        ensures world { OnOk result (gathered self.new
+            ≡ run (gathered self.old) events.new.items) }
+        ensures queues { OnOk result (self.new.queues
+            ≡ queues_with self.old.queues fact.now) }
+        ensures unchanged { OnErr result (self.new ≡ self.old) }
+    {
+        match fact {
+            Fact::State { node, part } => self.notes(*node, &Noted::State(*part), events),
+            Fact::Written(harm) => self.suffers(harm, events),
+        }
+    }
+
+    /// Goes on in the world of another gathering. The tickets that were noted to wait stay.
+    pub fn moves_to(&mut self, other: Gathering<A>)
+        ensures { self.new ≡ record self.old { configuration = other.configuration } }
+    {
+        self.world = other.world;
     }
 }

@@ -1,7 +1,8 @@
 //! What holds of the events that entries become: each law is the contract of a function that does
 //! nothing.
-ghost use Rattle.record_gathering.specs.Laws.{AcceptedIsEnough, HarmsMeanDifferences};
+ghost use Rattle.record_gathering.specs.Laws.{AcceptedIsEnough, HarmsMeanDifferences, FactsJoin};
 ghost use Rattle.record_gathering.specs.Laws.{ReplaysFollowRecords, FieldsMeanDifferences};
+ghost use Rattle.record_gathering.specs.SetUps.{SetUpsAreReached};
 ghost use Rattle.record_gathering.specs.States.{WholeStatesAreReached};
 
 /// Leaving out the events that are refused changes nothing: the same world is reached.
@@ -37,5 +38,24 @@ pub fn whole_states_are_reached()
 {
     topology::laws::joined();
     configuration::run_model::laws::runs();
+    configuration::run_model::laws::in_range();
+}
+
+/// Facts that are set in two parts lead where they lead together, and none of what they become is
+/// refused. Whoever sets up a world piece by piece stands on it.
+pub fn facts_join()
+    ensures { FactsJoin }
+{
+    configuration::run_model::laws::runs();
+}
+
+/// A network that is set up as a world stands, stands so: each node is in its state, and each link holds
+/// its items. Whoever replays a list of events that begins in the midst stands on it.
+pub fn set_ups_are_reached()
+    ensures { SetUpsAreReached }
+{
+    topology::laws::joined();
+    configuration::run_model::laws::runs();
+    configuration::run_model::laws::start();
     configuration::run_model::laws::in_range();
 }

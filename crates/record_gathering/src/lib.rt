@@ -19,11 +19,15 @@
 //!
 //! Before an entry becomes events, [`Gathering::fields`] says which fields of the node stand otherwise.
 //!
+//! The facts of a world, which [`facts`] lists, set up another gathering as that world stands:
+//! [`Gathering::sets`] has each of them become events. So a list of events can begin in the midst.
+//!
 //! The trap: that a frame is lost is known only when a later one is taken.
 #![tactic(auto)]
 
 mod differences;
 mod entries;
+pub mod facts;
 mod fields;
 mod found;
 mod frames;
@@ -34,6 +38,7 @@ mod queue;
 
 pub use configuration;
 pub use configuration::run_model;
+pub use facts::Fact;
 pub use fields::Field;
 pub use flight_records;
 pub use found::Found;

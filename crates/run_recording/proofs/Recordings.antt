@@ -1,7 +1,8 @@
 -- A recording, event by event, line by line and piece by piece.
-use Rattle.std.proofs.Common.{◌≡◌, ◌∙◌, ap, sym, refl, subst, ℕ, ◌+◌, ◌≤◌, ◌==◌, if◌then◌else◌, false, Bool, List, [], ◌∷◌, ◌++◌, length, append_assoc, Option, None, Some, Result, Ok, Err, OnOk, IfErr, is_ok, is_none, arith}
+use Rattle.std.proofs.Common.{◌≡◌, ◌∙◌, ap, sym, refl, subst, ℕ, ◌+◌, ◌-◌, ◌≤◌, ◌==◌, if◌then◌else◌, false, Bool, List, [], ◌∷◌, ◌++◌, length, take, drop, append_assoc, Option, None, Some, Result, Ok, Err, OnOk, IfErr, is_ok, is_none, arith}
 use Rattle.std.proofs.lemmas.Grind.{common_steps, flat_map-append}
-use Rattle.std.proofs.lemmas.List.{append-nil}
+use Rattle.std.proofs.lemmas.List.{append-nil, take_rest}
+use Rattle.std.proofs.Math.Seq.{take-add}
 use Rattle.byte_lines.specs.Kept.{Kept, StandsAfter}
 use Rattle.world.specs.run_model.World.{World}
 use Rattle.world.specs.run_model.Run.{run, is_damage}
@@ -168,6 +169,10 @@ reader_moves start es r reader h = record {
   events_are = h.events_are;
   before_is = h.before_is;
 }
+
+-- the first bytes of a piece, and those after them
+pub piece_more : (piece : List ℕ) (at used : ℕ) → take (at + used) piece ≡ take at piece ++ take used (take (length piece - at) (drop at piece))
+piece_more piece at used = take-add at used piece ∙ ap (λ xs. take at piece ++ take used xs) (sym (take_rest piece at))
 
 -- one more line has ended, and its event is recorded
 pub line_ends : (start : World) (bytes more : List ℕ) (line : TextLine) (old new : RecordingView) (reader : Kept)

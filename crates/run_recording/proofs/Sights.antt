@@ -1,5 +1,5 @@
 -- What is seen of a world, and what an event changes in it.
-use Rattle.std.proofs.Common.{◌≡◌, ◌≢◌, ◌∙◌, ap, sym, refl, ℕ, zero, suc, ◌+◌, ◌<◌, ◌≤◌, cond, Bool, true, false, is_some, List, [], ◌∷◌, length, Option, map, slice_set, slice_index_or, arith}
+use Rattle.std.proofs.Common.{◌≡◌, ◌≢◌, ◌∙◌, ap, sym, refl, ℕ, zero, suc, ◌+◌, ◌<◌, ◌≤◌, cond, Bool, true, false, is_some, List, [], ◌∷◌, length, Option, None, map, slice_set, slice_index_or, arith}
 use Rattle.std.specs.List.{range_with_len, count_by}
 use Rattle.std.proofs.lemmas.Grind.{common_steps}
 use Rattle.std.proofs.lemmas.List.Sums.{count_by-le-length}
@@ -17,11 +17,12 @@ use Rattle.world.specs.run_model.NodeCounts.{privileged_count, lending_count}
 use Rattle.world.specs.run_model.Step.{step}
 use Rattle.world.specs.run_model.declared.event.Event.TheVariants.{Send, Take, Lose, Tick, Ask, Leave, Damage}
 use Rattle.world.specs.run_model.declared.event.Harm.TheVariants as harm
+use Rattle.film_stills.specs.declared.look.Look.{Look}
 use Rattle.film_stills.specs.declared.look.Place.{Place}
 use Rattle.run_recording.specs.declared.mark.Mark.{Mark}
 use Rattle.run_recording.specs.declared.mark.Mark.TheVariants.{Settled}
 use Rattle.run_recording.specs.declared.sight.Sight.{Sight}
-use Rattle.run_recording.specs.Seen.{is_at, look_at, look_by, look_of, looks_of, place_at, place_of, edges_of, mark_at, mark_of_look, marks_of, nothing, places_of, sight_of}
+use Rattle.run_recording.specs.Seen.{is_at, look_at, look_by, look_of, looks_of, place_at, place_of, edges_of, mark_at, mark_of_look, marks_of, nothing, nowhere, places_of, sight_of}
 use Rattle.run_recording.specs.SightSteps.{DiffersAt, recounted, with_look}
 
 -- ---- the marks are those of the looks
@@ -137,6 +138,11 @@ same_privilege w new v differs u other =
 same_lending : (w new : World) (v : ℕ) → DiffersAt v w new → (u : ℕ) → u ≢ v → is_lending new u ≡ is_lending w u
 same_lending w new v differs u other = ap (λ s. is_some s.desk.lent) (differs.nodes u other)
 
+-- the look of a node, among those of all ids
+looked_is : (w : World) (v : ℕ) (d : Look) → v < w.net.nodes → v < 64 → slice_index_or (looks_of w) v d ≡ look_of w v
+looked_is w v d there few =
+    get_or-map-range_with_len (look_at w) 0 64 v v d few (omega arith) ∙ sym (look_there w v there)
+
 pub look_again_is : (w new : World) (v : ℕ) → DiffersAt v w new → v < new.net.nodes → new.net.nodes ≤ 64
     → with_look (sight_of w) v (look_of new v) ≡ sight_of new
 look_again_is w new v differs within few =
@@ -146,9 +152,7 @@ look_again_is w new v differs within few =
     let same : (u : ℕ) → u ≢ v → look_at new u ≡ look_at w u = λ u other. same_look w new v u differs other in
     let marks : (u : ℕ) → u ≢ v → mark_at new u ≡ mark_at w u = λ u other. sym (mark_is new u) ∙ ap mark_of_look (same u other) ∙ mark_is w u in
     let there : look_at new v ≡ look_of new v = sym (look_there new v within) in
-    let was : slice_index_or (looks_of w) v nothing ≡ look_at w v = get_or-map-range_with_len (look_at w) 0 64 v v nothing (omega (arith, within, few)) (omega arith) in
-    let was_there : look_at w v ≡ look_of w v = sym (look_there w v before) in
-    let looked = was ∙ was_there in
+    let looked = looked_is w v nothing before (omega (arith, within, few)) in
     let nodes = ap (λ net. net.nodes) differs.net in
     sight_is (with_look (sight_of w) v (look_of new v)) (sight_of new)
     places edges
@@ -160,6 +164,23 @@ look_again_is w new v differs within few =
     (ap (λ look. recounted (lending_count w) (is_some look.lent) (is_lending new v)) looked
     ∙ recount_is (is_lending w) (is_lending new) v w.net.nodes (same_lending w new v differs) before (rw nodes at few)
     ∙ ap (λ n. count_by (is_lending new) (range_with_len 0 n)) (sym nodes))
+
+-- what a look-up past the end of a list of looks gives
+abbrev pub no_look : Look
+no_look = record { own = nowhere; settled = false; privileged = false; lent = None }
+
+-- a node that looks as before changes nothing
+pub same_look_is : (w new : World) (v : ℕ) → DiffersAt v w new → v < new.net.nodes → new.net.nodes ≤ 64
+    → look_of new v ≡ slice_index_or (looks_of w) v no_look → sight_of w ≡ sight_of new
+same_look_is w new v differs within few same =
+    let nodes = ap (λ net. net.nodes) differs.net in
+    let before : v < w.net.nodes = rw nodes at within in
+    let at_most : w.net.nodes ≤ 64 = rw nodes at few in
+    let unchanged : DiffersAt v w w = record { net = refl; nodes = λ u other. refl; nowhere = λ beyond. refl } in
+    let looks : look_of new v ≡ look_of w v = same ∙ looked_is w v no_look before (omega (arith, within, few)) in
+    sym (look_again_is w w v unchanged before at_most)
+    ∙ ap (with_look (sight_of w) v) (sym looks)
+    ∙ look_again_is w new v differs within few
 
 -- ---- an event changes the look of one node at most
 

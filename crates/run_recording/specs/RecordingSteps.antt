@@ -1,5 +1,5 @@
 -- What the steps of a recording say about it, whatever was recorded before.
-use Rattle.std.specs.Prelude.{◌≡◌, ℕ, Bool, is_none, List, [], ◌++◌, Option, Some, Result, OnOk}
+use Rattle.std.specs.Prelude.{◌≡◌, ℕ, Bool, is_none, List, [], ◌∷◌, ◌++◌, Option, Some, Result, OnOk}
 use Rattle.topology.specs.Network.{Network}
 use Rattle.world.specs.run_model.World.{World}
 use Rattle.world.specs.run_model.Step.{refusal}
@@ -7,7 +7,7 @@ use Rattle.world.specs.run_model.Run.{is_damage}
 use Rattle.world.specs.run_model.declared.event.Event.{Event}
 use Rattle.world.specs.SimulatedText.{events_of}
 use Rattle.film_stills.specs.declared.still.Still.{Still}
-use Rattle.film_stills.specs.Reels.{ReelView}
+use Rattle.film_stills.specs.Reels.{ReelView, Shows}
 use Rattle.run_recording.specs.declared.column.Column.{Column}
 use Rattle.run_recording.specs.declared.recording.Take.{Take}
 use Rattle.run_recording.specs.declared.sight.Sight.{Sight}
@@ -41,6 +41,12 @@ IsMomentSeen sight net damaged before after column = (w : World) → sight ≡ s
 -- the still of a moment, for every world with this sight and with so many frames under way
 abbrev pub IsStillSeen : Sight → List ℕ → Take → Still → Type 0
 IsStillSeen sight under_way take still = (w : World) → sight ≡ sight_of w → under_way ≡ under_way_of w → still ≡ still_of w take
+
+-- the reel gets one more still of a world with this sight
+abbrev pub AddsStillSeen : Sight → World → Take → ReelView → ReelView → Type 0
+AddsStillSeen sight there take old new =
+    (w : World) (stills : List Still) → sight ≡ sight_of w → there ≡ w
+    → Shows old stills → Shows new (stills ++ still_of w take ∷ [])
 
 -- the reel gets one more still of a world with this sight, if the window holds the moment
 abbrev pub KeepsStillSeen : Sight → World → Take → Window → ℕ → Option ReelView → Option ReelView → Type 0

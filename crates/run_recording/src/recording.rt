@@ -13,7 +13,8 @@ ghost use Rattle.run_recording.specs.Strips.{Shows};
 ghost use Rattle.run_recording.specs.Recordings.{shown_if, RecordsNext, IsRecorded};
 ghost use Rattle.run_recording.specs.Recordings.{IsReading};
 ghost use Rattle.run_recording.specs.RecordingSteps.{EndsThere, IsDamageWhere, ReadsAll, ReadsNext};
-ghost use Rattle.run_recording.specs.RecordingSteps.{IsMomentSeen, IsStillSeen, KeepsStillSeen};
+ghost use Rattle.run_recording.specs.RecordingSteps.{AddsStillSeen, IsMomentSeen, IsStillSeen};
+ghost use Rattle.run_recording.specs.RecordingSteps.{KeepsStillSeen};
 ghost use Rattle.run_recording.specs.Laned.{IsLaned, KeepsWorld, lane_moments, limit_of};
 ghost use Rattle.run_recording.specs.Held.{is_held};
 ghost use Rattle.layers.specs.LayersOf.{AreLayersOf};
@@ -224,16 +225,31 @@ fn keep_still<A: Allocator + Copy>(
     ended: u64,
     sight: &Sight,
     configuration: &Configuration<A>,
-    take: Take,
+    take: &Take,
 )
-    ensures shows { KeepsStillSeen sight.now (world_of configuration.now) take window ended reel.old reel.new }
+    ensures shows { KeepsStillSeen sight.now (world_of configuration.now) take.now window ended
+        reel.old reel.new }
     ensures limit { room_of reel.new ≡ room_of reel.old }
 {
     if let Some(reel) = reel {
         if window.holds(ended) {
-            reel.push(&still_of(sight, under_way_of(configuration), take));
+            push_still(reel, sight, configuration, *take);
         }
     }
+}
+
+/// Adds the still of a moment to a reel.
+#[inline(never)]
+fn push_still<A: Allocator + Copy>(
+    reel: &mut Reel<A>,
+    sight: &Sight,
+    configuration: &Configuration<A>,
+    take: Take,
+)
+    ensures shows { AddsStillSeen sight.now (world_of configuration.now) take reel.old reel.new }
+    ensures limit { reel.new.limit ≡ reel.old.limit }
+{
+    reel.push(&still_of(sight, under_way_of(configuration), take));
 }
 
 /// Keeps what has settled, if that is asked for and the window holds the moment. It looks at the
@@ -321,7 +337,7 @@ impl<A: Allocator + Copy> Recording<A> {
             damaged: false,
             sweeps: 0,
         };
-        keep_still(&mut reel, window, 0, &sight, judge.configuration(), take);
+        keep_still(&mut reel, window, 0, &sight, judge.configuration(), &take);
         keep_layers(&mut lanes, window, 0, judge.configuration());
         Recording {
             judge,
@@ -381,12 +397,17 @@ impl<A: Allocator + Copy> Recording<A> {
     {
         let mut at = 0;
         while at < piece.len() {
+            if let Some((event, used)) = self.reader.take_usual(&piece[at..]) {
+                at += used;
+                self.line(TextLine::Said(event));
+                continue;
+            }
             let taken = self.reader.take(&piece[at..]);
             at += taken.used;
             let Some(line) = taken.line else {
                 return;
             };
-            self.line(line);
+            self.rare_line(line);
         }
     }
 
@@ -400,11 +421,27 @@ impl<A: Allocator + Copy> Recording<A> {
         ensures lanes { limit_of self.new.lanes ≡ limit_of self.old.lanes }
     {
         if let Some(line) = self.reader.last() {
-            self.line(line);
+            self.rare_line(line);
         }
     }
 
+    /// The next line, as [`Recording::line`] takes it, for the rare kinds of lines.
+    #[inline(never)]
+    fn rare_line(&mut self, line: TextLine)
+        requires { self.old.events < 2 ^ 61 }
+        ensures records { RecordsNext self.old (said_events (line ∷ [])) self.new }
+        ensures reader { self.new.reader ≡ self.old.reader }
+        ensures window { self.new.window ≡ self.old.window }
+        ensures limit { self.new.strip.limit ≡ self.old.strip.limit }
+        ensures reel { room_of self.new.reel ≡ room_of self.old.reel }
+        ensures lanes { limit_of self.new.lanes ≡ limit_of self.old.lanes }
+        ensures events { self.new.events ≤ self.old.events + 1 }
+    {
+        self.line(line);
+    }
+
     /// The next line: lets its event happen.
+    // A separate call would write the event to memory for each line, and read it again.
     #[inline(always)]
     fn line(&mut self, line: TextLine)
         requires { self.old.events < 2 ^ 61 }
@@ -424,6 +461,7 @@ impl<A: Allocator + Copy> Recording<A> {
     }
 
     /// Lets an event happen, and keeps the moment after it.
+    #[inline(always)]
     fn happens(&mut self, event: &Event)
         requires { self.old.events < 2 ^ 61 }
         ensures records { RecordsNext self.old (event.now ∷ []) self.new }
@@ -451,7 +489,7 @@ impl<A: Allocator + Copy> Recording<A> {
             events: self.events,
             sweeps: self.ended,
         };
-        self.before = now_where(self.strip.columns().is_empty(), now, self.before);
+        begin_at(&mut self.before, self.strip.columns().is_empty(), now);
         let change = change_where(self.window.holds(self.ended), change);
         self.ended = self.ended.saturating_add(counts.sweeps);
         keep(
@@ -474,7 +512,7 @@ impl<A: Allocator + Copy> Recording<A> {
             self.ended,
             &self.sight,
             self.judge.configuration(),
-            take,
+            &take,
         );
         keep_layers(
             &mut self.lanes,
@@ -555,11 +593,14 @@ impl<A: Allocator + Copy> Recording<A> {
     }
 }
 
-/// What is now, if nothing is shown yet; else what was.
-fn now_where(is_first: bool, now: Before, was: Before) -> Before
-    ensures { result ≡ (if is_first then now else was) }
+/// Takes up what is now, if nothing is shown yet.
+#[inline(always)]
+fn begin_at(before: &mut Before, is_first: bool, now: Before)
+    ensures { before.new ≡ (if is_first then now else before.old) }
 {
-    if is_first { now } else { was }
+    if is_first {
+        *before = now;
+    }
 }
 
 /// What has changed since the last moment that was kept, if that is the moment before.

@@ -201,6 +201,8 @@ impl Sight {
 
     /// Updates what is seen after an event led to this configuration, and says which marks may have
     /// changed. Looks at one node at most, unless an edge has joined or parted.
+    // A separate call would write the event of each line to memory.
+    #[inline(always)]
     pub fn follow<A: Allocator + Copy>(
         &mut self,
         configuration: &Configuration<A>,
@@ -223,6 +225,7 @@ impl Sight {
     }
 
     /// Updates what is seen after damage. Looks at all nodes only if an edge has joined or parted.
+    #[inline(never)]
     fn follow_harm<A: Allocator + Copy>(
         &mut self,
         configuration: &Configuration<A>,
@@ -257,7 +260,8 @@ impl Sight {
         Change::All
     }
 
-    /// Updates what is seen if only this node changed.
+    /// Updates what is seen if only this node changed. Writes nothing if it looks as before.
+    #[inline(always)]
     fn look_again<A: Allocator + Copy>(
         &mut self,
         configuration: &Configuration<A>,
@@ -269,14 +273,20 @@ impl Sight {
     {
         if v < configuration.net().nodes() {
             let node = usize::from(v);
-            self.put(node, look_by(configuration, self.places[node], v));
-            Change::At { node }
+            let look = look_by(configuration, self.places[node], v);
+            if look.is(self.looks[node]) {
+                Change::Nothing
+            } else {
+                self.put(node, look);
+                Change::At { node }
+            }
         } else {
             Change::Nothing
         }
     }
 
     /// Replaces the look of a node.
+    #[inline(never)]
     fn put(&mut self, v: usize, look: Look)
         requires { v < 64 }
         ensures { self.new ≡ with_look self.old v look }

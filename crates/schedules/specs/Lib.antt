@@ -1,3 +1,4 @@
+pub use Rattle.damage_tool.specs as damage_tool
 pub mod Rounds
 pub mod Random
 pub mod Slow

@@ -1,7 +1,7 @@
 -- Lists without harms, and one with a harm.
 use Rattle.std.proofs.Common.{◌≡◌, [], ◌∷◌, refl, arith}
-use Rattle.run_model.specs.declared.event.Event.TheVariants.{Damage, Leave, Send, Take, Tick}
-use Rattle.run_model.specs.declared.event.Harm.TheVariants.{Empty}
+use Rattle.experiments.specs.layers.configuration.run_model.declared.event.Event.TheVariants.{Damage, Leave, Send, Take, Tick}
+use Rattle.experiments.specs.layers.configuration.run_model.declared.event.Harm.TheVariants.{Empty}
 use Rattle.slow_runs.specs.Moves.{AreMoves}
 
 moves-none : AreMoves []

@@ -5,12 +5,12 @@ ghost use Rattle.slow_runs.specs.Moves.{AreMoves};
 
 use crate::trial::Trial;
 use experiments::Watch;
+use experiments::judge::World;
+use experiments::judge::run_model::Event;
 use experiments::schedules::EventSink;
-use judge::World;
 use rand::SeedableRng;
 use rand::seq::SliceRandom;
 use rand_pcg::Lcg64Xsh32;
-use run_model::Event;
 use std::alloc::{AllocError, Global};
 use topology::Net;
 

@@ -2,7 +2,7 @@
 use Rattle.std.proofs.Common.{◌≡◌, ◌<◌, ◌+◌, ◌-◌, ◌∙◌, ap, sym, arith, ℕ, suc, List, ◌++◌, Option, Some, None, option_map, codes, append_assoc}
 use Rattle.rand_pcg.specs.Lcg.{Lcg}
 use Rattle.byte_streams.specs.Streams.{Takes}
-use Rattle.damage_tool.specs.Draws.{draw_junk}
+use Rattle.command_parts.specs.schedules.damage_tool.Draws.{draw_junk}
 use Rattle.subcommands.specs.Damaged.{junk_text, seeded}
 
 -- Some of the lines were taken, and what is still to come is drawn from the generator.

@@ -5,5 +5,6 @@ pub mod Spaced
 pub mod Runs
 mod RowsTexts
 mod RowsFiles
+mod RowsFaults
 pub mod Listed
 mod RowsPlots

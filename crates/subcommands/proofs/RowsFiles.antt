@@ -15,7 +15,7 @@ use Rattle.topology.proofs.Rows.{two-accepted}
 use Rattle.network_kinds.specs.Made.{values_for}
 use Rattle.network_kinds.specs.declared.kind.Kind.TheVariants.{Line}
 use Rattle.recovery_times.specs.Times.{usual}
-use Rattle.damage_tool.specs.Draws.{draw, draw_junk}
+use Rattle.command_parts.specs.schedules.damage_tool.Draws.{draw, draw_junk}
 use Rattle.command_parts.specs.world.declared.simulation.Summary.{Summary as Simulated}
 use Rattle.slow_runs.specs.experiments.declared.measured_run.Recovery.{Recovery}
 use Rattle.slow_runs.specs.experiments.declared.measured_run.Scheduler.TheVariants as scheduler
@@ -198,7 +198,7 @@ plan_not-more served text m one = let lengths : 1 ≡ 0 = rw one at m.are_runs.a
 
 -- ---- `network`
 
-abbrev wanted : Wanted
+abbrev pub wanted : Wanted
 wanted = record { kind = Line; nodes = 2; root = 0; capacity = 1; lease = 0 }
 
 accepted : IsAccepted (values_for Line 2 0 1 0) two_nodes

@@ -7,8 +7,8 @@ use Rattle.topology.specs.Network.{Network, neighbours_of}
 use Rattle.topology.specs.Ranges.{ranges_of}
 use Rattle.node_core.specs.State.{default_node}
 use Rattle.node_state_file.specs.Spelling.{written}
-use Rattle.damage_tool.specs.Draws.{draw_junk}
-use Rattle.damage_tool.specs.Scrambled.{node_scrambled}
+use Rattle.command_parts.specs.schedules.damage_tool.Draws.{draw_junk}
+use Rattle.command_parts.specs.schedules.damage_tool.Scrambled.{node_scrambled}
 
 -- the generator of a seed
 abbrev pub seeded : ℕ → Lcg

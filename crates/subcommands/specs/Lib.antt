@@ -1,6 +1,7 @@
 pub mod Bound
 pub mod Damaged
 pub mod Cut
+pub mod Faults
 pub mod PlanFault
 pub mod Measured
 pub mod Named

@@ -5,6 +5,7 @@ ghost use Rattle.std.specs.Prelude.{codes, decimal};
 ghost use Rattle.std.specs.Process.{exit_status};
 ghost use Rattle.subcommands.specs.Bound.{number_line, nodes_line, parent_word, bound_text};
 ghost use Rattle.subcommands.specs.Bound.{shown_text, timed_text};
+ghost use Rattle.subcommands.specs.Faults.{IsUnprinted};
 ghost use Rattle.command_parts.specs.declared.fault.Fault.TheVariants.{Output};
 ghost use Rattle.topology.specs.Tree.{distance_of, parent_of};
 
@@ -27,7 +28,8 @@ pub fn run<R: Files + Print + AllocGlobal>(
     sharp: bool,
     premises: Option<Premises>,
 ) -> Result<ExitCode, Fault>
-    ensures { IfOk result (λ status. exit_status status ≡ 0) }
+    ensures ok { IfOk result (λ status. exit_status status ≡ 0) }
+    ensures err { IfErr result IsUnprinted }
 {
     let net = read_network(rt, path)?;
     let text = timed_text(rt.alloc(), &net, sharp, premises).map_err(|_| Fault::Memory)?;

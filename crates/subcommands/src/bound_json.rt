@@ -1,5 +1,5 @@
 //! `bound FILE --json`: a network's numbers as a JSON object.
-ghost use Rattle.std.specs.Prelude.{◌≡◌, ◌++◌, IfOk, OnOk, [], map, string_bytes};
+ghost use Rattle.std.specs.Prelude.{◌≡◌, ◌++◌, IfOk, IfErr, OnOk, [], map, string_bytes};
 ghost use Rattle.std.specs.List.{range_with_len};
 ghost use Rattle.std.specs.Process.{exit_status};
 ghost use Rattle.serde_json.specs.Data.{array};
@@ -7,6 +7,7 @@ ghost use Rattle.serde_json.specs.View.{view, items_view, members_view, items_of
 ghost use Rattle.serde_json.specs.Written.{IsInOrder};
 ghost use Rattle.subcommands.specs.BoundData.{bound_data, bound_members, shape_members, sharp_members};
 ghost use Rattle.subcommands.specs.BoundData.{time_members, or_null, distances_data, parents_data};
+ghost use Rattle.subcommands.specs.Faults.{IsUnprinted};
 
 use command_parts::{Fault, read_network};
 use recovery_times::{Premises, millis_up};
@@ -28,7 +29,8 @@ pub fn run<R: Files + Print + AllocGlobal>(
     sharp: bool,
     premises: Option<Premises>,
 ) -> Result<ExitCode, Fault>
-    ensures { IfOk result (λ status. exit_status status ≡ 0) }
+    ensures ok { IfOk result (λ status. exit_status status ≡ 0) }
+    ensures err { IfErr result IsUnprinted }
 {
     let net = read_network(rt, path)?;
     let text = bound_json(rt.alloc(), &net, sharp, premises).map_err(|_| Fault::Memory)?;

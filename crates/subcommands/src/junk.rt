@@ -1,14 +1,14 @@
 //! `junk SEED LINES`: lines without meaning.
 ghost use Rattle.std.specs.Prelude.{◌≡◌, ◌+◌, ◌≤◌, ◌⊎◌, IfOk, IfErr, OnOk, [], ◌++◌, codes, length, take};
 ghost use Rattle.byte_streams.specs.Streams.{Rose, Takes};
-ghost use Rattle.damage_tool.specs.Draws.{draw_junk};
+ghost use Rattle.command_parts.specs.schedules.damage_tool.Draws.{draw_junk};
 ghost use Rattle.subcommands.specs.Damaged.{junk_text, seeded};
 ghost use Rattle.std.specs.Process.{exit_status};
 ghost use Rattle.command_parts.specs.declared.fault.Fault.TheVariants.{Memory, Output};
 
 use byte_streams::{Failed, Sink, write_all};
+use command_parts::schedules::damage_tool::junk_line;
 use command_parts::{Fault, Flush, WriteSink};
-use damage_tool::junk_line;
 use rand_core::SeedableRng;
 use rand_pcg::Lcg64Xsh32;
 use std::io::{BufWriter, writer};

@@ -5,6 +5,7 @@ ghost use Rattle.std.specs.Process.{exit_status};
 ghost use Rattle.subcommands.specs.Measured.{has_served, run_line, served_sweeps, summary_line};
 ghost use Rattle.subcommands.specs.Measured.{shown_line, run_lines, totals, IsMeasured};
 ghost use Rattle.subcommands.specs.Measured.{IsPlanMeasured, HaveServed};
+ghost use Rattle.subcommands.specs.Faults.{IsUnprinted};
 ghost use Rattle.command_parts.specs.declared.fault.Fault.TheVariants.{Output};
 
 use crate::bound::push_number;
@@ -44,7 +45,8 @@ pub fn run<R: Files + Print + Eprint + Clock + AllocGlobal + Threads + Sync>(
     network: &str,
     plan: Plan,
 ) -> Result<ExitCode, Fault>
-    ensures { IfOk result (λ status. (exit_status status ≡ 0) ⊎ (exit_status status ≡ 1)) }
+    ensures ok { IfOk result (λ status. (exit_status status ≡ 0) ⊎ (exit_status status ≡ 1)) }
+    ensures err { IfErr result IsUnprinted }
 {
     let net = read_network(rt, network)?;
     match plan_text(rt, rt.alloc(), &net, plan) {

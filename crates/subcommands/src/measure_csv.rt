@@ -1,9 +1,10 @@
 //! `measure FILE --csv`: when each layer stood for good in scrambled worlds, as rows.
-ghost use Rattle.std.specs.Prelude.{◌≡◌, ◌↔◌, ◌++◌, ◌⊎◌, OnOk, IfOk, IsTrue};
+ghost use Rattle.std.specs.Prelude.{◌≡◌, ◌↔◌, ◌++◌, ◌⊎◌, OnOk, IfOk, IfErr, IsTrue};
 ghost use Rattle.std.specs.Prelude.{string_bytes};
 ghost use Rattle.std.specs.Process.{exit_status};
 ghost use Rattle.subcommands.specs.MeasuredCsv.{csv_row, csv_rows, csv_text, has_settled};
 ghost use Rattle.subcommands.specs.MeasuredCsv.{HaveSettled, IsPlanCsv};
+ghost use Rattle.subcommands.specs.Faults.{IsUnprinted};
 
 use crate::measure::{Plan, ending};
 use crate::side_by_side::measured;
@@ -27,7 +28,8 @@ pub fn run<R: Files + Print + Eprint + Clock + AllocGlobal + Threads + Sync>(
     network: &str,
     plan: Plan,
 ) -> Result<ExitCode, Fault>
-    ensures { IfOk result (λ status. (exit_status status ≡ 0) ⊎ (exit_status status ≡ 1)) }
+    ensures ok { IfOk result (λ status. (exit_status status ≡ 0) ⊎ (exit_status status ≡ 1)) }
+    ensures err { IfErr result IsUnprinted }
 {
     let net = read_network(rt, network)?;
     match plan_csv(rt, rt.alloc(), &net, plan) {

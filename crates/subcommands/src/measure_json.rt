@@ -1,5 +1,5 @@
 //! `measure FILE --json`: after how many sweeps scrambled worlds served, as a JSON object.
-ghost use Rattle.std.specs.Prelude.{◌≡◌, ◌⊎◌, IfOk, OnOk, [], map, string_bytes};
+ghost use Rattle.std.specs.Prelude.{◌≡◌, ◌⊎◌, IfOk, IfErr, OnOk, [], map, string_bytes};
 ghost use Rattle.std.specs.Process.{exit_status};
 ghost use Rattle.serde_json.specs.Data.{array, object};
 ghost use Rattle.serde_json.specs.View.{view, items_of, members_view};
@@ -7,6 +7,7 @@ ghost use Rattle.subcommands.specs.MeasuredData.{run_data, runs_data, summary_me
 ghost use Rattle.subcommands.specs.BoundData.{or_null};
 ghost use Rattle.subcommands.specs.MeasuredData.{sweeps_data, measured_data, IsMeasuredJson};
 ghost use Rattle.subcommands.specs.MeasuredData.{IsPlanMeasuredJson};
+ghost use Rattle.subcommands.specs.Faults.{IsUnprinted};
 
 use crate::measure::{Plan, ending, has_served, have_served, served_sweeps};
 use crate::side_by_side::measured;
@@ -30,7 +31,8 @@ pub fn run<R: Files + Print + Eprint + Clock + AllocGlobal + Threads + Sync>(
     network: &str,
     plan: Plan,
 ) -> Result<ExitCode, Fault>
-    ensures { IfOk result (λ status. (exit_status status ≡ 0) ⊎ (exit_status status ≡ 1)) }
+    ensures ok { IfOk result (λ status. (exit_status status ≡ 0) ⊎ (exit_status status ≡ 1)) }
+    ensures err { IfErr result IsUnprinted }
 {
     let net = read_network(rt, network)?;
     match plan_json(rt, rt.alloc(), &net, plan) {

@@ -1,8 +1,9 @@
 //! `measure FILE --csv --plot PATH`: the same rows, and a plot of them.
-ghost use Rattle.std.specs.Prelude.{◌≡◌, ◌⊎◌, IfOk};
+ghost use Rattle.std.specs.Prelude.{◌≡◌, ◌⊎◌, IfOk, IfErr};
 ghost use Rattle.std.specs.Process.{exit_status};
 ghost use Rattle.subcommands.specs.MeasuredPlot.{IsFigureOf, IsReportOf, settled_sweeps};
 ghost use Rattle.subcommands.specs.MeasuredPlot.{sweeps_of};
+ghost use Rattle.subcommands.specs.Faults.{IsUnplotted};
 
 use crate::measure::{Plan, ending};
 use crate::measure_csv::{csv_text, has_settled, have_settled};
@@ -43,7 +44,8 @@ pub fn run<'a, R: Files + Print + Eprint + Clock + AllocGlobal + Threads + Sync>
     plan: Plan,
     path: &'a str,
 ) -> Result<ExitCode, PathFault<'a>>
-    ensures { IfOk result (λ status. (exit_status status ≡ 0) ⊎ (exit_status status ≡ 1)) }
+    ensures ok { IfOk result (λ status. (exit_status status ≡ 0) ⊎ (exit_status status ≡ 1)) }
+    ensures err { IfErr result (IsUnplotted path.entry) }
 {
     let net = read_network(rt, network)?;
     let report = report_of(rt, rt.alloc(), &net, plan).map_err(|_| Fault::Memory)?;

@@ -1,7 +1,8 @@
 //! `network KIND N`: the network file of a usual graph.
-ghost use Rattle.std.specs.Prelude.{◌≡◌, IfOk, Ok, string_bytes};
+ghost use Rattle.std.specs.Prelude.{◌≡◌, ◌⊎◌, IfOk, IfErr, Ok, string_bytes};
 ghost use Rattle.std.specs.Process.{exit_status};
-ghost use Rattle.subcommands.specs.Named.{IsTextOf};
+ghost use Rattle.command_parts.specs.declared.fault.Fault.TheVariants.{Memory, Output};
+ghost use Rattle.subcommands.specs.Named.{IsTextOf, IsUnnamed};
 ghost use Rattle.topology.specs.Reading.{read_text};
 ghost use Rattle.topology.specs.Refusal.{values_of};
 
@@ -32,7 +33,8 @@ pub struct Wanted {
 /// # Errors
 /// If there is no such network, memory runs out, or standard output fails.
 pub fn run<R: Print + AllocGlobal>(rt: &R, wanted: Wanted) -> Result<ExitCode, Fault>
-    ensures { IfOk result (λ status. exit_status status ≡ 0) }
+    ensures ok { IfOk result (λ status. exit_status status ≡ 0) }
+    ensures err { IfErr result (λ fault. IsUnnamed wanted fault ⊎ (fault ≡ Output)) }
 {
     let text = named_text(rt.alloc(), wanted)?;
     done(rt.print(text.as_str()))
@@ -41,11 +43,12 @@ pub fn run<R: Print + AllocGlobal>(rt: &R, wanted: Wanted) -> Result<ExitCode, F
 /// The network file of this network.
 ///
 /// # Errors
-/// If there is no such network, or memory runs out.
-#[tactic(auto, using(crate::proofs::Naming::named_if))]
+/// If there is no such network, with the first fault of its numbers and edges; or if memory runs out.
+#[tactic(auto, using(crate::proofs::Naming::named_if, crate::proofs::Naming::unnamed_if))]
 pub fn named_text(alloc: Global, wanted: Wanted) -> Result<String, Fault>
     // It reads as the network with these numbers and exactly the edges of the kind.
-    ensures { IfOk result (λ text. IsTextOf wanted (string_bytes text)) }
+    ensures text { IfOk result (λ text. IsTextOf wanted (string_bytes text)) }
+    ensures err { IfErr result (IsUnnamed wanted) }
 {
     let made = network_of(
         alloc,
@@ -66,7 +69,8 @@ pub fn named_text(alloc: Global, wanted: Wanted) -> Result<String, Fault>
 /// # Errors
 /// If memory runs out.
 fn text_of(alloc: Global, net: &Net) -> Result<String, Fault>
-    ensures { IfOk result (λ text. read_text (string_bytes text) ≡ Ok (values_of net.now)) }
+    ensures text { IfOk result (λ text. read_text (string_bytes text) ≡ Ok (values_of net.now)) }
+    ensures err { IfErr result (λ fault. fault ≡ Memory) }
 {
     network_text(alloc, net).map_err(|_| Fault::Memory)
 }

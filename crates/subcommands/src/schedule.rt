@@ -8,6 +8,7 @@ ghost use Rattle.subcommands.specs.PlanFault.{fault_of};
 ghost use Rattle.command_parts.specs.EventText.{GrowsByText};
 ghost use Rattle.subcommands.specs.Damaged.{seeded};
 ghost use Rattle.subcommands.specs.Turns.{order_of};
+ghost use Rattle.subcommands.specs.Faults.{IsUnprinted};
 ghost use Rattle.command_parts.specs.declared.fault.Fault.TheVariants.{Memory, Output};
 
 use command_parts::{EventText, Fault, read_network};
@@ -91,7 +92,8 @@ pub fn run<R: Files + Print + AllocGlobal>(
     loan: Option<u16>,
     turns: Turns,
 ) -> Result<ExitCode, Fault>
-    ensures { IfOk result (λ status. exit_status status ≡ 0) }
+    ensures ok { IfOk result (λ status. exit_status status ≡ 0) }
+    ensures err { IfErr result IsUnprinted }
 {
     let net = read_network(rt, network)?;
     let Ok(output) = BufWriter::new(rt.alloc(), writer(rt)) else {

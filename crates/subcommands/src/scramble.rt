@@ -3,10 +3,11 @@ ghost use Rattle.std.specs.Prelude.{◌≡◌, ◌<◌, ◌≤◌, IfOk, IfErr, 
 ghost use Rattle.std.specs.Process.{exit_status};
 ghost use Rattle.node_state_file.specs.Stores.{Saves};
 ghost use Rattle.subcommands.specs.Damaged.{scrambled_file};
+ghost use Rattle.subcommands.specs.Faults.{IsUnsaved};
 ghost use Rattle.command_parts.specs.declared.fault.Fault.TheVariants.{NoNode, Memory};
 
+use command_parts::schedules::damage_tool::scramble_node;
 use command_parts::{Fault, PathFault, read_network};
-use damage_tool::scramble_node;
 use node_core::NodeState;
 use node_state_file::{FileStore, MOST_BYTES, Store, StoreFault, encode};
 use rand_core::SeedableRng;
@@ -29,7 +30,8 @@ pub fn run<'a, R: Files + AllocGlobal>(
     path: &'a str,
     seed: u32,
 ) -> Result<ExitCode, PathFault<'a>>
-    ensures { IfOk result (λ status. exit_status status ≡ 0) }
+    ensures ok { IfOk result (λ status. exit_status status ≡ 0) }
+    ensures err { IfErr result (IsUnsaved path.entry) }
 {
     let net = read_network(rt, network)?;
     let mut store = FileStore::new(rt, path);

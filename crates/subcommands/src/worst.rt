@@ -1,9 +1,10 @@
 //! `worst FILE`: how late a network can serve, as far as a search finds.
-ghost use Rattle.std.specs.Prelude.{◌≡◌, ◌⊎◌, ◌++◌, ◌+◌, ◌-◌, ◌^◌, min, [], Err, IfOk, OnOk, string_bytes};
+ghost use Rattle.std.specs.Prelude.{◌≡◌, ◌⊎◌, ◌++◌, ◌+◌, ◌-◌, ◌^◌, min, [], Err, IfOk, IfErr, OnOk, string_bytes};
 ghost use Rattle.std.specs.Io.Buffered.{writer_buffer, writer_contents};
 ghost use Rattle.std.specs.Process.{exit_status};
 ghost use Rattle.byte_streams.specs.Streams.{CountsFailures};
 ghost use Rattle.command_parts.specs.EventText.{GrowsByText};
+ghost use Rattle.subcommands.specs.Faults.{IsUnprinted, IsUnwritten};
 ghost use Rattle.subcommands.specs.Bound.{number_line};
 ghost use Rattle.subcommands.specs.declared.worst.Extent.TheVariants.{Minutes};
 ghost use Rattle.subcommands.specs.Worst.{worst_text, AreAsMany, IsJudged};
@@ -76,7 +77,8 @@ pub fn run<R: Files + Print + Eprint + Clock + AllocGlobal + Threads + Sync>(
     plan: Plan,
     events: Option<&str>,
 ) -> Result<ExitCode, Fault>
-    ensures { IfOk result (λ status. exit_status status ≡ 0) }
+    ensures ok { IfOk result (λ status. exit_status status ≡ 0) }
+    ensures err { IfErr result (λ fault. IsUnprinted fault ⊎ IsUnwritten fault) }
 {
     let net = read_network(rt, network)?;
     let found = latest(rt, rt.alloc(), &net, plan).map_err(|_| Fault::Memory)?;
@@ -295,7 +297,12 @@ fn push_count(text: &mut String, word: &str, number: u64) -> Result<(), AllocErr
 }
 
 /// Writes the events of a run to the file of a path.
-fn save_run<R: Files + AllocGlobal>(rt: &R, path: &str, run: &SlowRun) -> Result<(), Fault> {
+///
+/// # Errors
+/// If memory runs out, or the file cannot be written.
+fn save_run<R: Files + AllocGlobal>(rt: &R, path: &str, run: &SlowRun) -> Result<(), Fault>
+    ensures { IfErr result IsUnwritten }
+{
     let file = fs::create(rt, path).map_err(|_| Fault::EventsUnwritable)?;
     let output = BufWriter::new(rt.alloc(), file).map_err(|_| Fault::Memory)?;
     let mut text = EventText::new(output);
@@ -312,6 +319,8 @@ pub fn write_run<W: Write + Drop>(run: &SlowRun, text: &mut EventText<W>) -> Res
         (run.now.harms.items ++ run.now.events.items)
         (writer_contents W.contents text.new.writer)) }
     ensures written { OnOk result (writer_buffer text.new.writer ≡ []) }
+    // It fails only if the writer did.
+    ensures cause { CountsFailures result text.old.failures text.new.failures }
 {
     give_all(run.harms.as_slice(), text)?;
     give_all(run.events.as_slice(), text)?;

@@ -6,8 +6,8 @@ use Rattle.std.proofs.lemmas.List.{map-append, map-id}
 use Rattle.std.proofs.lemmas.List.FromFn.{filter_of_map_range_with_len_more}
 use Rattle.std.proofs.lemmas.List.Elements.{All-append, All-nil}
 use Rattle.topology.specs.Network.{are_joined, neighbours_in, neighbours_of}
-use Rattle.run_model.specs.World.{World}
-use Rattle.configuration.specs.LinksView.{LinksView}
+use Rattle.judge.specs.run_model.World.{World}
+use Rattle.judge.specs.configuration.LinksView.{LinksView}
 use Rattle.node_runner.specs.declared.runner.Port.{Port}
 use Rattle.node_runner.specs.Runner.{IsPortNoted}
 use Rattle.thread_net.specs.Cables.{IsOver, IsCable, IsCableOn, IsCabledOnce, AreFurnished, ends_at, ids_in, row, port_to}

@@ -9,16 +9,16 @@ use Rattle.std.specs.List.{AllByRecursion, AllZip}
 use Rattle.topology.specs.Network.{Network, are_joined, neighbours_of}
 use Rattle.topology.specs.Ranges.{ranges_of}
 use Rattle.link_model.specs.declared.item.Item.{Item}
-use Rattle.run_model.specs.World.{World, IsWorldInRange, item_fits}
-use Rattle.run_model.specs.Run.{run}
-use Rattle.run_model.specs.Laws.{RangesStay}
-use Rattle.run_model.specs.declared.event.Event.{Event}
-use Rattle.configuration.specs.ConfigurationView.{no_node, states_of, ConfigurationView, node_at, world_of}
-use Rattle.weaving.specs.Account.{Note, entry_of, sent_to, taken_from, AreOverLinks, Leads}
-use Rattle.weaving.specs.Journals.{journal_of, entry_count}
-use Rattle.weaving.specs.Laws.{GoesThrough, WovenIsRun}
-use Rattle.weaving.specs.Matched.{AreMatched, IsLinkMatched, stamps}
-use Rattle.weaving.specs.Woven.{AreRising, IsWoven}
+use Rattle.judge.specs.run_model.World.{World, IsWorldInRange, item_fits}
+use Rattle.judge.specs.run_model.Run.{run}
+use Rattle.judge.specs.run_model.Laws.{RangesStay}
+use Rattle.judge.specs.run_model.declared.event.Event.{Event}
+use Rattle.judge.specs.configuration.ConfigurationView.{no_node, states_of, ConfigurationView, node_at, world_of}
+use Rattle.node_runner.specs.weaving.Account.{Note, entry_of, sent_to, taken_from, AreOverLinks, Leads}
+use Rattle.node_runner.specs.weaving.Journals.{journal_of, entry_count}
+use Rattle.node_runner.specs.weaving.Laws.{GoesThrough, WovenIsRun}
+use Rattle.node_runner.specs.weaving.Matched.{AreMatched, IsLinkMatched, stamps}
+use Rattle.node_runner.specs.weaving.Woven.{AreRising, IsWoven}
 use Rattle.node_runner.specs.declared.runner.Port.{Port}
 use Rattle.node_runner.specs.declared.runner.Runner.{Runner}
 use Rattle.node_runner.specs.Ports.{IsSender, IsReceiver}
@@ -36,12 +36,12 @@ use Rattle.std.proofs.lemmas.Slice.Zip.{AllZip-left, AllZip-long}
 use Rattle.std.specs.declared.alloc.Global.{Global}
 use Rattle.std.specs.declared.vec.Vec.{Vec}
 use Rattle.thread_net.specs.declared.seats.Seats.{Seats}
-use Rattle.node_core.specs.Site.{site_of}
-use Rattle.node_core.specs.View.{NodeView, site_in}
-use Rattle.configuration.specs.LinksView.{LinksView, spare_pairs, under_way}
+use Rattle.judge.specs.node_core.Site.{site_of}
+use Rattle.judge.specs.node_core.View.{NodeView, site_in}
+use Rattle.judge.specs.configuration.LinksView.{LinksView, spare_pairs, under_way}
 use Rattle.judge.specs.Parts.{AreOneWorlds}
 use Rattle.judge.specs.Stretch.{StretchView, HasRoomFor}
-use Rattle.weaving.specs.declared.journal.Entry.{Entry}
+use Rattle.node_runner.specs.weaving.declared.journal.Entry.{Entry}
 use Rattle.thread_net.specs.declared.threads.Outcome.{Outcome}
 use Rattle.thread_net.specs.Keeps.{Keeps}
 use Rattle.thread_net.specs.Outcomes.{IsOutcomeOf, have_run, has_run, runners_in, turns_of}

@@ -7,17 +7,17 @@ use Rattle.std.proofs.Math.Seq.{drop-append_seam}
 use Rattle.std.specs.List.{AllZip, AllByRecursion}
 use Rattle.rtrb.specs.Ring.{received}
 use Rattle.link_model.specs.declared.item.Item.{Item}
-use Rattle.weaving.specs.declared.journal.Stamped.{Stamped}
-use Rattle.weaving.specs.Matched.{AreAbove, stamps, items, IsLinkMatched, AreOf}
+use Rattle.node_runner.specs.weaving.declared.journal.Stamped.{Stamped}
+use Rattle.node_runner.specs.weaving.Matched.{AreAbove, stamps, items, IsLinkMatched, AreOf}
 use Rattle.node_runner.specs.declared.ports.Outgoing.{Outgoing}
 use Rattle.node_runner.specs.declared.ports.Incoming.{Incoming}
 use Rattle.node_runner.specs.Stamps.{IsTakeOf, last_place}
 use Rattle.node_runner.specs.Ports.{opening, stamped, IsSender, IsReceiver}
 use Rattle.thread_net.specs.Cables.{IsFlushed, left_on}
-use Rattle.run_model.specs.declared.event.Event.{Event}
-use Rattle.weaving.specs.declared.journal.Entry.{Entry}
-use Rattle.weaving.specs.Account.{Note, entry_of}
-use Rattle.weaving.specs.Woven.{Placed, entries_of, IsWoven}
+use Rattle.judge.specs.run_model.declared.event.Event.{Event}
+use Rattle.node_runner.specs.weaving.declared.journal.Entry.{Entry}
+use Rattle.node_runner.specs.weaving.Account.{Note, entry_of}
+use Rattle.node_runner.specs.weaving.Woven.{Placed, entries_of, IsWoven}
 use Rattle.node_runner.specs.FirstTurn.{count_of, deeds_of, is_deed_of, is_tick_of}
 use Rattle.node_runner.specs.Due.{events_of}
 

@@ -7,12 +7,12 @@ use Rattle.rtrb.specs.Ring.{sent, received}
 use Rattle.link_model.specs.declared.item.Item.{Item}
 use Rattle.link_model.specs.declared.item.Item.TheVariants.{Noise}
 use Rattle.link_model.specs.Link.{link}
-use Rattle.configuration.specs.LinksView.{LinksView, under_way}
-use Rattle.run_model.proofs.RowsTwo.{two_nodes, each-link, each-node}
-use Rattle.run_model.specs.World.{World}
-use Rattle.weaving.specs.declared.journal.Stamped.{Stamped}
-use Rattle.weaving.specs.Matched.{items, AreMatched, IsLinkMatched}
-use Rattle.weaving.proofs.RowsRun.{after_tick, start}
+use Rattle.judge.specs.configuration.LinksView.{LinksView, under_way}
+use Rattle.node_runner.proofs.RowsTwo.{two_nodes, each-link, each-node}
+use Rattle.judge.specs.run_model.World.{World}
+use Rattle.node_runner.specs.weaving.declared.journal.Stamped.{Stamped}
+use Rattle.node_runner.specs.weaving.Matched.{items, AreMatched, IsLinkMatched}
+use Rattle.node_runner.proofs.RowsRun.{after_tick, start}
 use Rattle.node_runner.specs.declared.ports.Outgoing.{Outgoing}
 use Rattle.node_runner.specs.declared.ports.Incoming.{Incoming}
 use Rattle.node_runner.specs.declared.runner.Port.{Port}
@@ -25,17 +25,17 @@ use Rattle.thread_net.specs.Outcomes.{have_run, turns_of}
 use Rattle.std.specs.declared.alloc.Global.{Global}
 use Rattle.std.proofs.lemmas.Bool.Decides.{nat_tests}
 use Rattle.topology.specs.Network.{neighbours_of}
-use Rattle.run_model.specs.Step.{has_room}
-use Rattle.run_model.specs.Run.{run}
-use Rattle.run_model.specs.declared.event.Event.{Event}
-use Rattle.run_model.specs.declared.event.Event.TheVariants.{Send, Tick}
-use Rattle.weaving.specs.declared.journal.Entry.{Entry}
-use Rattle.weaving.specs.Account.{Note, entry_of, Ticked, Sent, sent_to, taken_from, Leads}
-use Rattle.weaving.specs.Woven.{AreRising, IsWoven, Placed, entries_of}
+use Rattle.judge.specs.run_model.Step.{has_room}
+use Rattle.judge.specs.run_model.Run.{run}
+use Rattle.judge.specs.run_model.declared.event.Event.{Event}
+use Rattle.judge.specs.run_model.declared.event.Event.TheVariants.{Send, Tick}
+use Rattle.node_runner.specs.weaving.declared.journal.Entry.{Entry}
+use Rattle.node_runner.specs.weaving.Account.{Note, entry_of, Ticked, Sent, sent_to, taken_from, Leads}
+use Rattle.node_runner.specs.weaving.Woven.{AreRising, IsWoven, Placed, entries_of}
 use Rattle.node_runner.specs.Rounds.{AreRounds, IsRound}
 use Rattle.node_runner.specs.FirstTurn.{IsFirstTurn, count_of, deeds_of, is_tick_of, is_send_on, is_take_on, before_tick}
 use Rattle.thread_net.specs.ThreadRun.{IsThreadRun}
-use Rattle.configuration.specs.ConfigurationView.{ConfigurationView, no_node, world_of}
+use Rattle.judge.specs.configuration.ConfigurationView.{ConfigurationView, no_node, world_of}
 use Rattle.thread_net.specs.Fault.{IsFault, IsPartRun}
 use Rattle.thread_net.specs.declared.run.Woven.{Woven}
 use Rattle.thread_net.specs.declared.run.RunFault.TheVariants as fault

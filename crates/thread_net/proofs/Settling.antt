@@ -13,7 +13,7 @@ use Rattle.topology.specs.Network.{Network, Edge, IsAcceptedNetwork, are_joined,
 use Rattle.topology.specs.Laws.{JoinedBack}
 use Rattle.topology.specs.Ranges.{ranges_of}
 use Rattle.link_model.specs.declared.item.Item.{Item}
-use Rattle.run_model.specs.World.{at_pair, item_fits}
+use Rattle.judge.specs.run_model.World.{at_pair, item_fits}
 use Rattle.std.proofs.lemmas.List.Folds.{list_any_at, list_any_more}
 
 -- ---- the first port that leads to a node

@@ -2,8 +2,8 @@
 use Rattle.std.proofs.Common.{◌≡◌, ℕ, zero, suc, ◌+◌, ◌<◌, ◌≤◌, List, [], ◌∷◌, length, ap, sym, ◌∙◌, add-one, arith, slice_index_or, slice_set, All, take, not, map, refl, subst}
 use Rattle.std.proofs.lemmas.List.{get_or-map, map-set, take_more_set, length-map}
 use Rattle.std.proofs.lemmas.List.Elements.{All-push, All-set, All-from_get_or}
-use Rattle.node_core.specs.View.{NodeView, site_in, state_of}
-use Rattle.weaving.specs.declared.journal.Journal.{Journal}
+use Rattle.judge.specs.node_core.View.{NodeView, site_in, state_of}
+use Rattle.node_runner.specs.weaving.declared.journal.Journal.{Journal}
 use Rattle.node_runner.specs.declared.runner.Runner.{Runner}
 use Rattle.thread_net.specs.Cables.{seat_of, seats_of, AreFurnished, row, rows_of}
 use Rattle.thread_net.specs.Seats.{IsNew, HasRoom, AreShort, degree_of, entry_room, total_room, nodes_of, AreAtStart, IsAtStart}
@@ -14,10 +14,10 @@ use Rattle.std.proofs.lemmas.Simd.{map-map}
 use Rattle.std.proofs.lemmas.List.Filters.{length-filter_both}
 use Rattle.std.proofs.lemmas.List.FromFn.{length-range_with_len}
 use Rattle.topology.specs.Network.{Network, are_joined, neighbours_of}
-use Rattle.node_core.specs.Site.{site_of}
-use Rattle.run_model.specs.World.{World}
-use Rattle.configuration.specs.ConfigurationView.{AreNodesOf, no_node, node_at, world_of}
-use Rattle.configuration.specs.LinksView.{LinksView}
+use Rattle.judge.specs.node_core.Site.{site_of}
+use Rattle.judge.specs.run_model.World.{World}
+use Rattle.judge.specs.configuration.ConfigurationView.{AreNodesOf, no_node, node_at, world_of}
+use Rattle.judge.specs.configuration.LinksView.{LinksView}
 use Rattle.node_runner.specs.Runner.{port_ids}
 
 -- ---- seats of which one changes

@@ -5,12 +5,12 @@ use Rattle.rtrb.specs.Ring.{sent, received, IsPair}
 use Rattle.topology.specs.Network.{Network, are_joined, neighbours_of}
 use Rattle.topology.specs.Ranges.{ranges_of}
 use Rattle.link_model.specs.declared.item.Item.{Item}
-use Rattle.node_core.specs.View.{NodeView}
-use Rattle.run_model.specs.World.{World, item_fits}
-use Rattle.configuration.specs.LinksView.{LinksView, under_way}
-use Rattle.weaving.specs.declared.journal.Journal.{Journal}
-use Rattle.weaving.specs.declared.journal.Stamped.{Stamped}
-use Rattle.weaving.specs.Matched.{items}
+use Rattle.judge.specs.node_core.View.{NodeView}
+use Rattle.judge.specs.run_model.World.{World, item_fits}
+use Rattle.judge.specs.configuration.LinksView.{LinksView, under_way}
+use Rattle.node_runner.specs.weaving.declared.journal.Journal.{Journal}
+use Rattle.node_runner.specs.weaving.declared.journal.Stamped.{Stamped}
+use Rattle.node_runner.specs.weaving.Matched.{items}
 use Rattle.node_runner.specs.declared.ports.Outgoing.{Outgoing}
 use Rattle.node_runner.specs.declared.ports.Incoming.{Incoming}
 use Rattle.node_runner.specs.declared.runner.Port.{Port}

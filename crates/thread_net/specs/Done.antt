@@ -3,13 +3,13 @@ use Rattle.std.specs.Prelude.{◌≡◌, ℕ, ◌<◌, ◌≤◌, List, [], leng
 use Rattle.std.specs.declared.vec.Vec.{Vec}
 use Rattle.topology.specs.Network.{neighbours_of}
 use Rattle.topology.specs.Ranges.{ranges_of}
-use Rattle.node_core.specs.State.{default_node}
-use Rattle.run_model.specs.World.{World, IsWorldInRange}
-use Rattle.run_model.specs.declared.event.Event.{Event}
-use Rattle.configuration.specs.LinksView.{LinksView, spare_pairs}
+use Rattle.judge.specs.node_core.State.{default_node}
+use Rattle.judge.specs.run_model.World.{World, IsWorldInRange}
+use Rattle.judge.specs.run_model.declared.event.Event.{Event}
+use Rattle.judge.specs.configuration.LinksView.{LinksView, spare_pairs}
 use Rattle.judge.specs.Stretch.{StretchView, HasRoomFor}
-use Rattle.weaving.specs.Account.{Note}
-use Rattle.weaving.specs.Journals.{entry_count}
+use Rattle.node_runner.specs.weaving.Account.{Note}
+use Rattle.node_runner.specs.weaving.Journals.{entry_count}
 use Rattle.node_runner.specs.declared.runner.Runner.{Runner}
 use Rattle.thread_net.specs.declared.seats.Seats.{Seats}
 use Rattle.node_runner.specs.Runner.{IsNoted}

@@ -1,8 +1,8 @@
 -- What stands where nodes did not run all their turns.
 use Rattle.std.specs.Prelude.{◌≡◌, ◌⊎◌, ℕ, ◌<◌, List}
-use Rattle.run_model.specs.World.{World}
-use Rattle.run_model.specs.declared.event.Event.{Event}
-use Rattle.configuration.specs.ConfigurationView.{ConfigurationView, world_of}
+use Rattle.judge.specs.run_model.World.{World}
+use Rattle.judge.specs.run_model.declared.event.Event.{Event}
+use Rattle.judge.specs.configuration.ConfigurationView.{ConfigurationView, world_of}
 use Rattle.thread_net.specs.declared.run.RunFault.{RunFault}
 use Rattle.thread_net.specs.declared.run.RunFault.TheVariants.{Memory, Spawn}
 use Rattle.thread_net.specs.ThreadRun.{IsThreadRun}

@@ -1,6 +1,6 @@
 -- What a thread hands back of the runner that it got.
 use Rattle.std.specs.Prelude.{◌≡◌, ℕ, ◌+◌, ◌*◌, ◌<◌, ◌≤◌, Bool, true, false, List, length, vec_capacity}
-use Rattle.weaving.specs.Account.{Note}
+use Rattle.node_runner.specs.weaving.Account.{Note}
 use Rattle.node_runner.specs.declared.runner.Runner.{Runner}
 use Rattle.node_runner.specs.Runner.{IsReady, Does, port_ids, round_room}
 use Rattle.node_runner.specs.Rounds.{AreRounds}

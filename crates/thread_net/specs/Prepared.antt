@@ -1,7 +1,7 @@
 -- What is made before the first turn.
 use Rattle.std.specs.Prelude.{◌≡◌, ℕ, ◌≤◌, [], vec_capacity}
-use Rattle.run_model.specs.World.{World}
-use Rattle.configuration.specs.LinksView.{spare_pairs}
+use Rattle.judge.specs.run_model.World.{World}
+use Rattle.judge.specs.configuration.LinksView.{spare_pairs}
 use Rattle.judge.specs.Stretch.{HasRoomFor}
 use Rattle.thread_net.specs.declared.prepare.Prepared.{Prepared}
 use Rattle.thread_net.specs.Cables.{IsOver}

@@ -1,8 +1,8 @@
 -- Nodes as runners, and back: what each part of a runner is.
 use Rattle.std.specs.Prelude.{◌≡◌, ℕ, ◌+◌, ◌*◌, ◌<◌, ◌≤◌, List, [], ◌∷◌, All, map, length, slice_index_or, vec_capacity}
-use Rattle.node_core.specs.View.{NodeView, site_in}
-use Rattle.run_model.specs.World.{World}
-use Rattle.weaving.specs.declared.journal.Entry.{Entry}
+use Rattle.judge.specs.node_core.View.{NodeView, site_in}
+use Rattle.judge.specs.run_model.World.{World}
+use Rattle.node_runner.specs.weaving.declared.journal.Entry.{Entry}
 use Rattle.node_runner.specs.declared.runner.Runner.{Runner}
 use Rattle.node_runner.specs.Runner.{IsNoted, IsReady, round_room}
 use Rattle.thread_net.specs.Cables.{AreCabled, rows_of, Seat}

@@ -1,14 +1,14 @@
 -- What nodes did on threads is a run.
 use Rattle.std.specs.Prelude.{◌≡◌, ℕ, ◌<◌, List}
 use Rattle.topology.specs.Network.{neighbours_of}
-use Rattle.run_model.specs.World.{World}
-use Rattle.run_model.specs.Run.{run}
-use Rattle.run_model.specs.declared.event.Event.{Event}
-use Rattle.weaving.specs.declared.journal.Entry.{Entry}
-use Rattle.weaving.specs.Account.{Note}
-use Rattle.weaving.specs.Laws.{GoesThrough}
-use Rattle.weaving.specs.Matched.{AreMatched, AreOf}
-use Rattle.weaving.specs.Woven.{AreRising, IsWoven}
+use Rattle.judge.specs.run_model.World.{World}
+use Rattle.judge.specs.run_model.Run.{run}
+use Rattle.judge.specs.run_model.declared.event.Event.{Event}
+use Rattle.node_runner.specs.weaving.declared.journal.Entry.{Entry}
+use Rattle.node_runner.specs.weaving.Account.{Note}
+use Rattle.node_runner.specs.weaving.Laws.{GoesThrough}
+use Rattle.node_runner.specs.weaving.Matched.{AreMatched, AreOf}
+use Rattle.node_runner.specs.weaving.Woven.{AreRising, IsWoven}
 use Rattle.node_runner.specs.Rounds.{AreRounds}
 use Rattle.node_runner.specs.FirstTurn.{IsFirstTurn, count_of, deeds_of, is_tick_of}
 

@@ -2,19 +2,19 @@
 ghost use Rattle.std.specs.Prelude.{◌≡◌, ◌+◌, ◌<◌, ◌≤◌, ℕ, List, [], ◌∷◌, ◌++◌, IsTrue, IfOk, OnOk};
 ghost use Rattle.std.specs.Prelude.{◌==◌, if◌then◌else◌, length};
 ghost use Rattle.topology.specs.Network.{are_joined};
-ghost use Rattle.run_model.specs.World.{World};
-ghost use Rattle.configuration.specs.LinksView.{LinksView, under_way};
+ghost use Rattle.judge.specs.run_model.World.{World};
+ghost use Rattle.judge.specs.configuration.LinksView.{LinksView, under_way};
 ghost use Rattle.rtrb.specs.Ring.{sent, known_free, SameProducer};
 ghost use Rattle.node_runner.specs.Ports.{opening, IsSender, IsReceiver};
 ghost use Rattle.node_runner.specs.Runner.{IsPortNoted};
 ghost use Rattle.thread_net.specs.Cables.{AreEnds, IsCable, IsCabledOnce, AreFurnished};
 ghost use Rattle.thread_net.specs.Cables.{rows_of, row, seats_of, AreWithin, IsOver};
 
-use configuration::Links;
+use judge::configuration::Links;
+use node_runner::weaving::Stamped;
 use node_runner::{Incoming, Outgoing, Port, Runner, StampBound};
 use rtrb::{Producer, RingBuffer};
 use std::alloc::{AllocError, Allocator};
-use weaving::Stamped;
 
 /// What is under way on a link goes into its ring, with stamp 0.
 fn load<A: Allocator + Copy>(

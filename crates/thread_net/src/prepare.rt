@@ -2,9 +2,9 @@
 //! by the start of a thread.
 ghost use Rattle.std.specs.Prelude.{◌≡◌, ◌≤◌, ℕ, [], IfOk, IfErr, OnOk, All, length, vec_len};
 ghost use Rattle.std.specs.Prelude.{vec_capacity};
-ghost use Rattle.run_model.specs.World.{World};
+ghost use Rattle.judge.specs.run_model.World.{World};
 ghost use Rattle.judge.specs.Parts.{AreOneWorlds};
-ghost use Rattle.configuration.specs.ConfigurationView.{world_of};
+ghost use Rattle.judge.specs.configuration.ConfigurationView.{world_of};
 ghost use Rattle.thread_net.specs.Cables.{AreWithin, AreFurnished, IsOver, row, rows_of};
 ghost use Rattle.thread_net.specs.Cables.{seats_of};
 ghost use Rattle.thread_net.specs.Seats.{nodes_of, IsNew, HasRoom, AreShort, total_room};
@@ -13,10 +13,10 @@ ghost use Rattle.thread_net.specs.Prepared.{IsPrepared};
 
 use crate::cables::cable_all;
 use crate::seats::{Seats, new_seats, reserve_journals, seat_all, unseat_all};
-use configuration::Links;
+use judge::configuration::Links;
+use judge::run_model::Event;
 use judge::{Parts, Stretch};
 use node_runner::Runner;
-use run_model::Event;
 use std::alloc::{AllocError, Allocator};
 
 /// All that a run needs, made before its first turn.

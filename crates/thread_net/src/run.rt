@@ -1,7 +1,7 @@
 //! A world's nodes run on threads, and what they did is a run.
 ghost use Rattle.std.specs.Prelude.{◌≡◌, ◌≤◌, [], IfOk, IfErr, vec_len, vec_capacity};
-ghost use Rattle.run_model.specs.World.{IsWorldInRange};
-ghost use Rattle.configuration.specs.ConfigurationView.{world_of};
+ghost use Rattle.judge.specs.run_model.World.{IsWorldInRange};
+ghost use Rattle.judge.specs.configuration.ConfigurationView.{world_of};
 ghost use Rattle.thread_net.specs.Outcomes.{runners_in, have_run};
 ghost use Rattle.thread_net.specs.Done.{CanGather, Gathers};
 ghost use Rattle.thread_net.specs.ThreadRun.{IsThreadRun};
@@ -12,14 +12,14 @@ use crate::prepare::{Prepared, prepare};
 use crate::seats::{Seats, unseat_all};
 use crate::settle::settle_all;
 use crate::threads::{Outcome, run_all};
-use configuration::Links;
+use judge::configuration::Links;
+use judge::run_model::Event;
 use judge::{Parts, Stretch, World};
+use node_runner::weaving::weave;
 use node_runner::{Gate, Runner};
-use run_model::Event;
 use std::alloc::{AllocError, Allocator, Global};
 use std::sync::Wait;
 use std::thread::Threads;
-use weaving::weave;
 
 /// What nodes did on threads of their own: the world that came of it, and the events that led
 /// there, in one order.
@@ -78,9 +78,9 @@ fn gather<A: Allocator + Copy>(
     ensures { Gathers runners.items links room seats events result.events.items
         (world_of result.world) }
 {
-    weaving::laws::weave();
+    node_runner::weaving::laws::weave();
     node_runner::laws::rounds();
-    run_model::laws::in_range();
+    judge::run_model::laws::in_range();
     let mut links = links;
     let mut seats = seats;
     let mut events = events;

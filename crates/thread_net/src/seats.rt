@@ -2,17 +2,17 @@
 ghost use Rattle.std.specs.Prelude.{◌≡◌, ◌+◌, ◌*◌, ◌^◌, ◌<◌, ◌≤◌, ℕ, List, [], length, map, All};
 ghost use Rattle.std.specs.Prelude.{IfOk, OnOk};
 ghost use Rattle.std.specs.Prelude.{vec_len, vec_capacity, slice_index_or};
-ghost use Rattle.node_core.specs.View.{site_in};
+ghost use Rattle.judge.specs.node_core.View.{site_in};
 ghost use Rattle.thread_net.specs.Cables.{rows_of, row, seats_of};
-ghost use Rattle.weaving.specs.Journals.{entries_in};
+ghost use Rattle.node_runner.specs.weaving.Journals.{entries_in};
 ghost use Rattle.thread_net.specs.Seats.{nodes_of, entries_of_all, IsNew, entry_room, HasRoom};
 ghost use Rattle.thread_net.specs.Seats.{total_room, AreShort};
 ghost use Rattle.thread_net.specs.Tables.{rows_in, AreEmptySeats};
 
-use node_core::Node;
+use judge::node_core::Node;
+use node_runner::weaving::Journal;
 use node_runner::{Port, Runner};
 use std::alloc::{AllocError, Allocator};
-use weaving::Journal;
 
 /// The parts of runners, each in a table of its own.
 #[derive(Drop)]

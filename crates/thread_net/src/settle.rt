@@ -3,14 +3,14 @@ ghost use Rattle.std.specs.Prelude.{◌≡◌, ◌≢◌, ◌<◌, ◌==◌, ℕ
 ghost use Rattle.std.specs.List.{position};
 ghost use Rattle.topology.specs.Network.{are_joined};
 ghost use Rattle.topology.specs.Ranges.{ranges_of};
-ghost use Rattle.run_model.specs.World.{at_pair, item_fits};
-ghost use Rattle.configuration.specs.LinksView.{under_way};
+ghost use Rattle.judge.specs.run_model.World.{at_pair, item_fits};
+ghost use Rattle.judge.specs.configuration.LinksView.{under_way};
 ghost use Rattle.thread_net.specs.Cables.{left_on, left_between, settled, AreSettleable};
 ghost use Rattle.thread_net.specs.Cables.{AreCabled, IsCableBetween, IsOtherPair, row};
 ghost use Rattle.thread_net.specs.Cables.{AreEnds, IsFlushed, IsFlushedBetween, IsRoomFor, port_to};
 ghost use Rattle.thread_net.specs.Tables.{rows_in};
 
-use configuration::Links;
+use judge::configuration::Links;
 use link_model::Item;
 use node_runner::{Incoming, Outgoing, Port};
 use std::alloc::Allocator;

@@ -4,10 +4,10 @@ use Rattle.topology.specs.Network.{Network, are_joined}
 use Rattle.topology.specs.declared.frame.Frame.{Frame as FrameType}
 use Rattle.link_model.specs.declared.item.Item.{Item}
 use Rattle.link_model.specs.declared.item.Item.TheVariants.{Noise, Frame}
-use Rattle.data_link.specs.Port.{frame_of}
-use Rattle.node_core.specs.Site.{Site, site_of}
-use Rattle.node_core.specs.State.{LocalState}
-use Rattle.node_core.specs.Step.{taken}
+use Rattle.run_model.specs.data_link.Port.{frame_of}
+use Rattle.run_model.specs.node_core.Site.{Site, site_of}
+use Rattle.run_model.specs.node_core.State.{LocalState}
+use Rattle.run_model.specs.node_core.Step.{taken}
 use Rattle.accounts.specs.Deeds.{Deed}
 use Rattle.accounts.specs.Deeds as deeds
 use Rattle.weaving.specs.declared.journal.Stamped.{Stamped}

@@ -4,8 +4,8 @@ use Rattle.std.specs.Prelude.{◌≡◌, ℕ, ◌==◌, if◌then◌else◌, IsT
 use Rattle.topology.specs.Network.{Network, are_joined}
 use Rattle.link_model.specs.declared.item.Item.{Item}
 use Rattle.link_model.specs.declared.item.Item.TheVariants.{Noise, Frame}
-use Rattle.node_core.specs.Site.{site_of}
-use Rattle.node_core.specs.State.{LocalState}
+use Rattle.run_model.specs.node_core.Site.{site_of}
+use Rattle.run_model.specs.node_core.State.{LocalState}
 use Rattle.accounts.specs.Deeds.{Deed, Ticks, Sends, Takes}
 use Rattle.accounts.specs.Deeds as deeds
 use Rattle.run_model.specs.declared.event.Event.TheVariants.{Send, Take, Tick}

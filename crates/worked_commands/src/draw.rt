@@ -3,16 +3,16 @@
 use crate::nets::two_nodes;
 use crate::shelf::Shelf;
 use byte_streams::MemorySource;
-use command_parts::{Fault, ReadSource};
 use run_picture::Window;
 use run_picture::command::{Wanted, write_picture};
+use run_picture::command_parts::world::streams::Source;
+use run_picture::command_parts::{Fault, ReadSource};
 use std::alloc::Global;
 use std::io::{Error, ErrorKind};
 use std::str;
 use std::test::Fail;
 use test_parts::{as_expected, is_expected};
 use topology::NetFault;
-use world::streams::Source;
 
 /// Fails when it is read.
 #[derive(Drop)]

@@ -1,8 +1,8 @@
 //! Schedules as texts: by hand, and for a writer with too little room.
 use crate::nets::two_nodes;
 use crate::shelf::Shelf;
-use command_parts::{EventText, Fault};
-use schedules::Chances;
+use experiments::schedules::Chances;
+use run_picture::command_parts::{EventText, Fault};
 use std::alloc::Global;
 use std::io::{BufWriter, Error, Write};
 use std::str;

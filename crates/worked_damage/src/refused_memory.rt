@@ -2,16 +2,16 @@
 use crate::calls::{NEWER, line, reread, started, two};
 use crate::drawn::harms;
 use crate::heaps::{End, first_end};
-use damage_tool::scramble_world;
+use experiments::schedules::damage_tool::scramble_world;
 use linked_list_allocator::LocalHeap;
 use node_state_file::{FileFault, MemoryStore, Store};
 use rand_core::SeedableRng;
 use rand_pcg::Lcg64Xsh32;
-use run_model::Event;
 use std::alloc::{AllocError, Allocator, Global};
 use std::test::Fail;
 use test_parts::is_expected;
 use topology::Net;
+use world::run_model::Event;
 
 /// Whether a state was read, and is written as before; false if memory was refused.
 fn is_read<A: Allocator + Copy>(alloc: A, net: &Net) -> Result<bool, FileFault> {

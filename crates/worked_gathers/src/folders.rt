@@ -3,7 +3,7 @@ use crate::rows::{FILE, FRAME, IN_ORDER, Kept, MARK, one, sender, taker};
 use crate::shelf::Shelf;
 use command_parts::{EventText, Fault, NetworkFault};
 use gather_command::command::{gather_text, run};
-use gather_command::{FolderRecords, GatherFault, MemoryRecords, gather};
+use gather_command::{FolderRecords, GatherFault, MemoryRecords, Stretch, gather};
 use record_gathering::configuration::run_model::Event;
 use std::alloc::Global;
 use std::fs;
@@ -87,7 +87,7 @@ fn end_of(rt: &HostRuntime, dir: &str, missing: usize) -> Result<Result<ExitCode
     let left = second.len().saturating_sub(missing);
     write(rt, dir, "record-1.0", &second[..left])?;
     let network = format!(in rt.alloc(); "{dir}/two.toml")?;
-    Ok(run(rt, dir, network.as_str()))
+    Ok(run(rt, dir, network.as_str(), Stretch::Whole))
 }
 
 #[test]
@@ -108,9 +108,9 @@ type Ends = [Result<ExitCode, Fault>; 3];
 fn ends(rt: &HostRuntime) -> Result<Ends, Fail> {
     make_folder(rt, "ends")?;
     Ok([
-        run(rt, "ends", "ends/two.toml"),
-        run(rt, "absent", "ends/two.toml"),
-        run(rt, "ends", "ends/absent.toml"),
+        run(rt, "ends", "ends/two.toml", Stretch::Whole),
+        run(rt, "absent", "ends/two.toml", Stretch::Whole),
+        run(rt, "ends", "ends/absent.toml", Stretch::Whole),
     ])
 }
 
@@ -151,7 +151,7 @@ fn written(
 ) -> Result<Option<GatherFault>, Fail> {
     let net = Net::make(alloc, 2, 0, 1, 0, &[(0, 1)])?;
     let mut text = EventText::new(BufWriter::with_capacity(alloc, 16, shelf)?);
-    Ok(gather_text(alloc, &net, records, &mut text).err())
+    Ok(gather_text(alloc, &net, records, Stretch::Whole, &mut text).err())
 }
 
 /// Whether a shelf with this room takes all of the text, or the command fails.

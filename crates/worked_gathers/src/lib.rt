@@ -10,3 +10,5 @@ mod folders;
 mod rows;
 #[cfg(test)]
 mod shelf;
+#[cfg(test)]
+mod stretches;

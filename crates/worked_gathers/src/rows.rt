@@ -77,12 +77,12 @@ const FORGED: Frame = Frame {
 };
 
 /// The start of a node's state.
-fn start(network: u32, node: u16) -> Noted {
+pub fn start(network: u32, node: u16) -> Noted {
     Noted::State(StatePart::Start { network, node })
 }
 
 /// A record of some entries.
-fn record_of(alloc: Global, entries: &[(u64, Noted)]) -> Result<Vec<u8>, Fail> {
+pub fn record_of(alloc: Global, entries: &[(u64, Noted)]) -> Result<Vec<u8>, Fail> {
     let mut bytes = Vec::with_capacity(alloc, 4096)?;
     let mut last = 0;
     for (instant, noted) in entries {
@@ -223,8 +223,8 @@ fn a_frame_is_taken_after_it_was_sent(rt: HostRuntime) -> Result<(), Fail> {
     )
 }
 
-/// A frame that nobody sent comes last, after the one under way was lost.
-const FORGED_LAST: [Event; 7] = [
+/// A frame that nobody sent comes last, and the one under way is put on its link again.
+const FORGED_LAST: [Event; 8] = [
     Event::Tick { node: 0 },
     Event::Send { from: 0, to: 1 },
     Event::Lose {
@@ -238,6 +238,11 @@ const FORGED_LAST: [Event; 7] = [
         item: record_gathering::configuration::link_model::Item::Frame(FORGED),
     }),
     Event::Take { from: 0, to: 1 },
+    Event::Damage(Harm::Item {
+        from: 0,
+        to: 1,
+        item: record_gathering::configuration::link_model::Item::Frame(FRAME),
+    }),
     Event::Tick { node: 1 },
     Event::Tick { node: 1 },
 ];
@@ -252,7 +257,7 @@ fn a_forged_frame_is_a_harm(rt: HostRuntime) -> Result<(), Fail> {
             numbers,
             flaw,
         )),
-        &(true, None, [2, 200, 7, 1, 1, 1, 0, 50, 0, 0], None),
+        &(true, None, [2, 200, 8, 0, 2, 1, 0, 50, 0, 0], None),
     )
 }
 

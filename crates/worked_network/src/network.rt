@@ -12,7 +12,7 @@ use std::{env, fs, str, thread};
 use test_parts::{as_expected, is_expected};
 
 /// Three nodes in a ring, whose loans have no end.
-const RING: &str =
+pub const RING: &str =
     "nodes = 3\nroot = 0\ncapacity = 64\nlease = 0\nedges = [[0, 1], [1, 2], [0, 2]]\n";
 
 /// The same with loans of 100 ticks, some 200 milliseconds, and links that hold one frame too few.
@@ -137,7 +137,7 @@ pub fn fresh_folder(rt: &HostRuntime, name: &str, network: &str) -> Result<Strin
 }
 
 /// Removes what a test has made.
-fn clean(rt: &HostRuntime, dir: &str) -> Result<(), Fail> {
+pub fn clean(rt: &HostRuntime, dir: &str) -> Result<(), Fail> {
     let file = format!(in rt.alloc(); "{dir}.toml")?;
     fs::remove_file(rt, file.as_str())?;
     fs::remove_dir_all(rt, dir)?;
@@ -146,7 +146,12 @@ fn clean(rt: &HostRuntime, dir: &str) -> Result<(), Fail> {
 
 /// Starts node `id` of the network beside a folder, and waits until it is ready.
 fn node(rt: &HostRuntime, dir: &str, id: u16) -> Result<Child, Fail> {
-    let words = format!(in rt.alloc(); "tokentree\nnode\n{dir}.toml\n{id}\n{dir}")?;
+    node_with(rt, dir, id, "")
+}
+
+/// The same with options, each followed by a newline.
+pub fn node_with(rt: &HostRuntime, dir: &str, id: u16, options: &str) -> Result<Child, Fail> {
+    let words = format!(in rt.alloc(); "tokentree\nnode\n{options}{dir}.toml\n{id}\n{dir}")?;
     let mut child = copy(rt, words.as_str(), "1")?;
     if let Some(output) = &mut child.stdout {
         for _ in 0..2u32 {
@@ -180,7 +185,13 @@ fn start_nodes(rt: &HostRuntime, name: &str, network: &str) -> Result<Nodes, Fai
 }
 
 /// Ends a node by its stop file. Returns whether its standard error is exactly this.
-fn stops(rt: &HostRuntime, dir: &str, id: u16, child: Child, reported: &str) -> Result<bool, Fail> {
+pub fn stops(
+    rt: &HostRuntime,
+    dir: &str,
+    id: u16,
+    child: Child,
+    reported: &str,
+) -> Result<bool, Fail> {
     let path = format!(in rt.alloc(); "{dir}/stop-{id}")?;
     fs::write(rt, path.as_str(), "")?;
     ends(rt, child, "status 0", reported)
@@ -243,7 +254,7 @@ fn serves(rt: &HostRuntime, dir: &str, id: u16, distance: u16) -> Result<bool, F
 }
 
 /// Whether each of the three nodes serves at last.
-fn all_serve(rt: &HostRuntime, dir: &str) -> Result<bool, Fail> {
+pub fn all_serve(rt: &HostRuntime, dir: &str) -> Result<bool, Fail> {
     Ok(serves(rt, dir, 0, 0)? && serves(rt, dir, 1, 1)? && serves(rt, dir, 2, 1)?)
 }
 
@@ -344,7 +355,7 @@ fn is_waited_for_in_vain(rt: &HostRuntime, dir: &str) -> Result<bool, Fail> {
 }
 
 /// Kills a node.
-fn kill(child: &mut Child) -> Result<(), Fail> {
+pub fn kill(child: &mut Child) -> Result<(), Fail> {
     child.kill()?;
     child.wait()?;
     Ok(())

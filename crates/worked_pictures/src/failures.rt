@@ -2,12 +2,12 @@
 use crate::rows::{FORGED, two};
 use byte_streams::{Fused, MemorySource, Source};
 use linked_list_allocator::LocalHeap;
+use run_picture::command_parts::world::simulation::SimFault;
 use run_picture::{Window, record};
 use std::alloc::{Allocator, Global};
 use std::test::Fail;
 use test_parts::as_expected;
 use topology::Net;
-use world::simulation::SimFault;
 
 /// How many events a recording has, how many columns, and how many nodes are privileged in the last
 /// of them.

@@ -470,7 +470,7 @@ fn no_service(rt: &HostRuntime, folder: &str, reported: &str) -> Result<(), Fail
     let client = client(rt, folder, asked, Stdio::null())?;
     hold(
         prints_and_reports(rt, client, "status 125\n", reported)?,
-        "a client finds a service where there is none, or tells something else",
+        "a client finds a service where there is none, or says something else",
     )
 }
 

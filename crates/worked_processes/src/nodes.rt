@@ -308,10 +308,12 @@ pub fn in_folder<F: FnOnce(&str) -> Result<(), Fail>>(
     clean(rt, dir)
 }
 
-/// Writes the network file of a folder.
+/// Writes the network file of a folder, so that no node reads half of it.
 fn write_network(rt: &HostRuntime, dir: &str, text: &str) -> Result<(), Fail> {
     let file = network_file(rt.alloc(), dir)?;
-    Ok(fs::write(rt, file.as_str(), text)?)
+    let beside = format!(in rt.alloc(); "{file}.new")?;
+    fs::write(rt, beside.as_str(), text)?;
+    Ok(fs::rename(rt, beside.as_str(), file.as_str())?)
 }
 
 /// Removes the network file of a folder.
@@ -416,7 +418,7 @@ fn serve_and_rewire(rt: &HostRuntime, dir: &str) -> Result<(), Fail> {
     )?;
     hold(
         knows_its_lines(rt, dir)?,
-        "a line that is none is not told so",
+        "a line that means nothing is not answered so",
     )?;
     hold(lends(rt, dir)?, "the lock is not lent and taken back")?;
     write_network(rt, dir, RING)?;
@@ -438,12 +440,12 @@ fn serve_and_stop(
     serve_and_rewire(rt, dir)?;
     hold(
         stops_rewired(rt, dir, 0, first)?,
-        "node 0 does not stop, or tells something else",
+        "node 0 does not stop, or says something else",
     )?;
     hold(stops_late(rt, dir, 1, second)?, "node 1 does not stop")?;
     hold(
         stops_rewired(rt, dir, 2, third)?,
-        "node 2 does not stop again, or tells something else",
+        "node 2 does not stop again, or says something else",
     )
 }
 
@@ -592,7 +594,7 @@ fn stop_beside(
 ) -> Result<(), Fail> {
     hold(
         stops_with(rt, dir, 0, node, SMALL)?,
-        "the node does not stop, or tells something else",
+        "the node does not stop, or says something else",
     )?;
     hold(
         (1..=6).contains(&gathered(rt, neighbour)?),

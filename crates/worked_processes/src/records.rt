@@ -68,8 +68,8 @@ fn contents(bytes: &[u8]) -> Seen {
     seen
 }
 
-/// Whether a record begins with the state of node 0 after its first tick: it is the root, so its
-/// distance is 0 and it has no parent; its only neighbour is node 1, and it lends to nobody.
+/// Whether a record begins with the default state of node 0 of three: its distance is 3, and it has no
+/// parent; its only neighbour is node 1, and it lends to nobody.
 fn begins_with_state(bytes: &[u8]) -> bool {
     let mut reader = EntryReader::new();
     let mut rest = bytes;
@@ -77,7 +77,7 @@ fn begins_with_state(bytes: &[u8]) -> bool {
         let Ok((entry, after)) = reader.next(rest) else {
             return false;
         };
-        if !is_of_root(place, &entry) {
+        if !is_default(place, &entry) {
             return false;
         }
         rest = after;
@@ -86,14 +86,14 @@ fn begins_with_state(bytes: &[u8]) -> bool {
 }
 
 /// Whether this is the entry at a place of that state.
-fn is_of_root(place: u32, entry: &Entry) -> bool {
+fn is_default(place: u32, entry: &Entry) -> bool {
     match (place, entry.noted) {
         (0, Noted::State(StatePart::Start { node: 0, .. })) => true,
         (
             1,
             Noted::State(
                 StatePart::Own {
-                    distance: 0,
+                    distance: 3,
                     parent: None,
                 },
             ),
@@ -114,14 +114,14 @@ fn is_of_root(place: u32, entry: &Entry) -> bool {
     }
 }
 
-/// Whether bytes are a whole record of node 0 alone: its state once, at the beginning, and then its
-/// ticks, with nobody to talk to.
-fn is_of_one(bytes: &[u8]) -> bool {
+/// Whether bytes are a whole record of node 0 alone that started so often: each time its state, first the
+/// default one, and then its ticks, with nobody to talk to.
+fn is_of_one(bytes: &[u8], starts: u32) -> bool {
     let seen = contents(bytes);
     seen.is_whole
         && begins_with_state(bytes)
         && !seen.is_headless
-        && seen.states == 1
+        && seen.states == starts
         && seen.ticks >= 10
         && seen.takes == 0
         && seen.sends == 0
@@ -160,10 +160,10 @@ fn run_alone(rt: &HostRuntime, dir: &str, lines: [&str; 2]) -> Result<(), Fail> 
     )
 }
 
-/// Whether there is such a record of node 0 in this file.
-fn has_record(rt: &HostRuntime, dir: &str, side: Side) -> Result<bool, Fail> {
-    match record_of(rt, dir, 0, side)? {
-        Some(bytes) => Ok(is_of_one(bytes.as_slice())),
+/// Whether the first file of node 0's record is one of so many starts.
+fn has_record(rt: &HostRuntime, dir: &str, starts: u32) -> Result<bool, Fail> {
+    match record_of(rt, dir, 0, Side::First)? {
+        Some(bytes) => Ok(is_of_one(bytes.as_slice(), starts)),
         None => Ok(false),
     }
 }
@@ -178,41 +178,80 @@ fn has_only(rt: &HostRuntime, dir: &str, files: u32) -> Result<bool, Fail> {
     Ok(count == files)
 }
 
-/// Whether the first file of node 0's record is what it was.
-fn is_still(rt: &HostRuntime, dir: &str, was: &Option<Vec<u8>>) -> Result<bool, Fail> {
+/// Node 0 ran alone, and runs once more: its record goes on in the same file, after what was there.
+fn run_on(rt: &HostRuntime, dir: &str, was: &[u8]) -> Result<(), Fail> {
+    run_alone(rt, dir, LOADED)?;
     let now = record_of(rt, dir, 0, Side::First)?;
-    match (was, &now) {
-        (Some(was), Some(now)) => Ok(was.as_slice() == now.as_slice()),
-        _ => Ok(false),
-    }
+    hold(
+        now.is_some_and(|now| now.as_slice().starts_with(was)),
+        "what was in the file has changed",
+    )?;
+    hold(has_record(rt, dir, 2)?, "the file is no whole record")?;
+    hold(has_only(rt, dir, 3)?, "there are other files too")
 }
 
-/// Node 0 runs again, and its record goes on in the second file.
-fn run_on(rt: &HostRuntime, dir: &str) -> Result<(), Fail> {
-    let first = record_of(rt, dir, 0, Side::First)?;
-    run_alone(rt, dir, LOADED)?;
-    hold(is_still(rt, dir, &first)?, "the first file has changed")?;
-    hold(
-        has_record(rt, dir, Side::Second)?,
-        "the second file is no whole record",
-    )?;
-    hold(has_only(rt, dir, 4)?, "there are other files too")
+/// Node 0 runs alone. Returns its record.
+fn record_once(rt: &HostRuntime, dir: &str) -> Result<Vec<u8>, Fail> {
+    run_alone(rt, dir, ABSENT)?;
+    hold(has_record(rt, dir, 1)?, "the file is no whole record")?;
+    hold(has_only(rt, dir, 3)?, "there are other files already")?;
+    Ok(record_of(rt, dir, 0, Side::First)?.unwrap_or(Vec::new(rt.alloc())))
 }
 
 /// Node 0 runs alone, and then once more.
 fn record_twice(rt: &HostRuntime, dir: &str) -> Result<(), Fail> {
-    run_alone(rt, dir, ABSENT)?;
-    hold(
-        has_record(rt, dir, Side::First)?,
-        "the first file is no whole record",
-    )?;
-    hold(has_only(rt, dir, 3)?, "there are other files already")?;
-    run_on(rt, dir)
+    let was = record_once(rt, dir)?;
+    run_on(rt, dir, was.as_slice())
 }
 
 #[test]
-fn a_record_goes_on_in_the_other_file(rt: HostRuntime) -> Result<(), Fail> {
+fn a_record_goes_on_after_a_start(rt: HostRuntime) -> Result<(), Fail> {
     in_folder(&rt, "recorded", LINE, |dir| record_twice(&rt, dir))
+}
+
+/// Node 0 runs alone, its record gets the first byte of a tick at its end, and it runs once more.
+fn record_after_half_an_entry(rt: &HostRuntime, dir: &str) -> Result<(), Fail> {
+    let was = record_once(rt, dir)?;
+    let name = record_name(rt.alloc(), dir, 0, Side::First)?;
+    let mut torn = fs::read(rt, name.as_str())?;
+    torn.push(7)?;
+    fs::write(rt, name.as_str(), torn.as_slice())?;
+    hold(!has_record(rt, dir, 1)?, "half an entry is read")?;
+    run_on(rt, dir, was.as_slice())
+}
+
+#[test]
+fn a_record_goes_on_after_its_last_whole_entry(rt: HostRuntime) -> Result<(), Fail> {
+    in_folder(
+        &rt,
+        "torn",
+        LINE,
+        |dir| record_after_half_an_entry(&rt, dir),
+    )
+}
+
+/// Node 0 runs alone where its first file is no record: its record begins in the second one.
+fn record_beside(rt: &HostRuntime, dir: &str) -> Result<(), Fail> {
+    let first = record_name(rt.alloc(), dir, 0, Side::First)?;
+    fs::create_dir(rt, dir)?;
+    fs::write(rt, first.as_str(), "stays")?;
+    run_alone(rt, dir, ABSENT)?;
+    hold(
+        fs::read(rt, first.as_str())?.as_slice() == b"stays".as_slice(),
+        "the first file has changed",
+    )?;
+    match record_of(rt, dir, 0, Side::Second)? {
+        Some(bytes) => hold(
+            is_of_one(bytes.as_slice(), 1),
+            "the second file is no whole record",
+        ),
+        None => hold(false, "there is no second file"),
+    }
+}
+
+#[test]
+fn a_record_begins_beside_what_is_none(rt: HostRuntime) -> Result<(), Fail> {
+    in_folder(&rt, "beside", LINE, |dir| record_beside(&rt, dir))
 }
 
 /// A node's process that keeps a record, once it is ready.

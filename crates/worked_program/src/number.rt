@@ -12,7 +12,7 @@ type Row = (&'static str, &'static str, &'static str, &'static str, u8);
 
 /// The files of these lines do not exist: so the status of an accepted number is 1, or 0 if the
 /// line prints no junk.
-const NUMBERS: [Row; 23] = [
+const NUMBERS: [Row; 25] = [
     ("draw absent.toml - --columns ", "", "1200", "1201", 1),
     (
         "draw absent.toml - --from ",
@@ -26,6 +26,20 @@ const NUMBERS: [Row; 23] = [
         "",
         "18446744073709551615",
         "18446744073709551616",
+        1,
+    ),
+    (
+        "gather . --network absent.toml --from ",
+        "",
+        "4294967295",
+        "4294967296",
+        1,
+    ),
+    (
+        "gather . --network absent.toml --last ",
+        "",
+        "4294967295",
+        "4294967296",
         1,
     ),
     ("junk ", " 0", "4294967295", "4294967296", 0),

@@ -10,7 +10,7 @@ use subcommands::bound;
 use test_parts::{as_expected, is_expected};
 
 /// A command line, and its status.
-const ROWS: [(&str, u8); 112] = [
+const ROWS: [(&str, u8); 114] = [
     ("tokentree bound two.toml", 0),
     ("tokentree bound -- two.toml", 0),
     ("tokentree bound --sharp two.toml", 0),
@@ -165,6 +165,8 @@ const ROWS: [(&str, u8); 112] = [
     ("tokentree gather .", 2),
     ("tokentree gather --network two.toml", 2),
     ("tokentree gather . more --network two.toml", 2),
+    ("tokentree gather . --network two.toml --from 1 --last 1", 2),
+    ("tokentree gather . --network two.toml --last", 2),
 ];
 
 /// The files that the command lines name.

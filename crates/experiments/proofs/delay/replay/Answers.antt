@@ -3,7 +3,7 @@ use Rattle.run_model.specs.World.{World}
 use Rattle.run_model.specs.Start.{default_world}
 use Rattle.run_model.specs.Run.{run}
 use Rattle.run_model.specs.declared.event.Event.{Event}
-use Rattle.configuration.specs.ConfigurationView.{world_of}
+use Rattle.judge.specs.configuration.ConfigurationView.{world_of}
 use Rattle.experiments.specs.Recovery.{IsWatched, beginning}
 use Rattle.experiments.proofs.Bounded.{recovers-within}
 use Rattle.experiments.proofs.Replays.{harmless-list}

@@ -1,5 +1,5 @@
 use Rattle.std.proofs.Common.{◌∙◌, ap, arith}
-use Rattle.configuration.specs.ConfigurationView.{world_of}
+use Rattle.judge.specs.configuration.ConfigurationView.{world_of}
 use Rattle.experiments.specs.GivenBack.{back_at}
 use Rattle.experiments.proofs.Backs.{all-leads, all-split, backs_from}
 use Rattle.experiments.proofs.giving_back.give_all_back.Goals as goal

@@ -1,6 +1,6 @@
 use Rattle.std.proofs.Common.{◌≡◌, ◌≤◌}
 use Rattle.run_model.specs.Run.{run}
-use Rattle.configuration.specs.ConfigurationView.{world_of}
+use Rattle.judge.specs.configuration.ConfigurationView.{world_of}
 use Rattle.schedules.specs.Taking.{IsUnderWay}
 use Rattle.experiments.proofs.Backs.{backs_from}
 use Rattle.experiments.proofs.giving_back.give_all_back.Given as goal

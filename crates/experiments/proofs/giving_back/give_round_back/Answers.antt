@@ -2,7 +2,7 @@ use Rattle.std.proofs.Common.{ℕ, List, OnOk, subst}
 use Rattle.std.specs.List.{range_with_len}
 use Rattle.run_model.specs.Run.{run}
 use Rattle.run_model.specs.declared.event.Event.{Event}
-use Rattle.configuration.specs.ConfigurationView.{world_of}
+use Rattle.judge.specs.configuration.ConfigurationView.{world_of}
 use Rattle.schedules.specs.Rounds.{round}
 use Rattle.experiments.specs.GivenBack.{back_at_all}
 use Rattle.experiments.proofs.Backs.{on-ok, round-backs, round-went}

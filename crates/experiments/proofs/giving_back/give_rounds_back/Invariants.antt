@@ -1,5 +1,5 @@
 use Rattle.std.proofs.Common.{◌≤◌, ◌-◌}
-use Rattle.configuration.specs.ConfigurationView.{world_of}
+use Rattle.judge.specs.configuration.ConfigurationView.{world_of}
 use Rattle.schedules.specs.Taking.{IsUnderWay}
 use Rattle.experiments.specs.GivenBack.{rounds_back}
 use Rattle.experiments.proofs.giving_back.give_rounds_back.Given as goal

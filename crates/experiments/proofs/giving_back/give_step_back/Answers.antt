@@ -1,7 +1,7 @@
 use Rattle.std.proofs.Common.{[], ◌∷◌, List, OnOk, subst}
 use Rattle.run_model.specs.Step.{step}
 use Rattle.run_model.specs.declared.event.Event.{Event}
-use Rattle.configuration.specs.ConfigurationView.{world_of}
+use Rattle.judge.specs.configuration.ConfigurationView.{world_of}
 use Rattle.schedules.specs.Random.{admitted, draw_step}
 use Rattle.experiments.specs.GivenBack.{back_after}
 use Rattle.experiments.proofs.Backs.{after-tick}

@@ -1,5 +1,5 @@
 use Rattle.std.proofs.Common.{arith}
-use Rattle.configuration.specs.ConfigurationView.{world_of}
+use Rattle.judge.specs.configuration.ConfigurationView.{world_of}
 use Rattle.experiments.proofs.Backs.{steps-split}
 use Rattle.experiments.proofs.giving_back.give_steps_back.Goals as goal
 

@@ -1,5 +1,5 @@
 use Rattle.std.proofs.Common.{◌≡◌, sym, subst, true, Option, Some, rules, refl}
-use Rattle.configuration.specs.ConfigurationView.{world_of}
+use Rattle.judge.specs.configuration.ConfigurationView.{world_of}
 use Rattle.experiments.specs.Layered.{IsSettlingShown}
 use Rattle.experiments.specs.Recovery.{AreAnyLayersSeen}
 use Rattle.experiments.specs.Scheduled.{HasEnough, stretches}

@@ -2,7 +2,7 @@ use Rattle.std.proofs.Common.{◌+◌, ◌∙◌, ap, sym, drop}
 use Rattle.std.proofs.lemmas.List.{drop_more}
 use Rattle.run_model.specs.World.{World}
 use Rattle.run_model.specs.Run.{run}
-use Rattle.configuration.specs.ConfigurationView.{world_of}
+use Rattle.judge.specs.configuration.ConfigurationView.{world_of}
 use Rattle.experiments.proofs.measured_run.happen.Goals as goal
 
 pub loop-harm-preserved : goal.loop-harm-preserved

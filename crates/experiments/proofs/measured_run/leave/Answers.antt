@@ -1,5 +1,5 @@
 use Rattle.std.proofs.Common.{◌∙◌, ap, Some}
-use Rattle.configuration.specs.ConfigurationView.{world_of}
+use Rattle.judge.specs.configuration.ConfigurationView.{world_of}
 use Rattle.experiments.specs.Scheduled.{lent_at}
 use Rattle.experiments.proofs.Stretches.{by-leave}
 use Rattle.experiments.proofs.measured_run.leave.Goals as goal

@@ -1,5 +1,5 @@
 use Rattle.std.proofs.Common.{◌≡◌, rules}
-use Rattle.configuration.specs.ConfigurationView.{world_of}
+use Rattle.judge.specs.configuration.ConfigurationView.{world_of}
 use Rattle.experiments.proofs.Stretches.{by-leaves, by-all_leaves}
 use Rattle.experiments.proofs.measured_run.leave_all.Goals as goal
 

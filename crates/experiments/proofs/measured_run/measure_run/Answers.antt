@@ -4,7 +4,7 @@ use Rattle.topology.specs.Network.{Network}
 use Rattle.topology.specs.Eccentricity.{sharp_of}
 use Rattle.run_model.specs.World.{World}
 use Rattle.run_model.specs.declared.event.Event.{Event}
-use Rattle.configuration.specs.ConfigurationView.{world_of}
+use Rattle.judge.specs.configuration.ConfigurationView.{world_of}
 use Rattle.experiments.specs.Recovery.{IsWatched, beginning, counted_from}
 use Rattle.experiments.specs.Scheduled.{HasEnough, stretches}
 use Rattle.experiments.specs.Shown.{scrambled, seeded}

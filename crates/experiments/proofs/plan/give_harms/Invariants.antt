@@ -1,6 +1,6 @@
 use Rattle.std.proofs.Common.{◌≡◌, ◌≤◌, drop}
 use Rattle.run_model.specs.Run.{run}
-use Rattle.configuration.specs.ConfigurationView.{world_of}
+use Rattle.judge.specs.configuration.ConfigurationView.{world_of}
 use Rattle.schedules.specs.Taking.{IsUnderWay}
 use Rattle.experiments.proofs.plan.give_harms.Given as goal
 

@@ -2,7 +2,7 @@ use Rattle.std.proofs.Common.{◌≡◌, ◌∙◌, ap, subst, OnOk}
 use Rattle.run_model.specs.World.{World}
 use Rattle.run_model.specs.Run.{run}
 use Rattle.run_model.specs.Start.{default_world}
-use Rattle.configuration.specs.ConfigurationView.{world_of}
+use Rattle.judge.specs.configuration.ConfigurationView.{world_of}
 use Rattle.experiments.specs.Plan.{harms_of, turns}
 use Rattle.experiments.proofs.Harms.{then-taken, counts-later}
 use Rattle.experiments.proofs.plan.give_plan.Goals as goal

@@ -1,12 +1,12 @@
 use Rattle.std.proofs.Common.{List}
 use Rattle.record_gathering.specs.configuration.run_model.declared.event.Event.{Event}
 use Rattle.gather_command.proofs.Gathers.{rose-later}
-use Rattle.gather_command.proofs.Text.{grows-kept, gathered-later}
+use Rattle.gather_command.proofs.Text.{grows-kept, as-later}
 use Rattle.gather_command.proofs.command.gather_text.Goals as goal
 
 pub returns-in-Ok-clause-gathered : goal.returns-in-Ok-clause-gathered
 returns-in-Ok-clause-gathered g c =
-    gathered-later _ _ _ _ _ _ _ _ _ (λ (es : List Event) grown. grows-kept _ _ _ es grown c.flush.ensures.bytes)
+    as-later c.args.stretch _ _ _ _ _ _ _ _ _ (λ (es : List Event) grown. grows-kept _ _ _ es grown c.flush.ensures.bytes)
     c.in_ok-gathered.ensures.gathered
 
 pub returns-in-Err-clause-refused : goal.returns-in-Err-clause-refused

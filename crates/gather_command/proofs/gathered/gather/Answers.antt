@@ -1,8 +1,7 @@
-use Rattle.std.proofs.Common.{◌≡◌, ℕ, refl, subst}
+use Rattle.std.proofs.Common.{refl}
 use Rattle.gather_command.specs.declared.fault.GatherFault.{GatherFault}
 use Rattle.gather_command.specs.Reading.{MayFail, Reads, Begins}
 use Rattle.gather_command.specs.Gathered.{IsRefused}
-use Rattle.gather_command.specs.Watch.{numbers_of}
 use Rattle.gather_command.proofs.Gathers.{gathered, broken-refused, fault-refused, fails-with}
 use Rattle.gather_command.proofs.gathered.gather.Goals as goal
 
@@ -36,11 +35,12 @@ returns-clause-gathered g c =
     let reads = Reads (g.R.Records.opens c.args.records.now) g.R.File.Source.rest fails in
     let sink = g.S.EventSink in
     let (ms, has, none) = c.in_ok-weave_all.ensures in
+    let shown = c.in_ok-gathered.ensures in
     gathered fails reads sink.takes sink.failures c.args.net.now c.in_ok-nodes.nodes.items c.in_ok-weaving.weaving c.weave_all.new.weaving
-    c.args.sink.now c.weave_all.new.sink ms c.numbers.result c.in_ok-differences.field-0.items
-    c.in_ok-flaws.field-0.items
-    c.in_ok-nodes.ensures.opened c.in_ok-nodes.ensures.all c.in_ok-weaving.ensures has none (subst (λ (n : ℕ). c.numbers.result ≡ numbers_of n c.weave_all.new.weaving.seen) c.nodes.ensures.nodes c.numbers.ensures)
-    c.in_ok-differences.ensures c.in_ok-flaws.ensures
+    c.args.sink.now c.weave_all.new.sink ms c.in_ok-gathered.gathered.summary c.in_ok-gathered.gathered.differences.items
+    c.in_ok-gathered.gathered.flaws.items
+    c.in_ok-nodes.ensures.opened c.in_ok-nodes.ensures.all c.in_ok-weaving.ensures has none shown.numbers
+    shown.differences_are shown.flaws_are
 
 pub returns-clause-counted : goal.returns-clause-counted
 returns-clause-counted g c = let (ms, has, none) = c.in_ok-weave_all.ensures in has.counted

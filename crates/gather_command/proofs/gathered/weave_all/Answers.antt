@@ -1,7 +1,13 @@
-use Rattle.std.proofs.Common.{◌≡◌, true, arith}
+use Rattle.std.proofs.Common.{◌≡◌, true, [], arith}
 use Rattle.gather_command.specs.Reading.{MayFail}
-use Rattle.gather_command.proofs.Weaves.{woven-more}
+use Rattle.gather_command.proofs.Weaves.{none-woven, woven-more}
 use Rattle.gather_command.proofs.gathered.weave_all.Goals as goal
+
+pub loop-init : goal.loop-init
+loop-init g c =
+    let sink = g.K.EventSink in
+    let laws = g.met.K.EventSink in
+    ([], none-woven (MayFail g.S.Source.failures) sink.takes sink.failures laws.takes_none laws.takes_both c.args.weaving.now c.args.sink.now)
 
 pub loop-preserved : goal.loop-preserved
 loop-preserved g c =

@@ -1,5 +1,5 @@
 use Rattle.std.proofs.Common.{◌≤◌, drop}
-use Rattle.schedules.specs.Taking.{IsUnderWay}
+use Rattle.command_parts.specs.schedules.Taking.{IsUnderWay}
 use Rattle.live_commands.proofs.threads.give_events.Given as goal
 
 -- the sink took all except those that are left

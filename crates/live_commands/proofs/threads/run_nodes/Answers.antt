@@ -1,5 +1,5 @@
 use Rattle.std.proofs.Common.{subst}
-use Rattle.judge.specs.configuration.ConfigurationView.{world_of}
+use Rattle.command_parts.specs.world.judge.configuration.ConfigurationView.{world_of}
 use Rattle.thread_net.specs.ThreadRun.{IsThreadRun}
 use Rattle.live_commands.proofs.threads.run_nodes.Goals as goal
 

@@ -1,7 +1,7 @@
 use Rattle.std.proofs.Common.{sym, subst}
-use Rattle.run_model.specs.Count.{IsSweepCount}
-use Rattle.judge.specs.configuration.ConfigurationView.{world_of}
-use Rattle.judge.specs.Judging.{counted_up_to}
+use Rattle.command_parts.specs.world.run_model.Count.{IsSweepCount}
+use Rattle.command_parts.specs.world.judge.configuration.ConfigurationView.{world_of}
+use Rattle.command_parts.specs.world.judge.Judging.{counted_up_to}
 use Rattle.byte_streams.specs.Streams.{Takes}
 use Rattle.command_parts.specs.world.StateText.{state_text}
 use Rattle.live_commands.proofs.threads.write_state.Goals as goal

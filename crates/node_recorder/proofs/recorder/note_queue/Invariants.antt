@@ -1,5 +1,5 @@
 use Rattle.std.proofs.Common.{◌≡◌, take}
-use Rattle.node_core.specs.View.{state_of}
+use Rattle.node_follower.specs.node_core.View.{state_of}
 use Rattle.node_recorder.specs.Turns.{after_queue}
 use Rattle.node_recorder.proofs.recorder.note_queue.Given as goal
 

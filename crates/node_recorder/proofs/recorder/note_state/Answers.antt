@@ -1,5 +1,5 @@
 use Rattle.std.proofs.Common.{◌∙◌, sym}
-use Rattle.node_core.specs.View.{site_in, state_of}
+use Rattle.node_follower.specs.node_core.View.{site_in, state_of}
 use Rattle.node_recorder.proofs.Parts.{all-parts}
 use Rattle.node_recorder.proofs.recorder.note_state.Goals as goal
 

@@ -1,6 +1,6 @@
 use Rattle.std.proofs.Common.{rules, ◌++◌, codes, arith}
 use Rattle.byte_streams.specs.Streams.{Takes}
-use Rattle.damage_tool.specs.Draws.{draw_junk}
+use Rattle.command_parts.specs.schedules.damage_tool.Draws.{draw_junk}
 use Rattle.subcommands.proofs.JunkLines.{line_more}
 use Rattle.subcommands.proofs.junk.write_junk.Goals as goal
 

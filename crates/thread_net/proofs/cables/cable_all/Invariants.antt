@@ -1,5 +1,5 @@
 use Rattle.std.proofs.Common.{◌≡◌, ℕ, [], length}
-use Rattle.run_model.specs.World.{World}
+use Rattle.judge.specs.run_model.World.{World}
 use Rattle.thread_net.specs.Cables.{IsOver, rows_of, row, seats_of}
 use Rattle.thread_net.proofs.Cabling.{IsLaid, reach}
 use Rattle.thread_net.proofs.cables.cable_all.Given as goal

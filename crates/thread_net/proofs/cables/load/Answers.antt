@@ -1,7 +1,7 @@
 use Rattle.std.proofs.Common.{rules, ap, ◌≡◌, ◌∙◌, ◌++◌, ◌∷◌, [], ◌+◌, take}
 use Rattle.std.proofs.lemmas.List.{map_more}
 use Rattle.std.proofs.lemmas.Option.{slice_get_within, get_or_from_slice_get}
-use Rattle.configuration.specs.LinksView.{under_way}
+use Rattle.judge.specs.configuration.LinksView.{under_way}
 use Rattle.node_runner.specs.Ports.{stamped, opening}
 use Rattle.thread_net.proofs.cables.load.Goals as goal
 

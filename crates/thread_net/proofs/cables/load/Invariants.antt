@@ -1,5 +1,5 @@
 use Rattle.std.proofs.Common.{◌≡◌, ◌+◌, take}
-use Rattle.configuration.specs.LinksView.{under_way}
+use Rattle.judge.specs.configuration.LinksView.{under_way}
 use Rattle.rtrb.specs.Ring.{sent, known_free, SameProducer}
 use Rattle.node_runner.specs.Ports.{opening}
 use Rattle.thread_net.proofs.cables.load.Given as goal

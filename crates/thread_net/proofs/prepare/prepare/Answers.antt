@@ -1,6 +1,6 @@
 use Rattle.std.proofs.Common.{rules, sym, refl, subst, ◌≡◌, ◌∙◌}
 use Rattle.topology.specs.Network.{IsAcceptedNetwork}
-use Rattle.configuration.specs.ConfigurationView.{world_of}
+use Rattle.judge.specs.configuration.ConfigurationView.{world_of}
 use Rattle.thread_net.specs.Seats.{AreShort}
 use Rattle.thread_net.specs.Tables.{AreEmptySeats}
 use Rattle.thread_net.proofs.Starting.{short-nodes, all-at-start}

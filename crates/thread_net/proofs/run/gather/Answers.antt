@@ -1,7 +1,7 @@
 use Rattle.std.proofs.Common.{rules, ap, sym, subst, ◌≡◌, ◌∙◌, ◌≤◌, length, vec_len, vec_capacity}
-use Rattle.weaving.specs.Journals.{entries_in, entry_count, journal_of}
-use Rattle.weaving.specs.Woven.{AreRising, IsWoven}
-use Rattle.configuration.specs.ConfigurationView.{world_of}
+use Rattle.node_runner.specs.weaving.Journals.{entries_in, entry_count, journal_of}
+use Rattle.node_runner.specs.weaving.Woven.{AreRising, IsWoven}
+use Rattle.judge.specs.configuration.ConfigurationView.{world_of}
 use Rattle.thread_net.specs.ThreadRun.{IsThreadRun}
 use Rattle.thread_net.specs.Tables.{AreEmptySeats, rows_in}
 use Rattle.thread_net.proofs.Finishing.{all-rising, gathered, one-worlds}

@@ -1,5 +1,5 @@
 use Rattle.std.proofs.Common.{rules, arith, refl, ◌≡◌, true, false, vec_len, length}
-use Rattle.configuration.specs.ConfigurationView.{world_of}
+use Rattle.judge.specs.configuration.ConfigurationView.{world_of}
 use Rattle.thread_net.specs.Outcomes.{IsOutcomeOf, have_run, turns_of}
 use Rattle.std.proofs.lemmas.Slice.Zip.{AllZip-long}
 use Rattle.thread_net.proofs.Finishing.{all-ran, gatherable, part, start-of}

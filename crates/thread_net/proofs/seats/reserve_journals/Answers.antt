@@ -1,10 +1,10 @@
 use Rattle.std.proofs.Common.{rules, arith, ap, sym, subst, refl, ◌≡◌, ◌∙◌, ◌<◌, length, take_all}
 use Rattle.std.proofs.lemmas.List.{length-map, length-set, get_or_default}
-use Rattle.weaving.specs.declared.journal.Journal.{Journal}
+use Rattle.node_runner.specs.weaving.declared.journal.Journal.{Journal}
 use Rattle.node_runner.specs.declared.runner.Runner.{Runner}
 use Rattle.thread_net.specs.Cables.{seat_of, seats_of}
 use Rattle.thread_net.specs.Seats.{AreShort, entry_room, degree_of}
-use Rattle.node_core.specs.View.{site_in}
+use Rattle.judge.specs.node_core.View.{site_in}
 use Rattle.thread_net.proofs.Maps.{map_set_same}
 use Rattle.thread_net.proofs.Starting.{short-at, total-at, new-set, room-set}
 use Rattle.thread_net.proofs.seats.reserve_journals.Goals as goal

@@ -1,6 +1,6 @@
 use Rattle.std.proofs.Common.{◌≡◌, ◌+◌, ◌≤◌, ◌++◌, vec_len, vec_capacity}
 use Rattle.std.specs.Vec.Iter.{into_iter_items, into_iter_len}
-use Rattle.weaving.specs.Journals.{entries_in}
+use Rattle.node_runner.specs.weaving.Journals.{entries_in}
 use Rattle.thread_net.specs.Cables.{rows_of}
 use Rattle.thread_net.specs.Seats.{nodes_of, entries_of_all}
 use Rattle.thread_net.specs.Tables.{rows_in}

@@ -2,7 +2,7 @@ use Rattle.std.proofs.Common.{rules, arith, ap, sym, ◌≡◌, ◌∙◌, ◌�
 use Rattle.std.proofs.Math.Seq.{drop-append_seam}
 use Rattle.std.proofs.lemmas.List.{length-map}
 use Rattle.rtrb.specs.Ring.{sent, received, known_items}
-use Rattle.weaving.specs.Matched.{items}
+use Rattle.node_runner.specs.weaving.Matched.{items}
 use Rattle.thread_net.specs.Cables.{left_on}
 use Rattle.thread_net.proofs.Settling.{drain-step, item-fits, rest-is}
 use Rattle.thread_net.proofs.settle.drain.Goals as goal

@@ -1,8 +1,8 @@
 use Rattle.std.proofs.Common.{◌≡◌, ◌+◌, length, drop, take}
 use Rattle.rtrb.specs.Ring.{known_items}
-use Rattle.run_model.specs.World.{at_pair}
-use Rattle.configuration.specs.LinksView.{under_way}
-use Rattle.weaving.specs.Matched.{items}
+use Rattle.judge.specs.run_model.World.{at_pair}
+use Rattle.judge.specs.configuration.LinksView.{under_way}
+use Rattle.node_runner.specs.weaving.Matched.{items}
 use Rattle.thread_net.specs.Cables.{IsRoomFor}
 use Rattle.thread_net.proofs.settle.drain.Given as goal
 

@@ -1,6 +1,6 @@
 use Rattle.std.proofs.Common.{◌≡◌, length, take}
 use Rattle.topology.specs.Network.{are_joined}
-use Rattle.configuration.specs.LinksView.{under_way}
+use Rattle.judge.specs.configuration.LinksView.{under_way}
 use Rattle.thread_net.specs.Tables.{rows_in}
 use Rattle.thread_net.proofs.Settling.{IsSettling}
 use Rattle.thread_net.proofs.settle.settle_all.Given as goal

@@ -1,5 +1,5 @@
 use Rattle.std.proofs.Common.{◌∙◌, ap, sym}
-use Rattle.configuration.specs.ConfigurationView.{world_of}
+use Rattle.judge.specs.configuration.ConfigurationView.{world_of}
 use Rattle.experiments.proofs.Layering.{layers-go_on, looks-on, rests-on, settled-stays}
 use Rattle.experiments.proofs.layers_seen.LayersSeen.after.Goals as goal
 

@@ -2,7 +2,7 @@ use Rattle.std.proofs.Common.{◌∙◌, sym}
 use Rattle.run_model.specs.Links.{AreLinksStable}
 use Rattle.run_model.specs.Tree.{IsTreeReached}
 use Rattle.layers.specs.convergence.Ring.{IsTokenRingGood}
-use Rattle.configuration.specs.ConfigurationView.{world_of}
+use Rattle.judge.specs.configuration.ConfigurationView.{world_of}
 use Rattle.experiments.proofs.Layering.{stands-legitimate}
 use Rattle.experiments.proofs.Watching.{last-by}
 use Rattle.experiments.proofs.layers_seen.LayersSeen.looked.Goals as goal

@@ -1,5 +1,5 @@
 use Rattle.std.proofs.Common.{◌∙◌, [], ap, subst, None}
-use Rattle.configuration.specs.ConfigurationView.{world_of}
+use Rattle.judge.specs.configuration.ConfigurationView.{world_of}
 use Rattle.run_model.specs.Headline.{IsServing}
 use Rattle.experiments.proofs.Layering.{any-begin}
 use Rattle.experiments.proofs.Watching.{IsExact, last-begins, last-by}

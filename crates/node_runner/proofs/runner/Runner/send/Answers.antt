@@ -1,7 +1,7 @@
 use Rattle.std.proofs.Common.{◌≡◌, IsTrue, List, [], ◌∷◌, ◌++◌, ◌∙◌, All, Contains, map, length, arith, rules, refl, sym, subst, ap, inl, inr, append-nil}
 use Rattle.std.proofs.lemmas.Grind.{common_steps}
 use Rattle.link_model.specs.declared.item.Item.TheVariants.{Frame}
-use Rattle.node_core.specs.View.{site_in, state_of}
+use Rattle.run_model.specs.node_core.View.{site_in, state_of}
 use Rattle.weaving.specs.Account.{Note, Sent, sent_to, taken_from}
 use Rattle.node_runner.specs.declared.runner.Port.{Port}
 use Rattle.node_runner.specs.Ports.{stamped, IsSender, IsReceiver, SameIncoming}

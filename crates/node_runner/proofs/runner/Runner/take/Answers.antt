@@ -1,7 +1,7 @@
 use Rattle.std.proofs.Common.{◌≡◌, ◌<◌, List, [], ◌∷◌, ◌++◌, ◌∙◌, All, Contains, IsTrue, map, length, arith, rules, refl, sym, subst, ap, inl, inr, append-nil}
 use Rattle.std.proofs.lemmas.Grind.{common_steps}
-use Rattle.node_core.specs.Step.{taken}
-use Rattle.node_core.specs.View.{site_in, state_of}
+use Rattle.run_model.specs.node_core.Step.{taken}
+use Rattle.run_model.specs.node_core.View.{site_in, state_of}
 use Rattle.weaving.specs.declared.journal.Stamped.{Stamped}
 use Rattle.weaving.specs.Account.{Note, Took, sent_to, taken_from}
 use Rattle.weaving.proofs.Accounts.{leads-to_take}

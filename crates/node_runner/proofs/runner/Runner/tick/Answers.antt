@@ -1,6 +1,6 @@
 use Rattle.std.proofs.Common.{◌+◌, [], ◌∷◌, ◌++◌, ◌∙◌, All, map, arith, refl, sym, subst, ap}
-use Rattle.node_core.specs.Step.{ticked}
-use Rattle.node_core.specs.View.{site_in, state_of}
+use Rattle.run_model.specs.node_core.Step.{ticked}
+use Rattle.run_model.specs.node_core.View.{site_in, state_of}
 use Rattle.weaving.specs.Account.{Ticked}
 use Rattle.node_runner.specs.Runner.{IsPortNoted, AreSamePorts}
 use Rattle.node_runner.proofs.Deeds.{Noted, does-one}

@@ -33,7 +33,7 @@ returns-clause-records g c =
     let worlds = c.keep_layers.ensures.keeps now.worlds now.laned in
     recorded_more start es e _ _ before after (column_of c.follow-change.new.self.marks c.counts_of-counts.result) _ now seen (c.sweeps-before.ensures.sweeps start es now.seen)
     (c.sweeps-sweeps.ensures.sweeps start (es ++ e ∷ []) seen) moment_is refl c.saturating_add-self-inside.ensures
-    (c.keep.ensures.shows now.moments now.shown) refl empty c.now_where-self-inside.ensures (rw damaged at kept) (rw end at worlds)
+    (c.keep.ensures.shows now.moments now.shown) refl empty c.begin_at.ensures (rw damaged at kept) (rw end at worlds)
 
 pub invariant_of-self : goal.invariant_of-self
 invariant_of-self g c =

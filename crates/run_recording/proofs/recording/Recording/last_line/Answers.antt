@@ -11,4 +11,4 @@ returns-in-Some-clause-text g c =
     let now = rw (← c.self.view_is) at h in
     let ended = ended_lines bytes in
     let lines_are = c.last.ensures bytes now.stands ∙ ap (λ line. ended ++ option_to_list line) c.in-Some.is in
-    rw (lines_are, flat_map-append said_event ended (c.in-Some.line ∷ [])) (c.line.ensures.records start (said_events ended) h.recorded)
+    rw (lines_are, flat_map-append said_event ended (c.in-Some.line ∷ [])) (c.rare_line.ensures.records start (said_events ended) h.recorded)

@@ -1,0 +1,71 @@
+use Rattle.std.proofs.Common.{refl}
+use Rattle.node_recorder.specs.Turns.{network_mark}
+use Rattle.gather_command.specs.declared.fault.GatherFault.{GatherFault}
+use Rattle.gather_command.specs.Reading.{MayFail, Reads, Begins}
+use Rattle.gather_command.specs.Gathered.{IsRefused}
+use Rattle.gather_command.proofs.Gathers.{reads-before, begins-before, broken-refused, fault-refused, fails-with}
+use Rattle.gather_command.proofs.Parts.{gathered-from, opened-as, fault-before, many-refused}
+use Rattle.gather_command.proofs.part.gather_last.Goals as goal
+
+pub returns-in_err-last-clause-refused : goal.returns-in_err-last-clause-refused
+returns-in_err-last-clause-refused g c =
+    let rest = g.R.File.Source.rest in
+    let reads = Reads (g.R.Records.opens c.args.records.now) rest (MayFail g.R.File.Source.failures) in
+    let begins = Begins (g.R.Records.opens c.args.records.now) rest in
+    let failures = g.S.EventSink.failures in
+    let net = c.args.net.now in
+    let sink = c.args.sink.now in
+    fails-with (λ (f : GatherFault). IsRefused reads begins failures net sink f sink) c.from_residual.result _ c.from_residual.ensures.1
+    (many-refused reads begins failures net sink _ c.in_err-last.ensures.refused)
+
+pub returns-in_err-nodes-clause-refused : goal.returns-in_err-nodes-clause-refused
+returns-in_err-nodes-clause-refused g c =
+    let rest = g.R.File.Source.rest in
+    let fails = MayFail g.R.File.Source.failures in
+    let before = g.R.Records.opens c.args.records.now in
+    let now = g.R.Records.opens c.latest.new.records in
+    let same = c.in_ok-last.ensures.same in
+    let reads = Reads before rest fails in
+    let begins = Begins before rest in
+    let failures = g.S.EventSink.failures in
+    let net = c.args.net.now in
+    let sink = c.args.sink.now in
+    fails-with (λ (f : GatherFault). IsRefused reads begins failures net sink f sink) c.from_residual-in_err-nodes.result _
+    c.from_residual-in_err-nodes.ensures.1
+    (fault-refused reads begins failures net sink sink _
+    (fault-before (Reads now rest fails) reads (Begins now rest) begins (network_mark net) net.nodes _
+    (λ v s xs f x. reads-before before now rest fails same v s xs f x) (λ v s e x. begins-before before now rest same v s e x)
+    c.in_err-nodes.ensures.refused) refl)
+
+pub returns-in_err-gathered-clause-refused : goal.returns-in_err-gathered-clause-refused
+returns-in_err-gathered-clause-refused g c =
+    let rest = g.R.File.Source.rest in
+    let reads = Reads (g.R.Records.opens c.args.records.now) rest (MayFail g.R.File.Source.failures) in
+    let begins = Begins (g.R.Records.opens c.args.records.now) rest in
+    let failures = g.S.EventSink.failures in
+    let net = c.args.net.now in
+    let before = c.args.sink.now in
+    let after = c.gather_opened.new.sink in
+    fails-with (λ (f : GatherFault). IsRefused reads begins failures net before f after) c.from_residual-in_err-gathered.result _
+    c.from_residual-in_err-gathered.ensures.1
+    (broken-refused reads begins failures net before after _ c.in_err-gathered.ensures.broken)
+
+pub returns-clause-gathered : goal.returns-clause-gathered
+returns-clause-gathered g c =
+    let rest = g.R.File.Source.rest in
+    let fails = MayFail g.R.File.Source.failures in
+    let before = g.R.Records.opens c.args.records.now in
+    let now = g.R.Records.opens c.latest.new.records in
+    let same = c.in_ok-last.ensures.same in
+    let reads = Reads before rest fails in
+    let sink = g.S.EventSink in
+    let net = c.args.net.now in
+    let nodes = c.in_ok-nodes.nodes.items in
+    let gathered = c.in_ok-gathered.gathered in
+    gathered-from fails reads sink.takes net _ c.before_last-instant.result nodes c.args.sink.now c.gather_opened.new.sink
+    gathered.summary gathered.differences.items gathered.flaws.items
+    (opened-as fails (Reads now rest fails) reads (network_mark net) 0 nodes
+    (λ v s xs f x. reads-before before now rest fails same v s xs f x) c.in_ok-nodes.ensures.opened)
+    c.in_ok-nodes.ensures.all
+    (λ entries heads. record { latest = c.in_ok-last.last; is_latest = c.in_ok-last.ensures.found; before = c.before_last-instant.ensures })
+    c.in_ok-gathered.ensures.gathered

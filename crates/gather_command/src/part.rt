@@ -1,0 +1,182 @@
+//! A stretch of the records of all nodes, woven into one list of events that begins in the midst.
+ghost use Rattle.std.specs.Prelude.{◌≡◌, ◌≤◌, ◌∷◌, [], ℕ, List, IfOk, IfErr, OnOk, Some, length};
+ghost use Rattle.gather_command.specs.Reading.{MayFail, Reads, Begins};
+ghost use Rattle.gather_command.specs.Weave.{Moment, moment_at};
+ghost use Rattle.gather_command.specs.Woven.{world_in, IsTurn, HasLed, IsOnePassed, ArePassed};
+ghost use Rattle.gather_command.specs.Woven.{IsBroken};
+ghost use Rattle.gather_command.specs.Gathered.{IsRefused};
+ghost use Rattle.gather_command.specs.Part.{IsGatheredOf, IsGatheredAs};
+ghost use Rattle.gather_command.specs.declared.stretch.Stretch.TheVariants.{From, Last};
+
+use crate::fault::GatherFault;
+use crate::gathered::{Gathered, finish, gather, open_all, weave_all};
+use crate::node_record::NodeRecord;
+use crate::records::Records;
+use crate::scene::set_up;
+use crate::stretch::{Stretch, after_first, before_last, earliest, latest};
+use crate::weaving::Weaving;
+use command_parts::schedules::EventSink;
+use record_gathering::configuration::run_model::Event;
+use record_pages::byte_streams::Source;
+use record_pages::flight_records::Entry;
+use std::alloc::{AllocError, Global};
+use topology::Net;
+
+/// Weaves a stretch of the records of all nodes of a network into one list of events, which go to the
+/// sink. The order is that of [`gather`]. If entries come before the stretch, the list begins with events
+/// that set up the network as it stood when the first entry of the stretch came next: first edges that had
+/// joined or parted, then the state of each node, and last what was under way. The summary counts them
+/// among its events and harms, but no frame that was under way among those that nobody sent. It counts
+/// nothing else of what was woven before; a loan that had begun counts from its node's next entry on.
+///
+/// # Errors
+/// As [`gather`].
+pub fn gather_stretch<R: Records, S: EventSink>(
+    alloc: Global,
+    net: &Net,
+    records: &mut R,
+    stretch: Stretch,
+    sink: &mut S,
+) -> Result<Gathered, GatherFault>
+    ensures gathered { IfOk result (λ g. IsGatheredAs stretch
+        (Reads (R.opens records.old) R.File.rest (MayFail R.File.failures)) S.takes
+        net.now sink.old g.summary g.differences.items g.flaws.items sink.new) }
+    ensures counted { OnOk result (S.failures sink.old ≤ S.failures sink.new) }
+    ensures refused { IfErr result (λ fault.
+        IsRefused (Reads (R.opens records.old) R.File.rest (MayFail R.File.failures))
+        (Begins (R.opens records.old) R.File.rest) S.failures net.now sink.old fault sink.new) }
+{
+    match stretch {
+        Stretch::Whole => gather(alloc, net, records, sink),
+        Stretch::From(seconds) => gather_from(alloc, net, records, seconds, sink),
+        Stretch::Last(seconds) => gather_last(alloc, net, records, seconds, sink),
+    }
+}
+
+/// Gathers what comes so many seconds after the earliest entry of all records, and later.
+fn gather_from<R: Records, S: EventSink>(
+    alloc: Global,
+    net: &Net,
+    records: &mut R,
+    seconds: u32,
+    sink: &mut S,
+) -> Result<Gathered, GatherFault>
+    ensures gathered { IfOk result (λ g. IsGatheredAs (From seconds)
+        (Reads (R.opens records.old) R.File.rest (MayFail R.File.failures)) S.takes
+        net.now sink.old g.summary g.differences.items g.flaws.items sink.new) }
+    ensures counted { OnOk result (S.failures sink.old ≤ S.failures sink.new) }
+    ensures refused { IfErr result (λ fault.
+        IsRefused (Reads (R.opens records.old) R.File.rest (MayFail R.File.failures))
+        (Begins (R.opens records.old) R.File.rest) S.failures net.now sink.old fault sink.new) }
+{
+    let nodes = open_all(alloc, net, records)?;
+    let instant = after_first(earliest(&nodes), seconds);
+    let gathered = gather_opened(alloc, net, nodes, instant, sink)?;
+    Ok(gathered)
+}
+
+/// Gathers what comes so many seconds before the latest entry of all records, and later. All records are
+/// read to their ends first.
+fn gather_last<R: Records, S: EventSink>(
+    alloc: Global,
+    net: &Net,
+    records: &mut R,
+    seconds: u32,
+    sink: &mut S,
+) -> Result<Gathered, GatherFault>
+    ensures gathered { IfOk result (λ g. IsGatheredAs (Last seconds)
+        (Reads (R.opens records.old) R.File.rest (MayFail R.File.failures)) S.takes
+        net.now sink.old g.summary g.differences.items g.flaws.items sink.new) }
+    ensures counted { OnOk result (S.failures sink.old ≤ S.failures sink.new) }
+    ensures refused { IfErr result (λ fault.
+        IsRefused (Reads (R.opens records.old) R.File.rest (MayFail R.File.failures))
+        (Begins (R.opens records.old) R.File.rest) S.failures net.now sink.old fault sink.new) }
+{
+    let last = latest(alloc, net, records)?;
+    let nodes = open_all(alloc, net, records)?;
+    let instant = before_last(last, seconds);
+    let gathered = gather_opened(alloc, net, nodes, instant, sink)?;
+    Ok(gathered)
+}
+
+/// Gathers what comes at an instant and later, of records that were opened.
+fn gather_opened<F: Source + Drop, S: EventSink>(
+    alloc: Global,
+    net: &Net,
+    nodes: Vec<NodeRecord<F>>,
+    instant: u64,
+    sink: &mut S,
+) -> Result<Gathered, GatherFault>
+    requires { length nodes.items ≡ net.now.nodes }
+    ensures gathered { IfOk result (λ g. IsGatheredOf (MayFail F.failures) S.takes net.now instant
+        nodes.items sink.old g.summary g.differences.items g.flaws.items sink.new) }
+    ensures counted { OnOk result (S.failures sink.old ≤ S.failures sink.new) }
+    ensures broken { IfErr result (λ fault.
+        IsBroken fault (S.failures sink.old) (S.failures sink.new)) }
+{
+    let mut weaving = Weaving::new(alloc, net, nodes)?;
+    weave_until(alloc, &mut weaving, instant)?;
+    let scene = set_up(alloc, net, weaving.world(), sink)?;
+    let (gathering, found) = scene.into_parts();
+    weaving.moves_to(gathering, found);
+    weave_all(alloc, &mut weaving, sink)?;
+    let gathered = finish(alloc, net, &weaving)?;
+    Ok(gathered)
+}
+
+/// Weaves entries, one after the other, until one of this instant or later comes next, or none is left.
+/// Their events go nowhere.
+fn weave_until<S: Source + Drop>(
+    alloc: Global,
+    weaving: &mut Weaving<S>,
+    instant: u64,
+) -> Result<(), GatherFault>
+    ensures passed { OnOk result ((ms : List Moment)
+        × ArePassed (MayFail S.failures) instant weaving.old ms weaving.new) }
+    // The sink is not to blame.
+    ensures broken { IfErr result (λ fault. (n : ℕ) → IsBroken fault n n) }
+{
+    let mut events = Vec::new(alloc);
+    for _ in 0..u64::MAX {
+        if !pass_before(weaving, instant, &mut events)? {
+            return Ok(());
+        }
+    }
+    Err(GatherFault::TooMany)
+}
+
+/// Weaves the entry that comes next, if there is one and it is earlier than this instant. Whether it did.
+fn pass_before<S: Source + Drop>(
+    weaving: &mut Weaving<S>,
+    instant: u64,
+    events: &mut Vec<Event>,
+) -> Result<bool, AllocError>
+    ensures { IfOk result (λ did.
+        IsOnePassed (MayFail S.failures) instant weaving.old did weaving.new) }
+{
+    let Some((node, entry)) = weaving.turn() else {
+        return Ok(false);
+    };
+    if instant <= entry.instant {
+        return Ok(false);
+    }
+    pass_turn(weaving, node, &entry, events)?;
+    Ok(true)
+}
+
+/// Weaves this entry, which comes next.
+fn pass_turn<S: Source + Drop>(
+    weaving: &mut Weaving<S>,
+    node: u16,
+    entry: &Entry,
+    events: &mut Vec<Event>,
+) -> Result<(), AllocError>
+    requires { IsTurn weaving.old (Some (node, entry.now)) }
+    ensures { OnOk result (HasLed (MayFail S.failures) weaving.old
+        (moment_at (world_in weaving.old) weaving.old.gathering.queues node entry.now ∷ [])
+        weaving.new) }
+{
+    weaving.notes(node, entry, events)?;
+    weaving.passes(node);
+    Ok(())
+}

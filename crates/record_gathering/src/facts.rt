@@ -1,0 +1,244 @@
+//! The facts of a world: what a world that begins as the network starts is set up by.
+ghost use Rattle.std.specs.Prelude.{◌≡◌, ◌<◌, ◌++◌, ◌∷◌, [], OnOk, map};
+ghost use Rattle.flight_records.specs.declared.entry.StatePart.TheVariants.{Waits};
+ghost use Rattle.node_follower.specs.Parts.{port_part};
+ghost use Rattle.configuration.specs.ConfigurationView.{world_of};
+ghost use Rattle.configuration.specs.node_core.View.{site_in, state_of};
+ghost use Rattle.record_gathering.specs.declared.facts.Fact.TheVariants.{State};
+ghost use Rattle.record_gathering.specs.Facts.{joins, parts, edge_changes, edge_facts, state_facts};
+ghost use Rattle.record_gathering.specs.Facts.{link_facts, links_from};
+
+use configuration::Configuration;
+use configuration::node_core::Node;
+use configuration::run_model::Harm;
+use flight_records::StatePart;
+use node_follower::{loan_part, own_part, port_part, start_part};
+use std::alloc::{AllocError, Allocator};
+use topology::Net;
+
+/// A fact of a world.
+#[derive(Clone, Copy, Debug, PartialEq, Eq)]
+pub enum Fact {
+    /// The state of a node has this part.
+    State {
+        /// The node.
+        node: u16,
+        /// The part.
+        part: StatePart,
+    },
+    /// What this harm writes: an edge that joined or parted, or an item that is under way.
+    Written(Harm),
+}
+
+/// One more fact.
+fn add<B: Allocator>(facts: &mut Vec<Fact, B>, fact: Fact) -> Result<(), AllocError>
+    ensures { OnOk result (facts.new.items ≡ facts.old.items ++ fact ∷ []) }
+{
+    facts.push(fact)?;
+    Ok(())
+}
+
+/// An edge joins a network, unless it is there.
+fn add_join<N: Allocator + Copy, B: Allocator>(
+    net: &Net<N>,
+    edge: (u16, u16),
+    facts: &mut Vec<Fact, B>,
+) -> Result<(), AllocError>
+    ensures { OnOk result (facts.new.items ≡ facts.old.items ++ joins net.now (edge ∷ [])) }
+{
+    let (node, neighbour) = edge;
+    if net.are_joined(node, neighbour) {
+        return Ok(());
+    }
+    add(facts, Fact::Written(Harm::Join { node, neighbour }))
+}
+
+/// The edges that a network does not have join.
+fn add_joins<N: Allocator + Copy, B: Allocator>(
+    net: &Net<N>,
+    edges: &[(u16, u16)],
+    facts: &mut Vec<Fact, B>,
+) -> Result<(), AllocError>
+    ensures { OnOk result (facts.new.items ≡ facts.old.items ++ joins net.now edges.now) }
+{
+    for edge in edges {
+        add_join(net, *edge, facts)?;
+    }
+    Ok(())
+}
+
+/// An edge parts, unless a network has it.
+fn add_part<N: Allocator + Copy, B: Allocator>(
+    net: &Net<N>,
+    edge: (u16, u16),
+    facts: &mut Vec<Fact, B>,
+) -> Result<(), AllocError>
+    ensures { OnOk result (facts.new.items ≡ facts.old.items ++ parts net.now (edge ∷ [])) }
+{
+    let (node, neighbour) = edge;
+    if net.are_joined(node, neighbour) {
+        return Ok(());
+    }
+    add(facts, Fact::Written(Harm::Part { node, neighbour }))
+}
+
+/// The edges that a network does not have part.
+fn add_parts<N: Allocator + Copy, B: Allocator>(
+    net: &Net<N>,
+    edges: &[(u16, u16)],
+    facts: &mut Vec<Fact, B>,
+) -> Result<(), AllocError>
+    ensures { OnOk result (facts.new.items ≡ facts.old.items ++ parts net.now edges.now) }
+{
+    for edge in edges {
+        add_part(net, *edge, facts)?;
+    }
+    Ok(())
+}
+
+/// The edges by which a network becomes another one.
+fn add_changes<N: Allocator + Copy, M: Allocator + Copy, B: Allocator>(
+    net: &Net<N>,
+    other: &Net<M>,
+    facts: &mut Vec<Fact, B>,
+) -> Result<(), AllocError>
+    ensures { OnOk result (facts.new.items
+        ≡ facts.old.items ++ edge_changes net.now other.now) }
+{
+    add_joins(net, other.edges(), facts)?;
+    add_parts(other, net.edges(), facts)
+}
+
+/// The edges by which a network becomes another one, after these facts. All of it stands there twice, as
+/// an edge for which no pair of links is left may join once another one has parted.
+pub fn add_edges<N: Allocator + Copy, M: Allocator + Copy, B: Allocator>(
+    net: &Net<N>,
+    other: &Net<M>,
+    facts: &mut Vec<Fact, B>,
+) -> Result<(), AllocError>
+    ensures { OnOk result (facts.new.items ≡ facts.old.items ++ edge_facts net.now other.now) }
+{
+    add_changes(net, other, facts)?;
+    add_changes(net, other, facts)
+}
+
+/// The ports of a node.
+fn add_ports<A: Allocator, B: Allocator>(
+    id: u16,
+    node: &Node<A>,
+    facts: &mut Vec<Fact, B>,
+) -> Result<(), AllocError>
+    ensures { OnOk result (facts.new.items ≡ facts.old.items
+        ++ map (λ u. State id (port_part (state_of node.now) u)) (site_in node.now).neighbours) }
+{
+    for neighbour in node.neighbours() {
+        add(
+            facts,
+            Fact::State {
+                node: id,
+                part: port_part(node, *neighbour),
+            },
+        )?;
+    }
+    Ok(())
+}
+
+/// The tickets that wait at a node.
+fn add_queue<A: Allocator, B: Allocator>(
+    id: u16,
+    node: &Node<A>,
+    facts: &mut Vec<Fact, B>,
+) -> Result<(), AllocError>
+    ensures { OnOk result (facts.new.items ≡ facts.old.items
+        ++ map (λ t. State id (Waits t)) (state_of node.now).desk.waiting) }
+{
+    for ticket in node.tickets() {
+        add(
+            facts,
+            Fact::State {
+                node: id,
+                part: StatePart::Waits { ticket: *ticket },
+            },
+        )?;
+    }
+    Ok(())
+}
+
+/// The whole state of a node, part after part, after these facts. `network` is the number of its
+/// network.
+pub fn add_state<A: Allocator, B: Allocator>(
+    network: u32,
+    node: &Node<A>,
+    facts: &mut Vec<Fact, B>,
+) -> Result<(), AllocError>
+    ensures { OnOk result (facts.new.items ≡ facts.old.items
+        ++ state_facts network (site_in node.now) (state_of node.now)) }
+{
+    let id = node.id();
+    let (start, own, loan) = (start_part(node, network), own_part(node), loan_part(node));
+    add(
+        facts,
+        Fact::State {
+            node: id,
+            part: start,
+        },
+    )?;
+    add(
+        facts,
+        Fact::State {
+            node: id,
+            part: own,
+        },
+    )?;
+    add_ports(id, node, facts)?;
+    add_queue(id, node, facts)?;
+    add(
+        facts,
+        Fact::State {
+            node: id,
+            part: loan,
+        },
+    )?;
+    add(
+        facts,
+        Fact::State {
+            node: id,
+            part: StatePart::Whole,
+        },
+    )
+}
+
+/// What is under way from a node to another one.
+fn add_link<A: Allocator + Copy, B: Allocator>(
+    world: &Configuration<A>,
+    from: u16,
+    to: u16,
+    facts: &mut Vec<Fact, B>,
+) -> Result<(), AllocError>
+    requires from_in { from < (world_of world.now).net.nodes }
+    requires to_in { to < (world_of world.now).net.nodes }
+    ensures { OnOk result (facts.new.items
+        ≡ facts.old.items ++ link_facts (world_of world.now) from to) }
+{
+    for index in 0..world.under_way(from, to) {
+        let item = world.item(from, to, index);
+        add(facts, Fact::Written(Harm::Item { from, to, item }))?;
+    }
+    Ok(())
+}
+
+/// What is under way from a node to each other one, after these facts; the oldest on each link first.
+pub fn add_links<A: Allocator + Copy, B: Allocator>(
+    world: &Configuration<A>,
+    from: u16,
+    facts: &mut Vec<Fact, B>,
+) -> Result<(), AllocError>
+    requires { from < (world_of world.now).net.nodes }
+    ensures { OnOk result (facts.new.items ≡ facts.old.items
+        ++ links_from (world_of world.now) from (world_of world.now).net.nodes) }
+{
+    for to in 0..world.net().nodes() {
+        add_link(world, from, to, facts)?;
+    }
+    Ok(())
+}
