@@ -19,7 +19,7 @@ program=$(realpath "${TOKENTREE:-./tokentree}")
 [ -n "${TOKENTREE:-}" ] || program=$PWD/crates/tokentree/out/tokentree
 folder=$(mktemp -d)
 trap 'rm -rf "$folder"' EXIT
-"$program" network grid 4 4 --lease 2000 > "$folder/grid.toml"
+"$program" network grid 4 4 --capacity 64 --lease 2000 > "$folder/grid.toml"
 python3 - "$program" "$folder" "$seconds" << 'PYTHON'
 import math, os, random, re, signal, subprocess, sys, threading, time
 

@@ -1,12 +1,14 @@
 -- Accounts and states that are small enough to see through.
-use Rattle.std.proofs.Common.{◌≡◌, true, [], ◌∷◌, Some, None, refl}
+use Rattle.std.proofs.Common.{◌≡◌, ℕ, List, true, false, [], ◌∷◌, Some, None, refl, ap, sym, ◌∙◌}
+use Rattle.std.proofs.lemmas.List.Elements.{All-nil}
 use Rattle.topology.specs.declared.frame.Frame.{Frame}
 use Rattle.flight_records.specs.declared.entry.Deed.TheVariants.{Ticks, Takes, Asks, Connects}
 use Rattle.flight_records.specs.declared.entry.StatePart.TheVariants.{Start, Own, Waits, Loan, Whole}
 use Rattle.accounts.specs.Deeds as account
 use Rattle.node_core.specs.Site.{Site}
-use Rattle.node_core.specs.State.{LocalState}
-use Rattle.node_follower.specs.Following.{account_of}
+use Rattle.node_core.specs.State.{LocalState, default_node}
+use Rattle.topology.specs.declared.frame.Ranges.{Ranges}
+use Rattle.node_follower.specs.Following.{account_of, LeadElsewhere}
 use Rattle.node_follower.specs.Parts.{state_parts}
 
 abbrev frame : Frame
@@ -23,3 +25,23 @@ not-the_connection e = absurd cc
 alone : (site : Site) (s : LocalState) → site.neighbours ≡ [] → s.desk ≡ record { waiting = 9 ∷ 3 ∷ []; lent = Some 4; left = 0; served = true }
     → state_parts 7 site s ≡ Start 7 site.id ∷ Own s.distance s.parent ∷ Waits 9 ∷ Waits 3 ∷ Loan (Some 4) 0 true ∷ Whole ∷ []
 alone site s none desk = rw (none, desk) refl
+
+-- node 1 of a line of three
+abbrev sizes : Ranges
+sizes = record { nodes = 3; counter = 5; ring = 13 }
+
+abbrev middle : Site
+middle = record { id = 1; is_root = false; ranges = sizes; lease = 0; neighbours = 0 ∷ 2 ∷ [] }
+
+abbrev start : LocalState
+start = default_node sizes
+
+-- a ticket that asks leads a node elsewhere than to where it stood
+asks-elsewhere : LeadElsewhere middle (Asks 7 ∷ []) start start
+asks-elsewhere own last leads same =
+    let e : ◌≡◌ {A = List ℕ} (7 ∷ []) [] = sym (ap (λ s. s.desk.waiting) leads.1) ∙ ap (λ d. d.waiting) same.0.2 in
+    absurd cc
+
+-- no deeds lead a node to where it stands
+not-without_deeds : LeadElsewhere (record middle { neighbours = [] }) [] start start → ⊥
+not-without_deeds h = h (All-nil _) start refl ((refl, refl, refl), All-nil _)

@@ -1,10 +1,11 @@
 -- What a follower does, as an account; and when two nodes stand in the same state.
-use Rattle.std.specs.Prelude.{◌≡◌, ℕ, List, [], ◌∷◌, All, flat_map}
+use Rattle.std.specs.Prelude.{◌≡◌, ℕ, Bool, true, false, List, [], ◌∷◌, All, IsTrue, flat_map}
 use Rattle.flight_records.specs.declared.entry.Deed.{Deed}
 use Rattle.flight_records.specs.declared.entry.Deed.TheVariants.{Ticks, Takes, TakesAgain, Sends}
 use Rattle.flight_records.specs.declared.entry.Deed.TheVariants.{SendsAgain, Asks, Leaves, Joins}
 use Rattle.flight_records.specs.declared.entry.Deed.TheVariants.{Parts, Connects, Disconnects}
 use Rattle.accounts.specs.Deeds as account
+use Rattle.node_core.specs.Site.{Site}
 use Rattle.node_core.specs.State.{LocalState}
 
 -- The account of a deed as a record has it, and of deeds: a connection is no deed of the node itself, a
@@ -25,6 +26,14 @@ account_of_one (Disconnects neighbour) = []
 abbrev pub account_of : List Deed → List account.Deed
 account_of ds = flat_map account_of_one ds
 
+-- a deed says by itself what the node did: its frame is named, and no edge of the node changed
+abbrev pub is_own_account : Deed → Bool
+is_own_account (TakesAgain from) = false
+is_own_account (SendsAgain to) = false
+is_own_account (Joins neighbour) = false
+is_own_account (Parts neighbour) = false
+is_own_account _ = true
+
 -- distance, parent and desk are the same
 abbrev pub AreSameAlone : LocalState → LocalState → Type 0
 AreSameAlone s t = (s.distance ≡ t.distance) × (s.parent ≡ t.parent) × (s.desk ≡ t.desk)
@@ -36,3 +45,10 @@ AreSameAt w s t = (s.port w ≡ t.port w) × (s.value w ≡ t.value w)
 -- two states of a node with these neighbours are the same
 abbrev pub AreSame : List ℕ → LocalState → LocalState → Type 0
 AreSame neighbours s t = AreSameAlone s t × All (λ w. AreSameAt w s t) neighbours
+
+-- No such deeds lead a node by its own steps from one state to where another node stands, if its
+-- neighbours are the same.
+abbrev pub LeadElsewhere : Site → List Deed → LocalState → LocalState → Type 0
+LeadElsewhere site ds from to =
+    All (λ d. IsTrue (is_own_account d)) ds → (last : LocalState)
+    → account.Leads site (account_of ds) from last → ¬ AreSame site.neighbours last to

@@ -1,16 +1,17 @@
 //! A second node.
-ghost use Rattle.std.specs.Prelude.{◌≡◌, ◌<◌, ◌≤◌, true, false, IfOk, IsTrue, Contains, []};
+ghost use Rattle.std.specs.Prelude.{◌≡◌, ◌<◌, ◌≤◌, ◌↔◌, true, false, IfOk, IsTrue, Contains, []};
 ghost use Rattle.std.specs.Prelude.{All, ◌∷◌, length};
 ghost use Rattle.accounts.specs.Deeds.{Leads};
 ghost use Rattle.node_core.specs.Site.{site_of};
-ghost use Rattle.node_core.specs.State.{default_node};
+ghost use Rattle.node_core.specs.State.{default_node, LocalState};
 ghost use Rattle.node_core.specs.View.{site_in, state_of};
 ghost use Rattle.topology.specs.Network.{neighbours_of};
 ghost use Rattle.topology.specs.Ranges.{ranges_of};
 ghost use Rattle.flight_records.specs.declared.entry.Deed.TheVariants as flight_deed;
 ghost use Rattle.accounts.specs.Deeds.{after_ask};
 ghost use Rattle.lock_desk.specs.Desk.{after_leave};
-ghost use Rattle.node_follower.specs.Following.{account_of, AreSame, AreSameAlone, AreSameAt};
+ghost use Rattle.node_follower.specs.Following.{account_of, is_own_account};
+ghost use Rattle.node_follower.specs.Following.{AreSame, AreSameAlone, AreSameAt};
 
 use flight_records::Deed;
 use flight_records::topology::Net;
@@ -57,6 +58,10 @@ impl<A: Allocator + Copy> Follower<A> {
     pub fn follow(&mut self, deeds: &[Deed]) -> bool
         ensures leads { IsTrue result → Leads (site_in self.old) (account_of deeds.now)
             (state_of self.old) (state_of self.new) }
+        // Else no node's own steps do, if each deed says by itself what the node did.
+        ensures refused { result ≡ false → All (λ d. IsTrue (is_own_account d)) deeds.now
+            → (last : LocalState)
+            → ¬ Leads (site_in self.old) (account_of deeds.now) (state_of self.old) last }
         ensures site { site_in self.new ≡ site_in self.old }
     {
         accounts::laws::accounts();
@@ -72,6 +77,8 @@ impl<A: Allocator + Copy> Follower<A> {
     pub fn does(&mut self, deed: &Deed) -> bool
         ensures leads { IsTrue result → Leads (site_in self.old) (account_of (deed.now ∷ []))
             (state_of self.old) (state_of self.new) }
+        ensures undone { result ≡ false → IsTrue (is_own_account deed.now) → (last : LocalState)
+            → ¬ Leads (site_in self.old) (account_of (deed.now ∷ [])) (state_of self.old) last }
         ensures site { site_in self.new ≡ site_in self.old }
         ensures refused { result ≡ false → self.new ≡ self.old }
     {
@@ -102,6 +109,8 @@ impl<A: Allocator + Copy> Follower<A> {
     fn takes(&mut self, from: u16, frame: Frame) -> bool
         ensures leads { IsTrue result → Leads (site_in self.old)
             (account_of (flight_deed.Takes from frame ∷ [])) (state_of self.old) (state_of self.new) }
+        ensures undone { result ≡ false → (last : LocalState) → ¬ Leads (site_in self.old)
+            (account_of (flight_deed.Takes from frame ∷ [])) (state_of self.old) last }
         ensures site { site_in self.new ≡ site_in self.old }
         ensures refused { result ≡ false → self.new ≡ self.old }
     {
@@ -114,6 +123,8 @@ impl<A: Allocator + Copy> Follower<A> {
 
     /// Whether it sends this frame to a neighbour.
     fn sends(&self, to: u16, frame: &Frame) -> bool
+        ensures undone { result ≡ false → (last : LocalState) → ¬ Leads (site_in self.now)
+            (account_of (flight_deed.Sends to frame.now ∷ [])) (state_of self.now) last }
         ensures leads { IsTrue result → Leads (site_in self.now)
             (account_of (flight_deed.Sends to frame.now ∷ [])) (state_of self.now) (state_of self.now) }
     {
@@ -145,15 +156,18 @@ impl<A: Allocator + Copy> Follower<A> {
     /// Whether it stands as a node stands: distance, parent and desk are the same, and, of each of its
     /// neighbours, the port and the value.
     pub fn stands_as<B: Allocator>(&self, node: &Node<B>) -> bool
-        ensures { IsTrue result → AreSame (site_in self.now).neighbours (state_of self.now)
+        ensures stands { IsTrue result → AreSame (site_in self.now).neighbours (state_of self.now)
             (state_of node.now) }
+        ensures elsewhere { result ≡ false
+            → (site_in self.now).neighbours ≡ (site_in node.now).neighbours
+            → ¬ AreSame (site_in self.now).neighbours (state_of self.now) (state_of node.now) }
     {
         self.stands_alone_as(node) && ports_stand_as(&self.node, node)
     }
 
     /// Whether distance, parent and desk are the same.
     fn stands_alone_as<B: Allocator>(&self, node: &Node<B>) -> bool
-        ensures { IsTrue result → AreSameAlone (state_of self.now) (state_of node.now) }
+        ensures { IsTrue result ↔ AreSameAlone (state_of self.now) (state_of node.now) }
     {
         self.node.distance() == node.distance()
             && self.node.parent() == node.parent()
@@ -204,7 +218,7 @@ impl<A: Allocator + Copy> Follower<A> {
 
 /// Whether the desks of two nodes are the same.
 fn desk_stands_as<A: Allocator, B: Allocator>(one: &Node<A>, other: &Node<B>) -> bool
-    ensures { IsTrue result → (state_of one.now).desk ≡ (state_of other.now).desk }
+    ensures { IsTrue result ↔ (state_of one.now).desk ≡ (state_of other.now).desk }
 {
     one.lent() == other.lent()
         && one.left() == other.left()
@@ -215,8 +229,10 @@ fn desk_stands_as<A: Allocator, B: Allocator>(one: &Node<A>, other: &Node<B>) ->
 /// Whether the ports of a node to its neighbours, and the values of the machines that come in there, are
 /// those of another one.
 fn ports_stand_as<A: Allocator, B: Allocator>(one: &Node<A>, other: &Node<B>) -> bool
-    ensures { IsTrue result → All (λ w. AreSameAt w (state_of one.now) (state_of other.now))
+    ensures stand { IsTrue result → All (λ w. AreSameAt w (state_of one.now) (state_of other.now))
         (site_in one.now).neighbours }
+    ensures elsewhere { result ≡ false → (site_in one.now).neighbours ≡ (site_in other.now).neighbours
+        → ¬ All (λ w. AreSameAt w (state_of one.now) (state_of other.now)) (site_in one.now).neighbours }
 {
     for w in one.neighbours() {
         if !port_stands_as(one, other, *w) {
@@ -229,7 +245,10 @@ fn ports_stand_as<A: Allocator, B: Allocator>(one: &Node<A>, other: &Node<B>) ->
 /// Whether the ports of two nodes to a third, and the values of the machines that come in there, are the
 /// same.
 fn port_stands_as<A: Allocator, B: Allocator>(one: &Node<A>, other: &Node<B>, w: u16) -> bool
-    ensures { IsTrue result → AreSameAt w (state_of one.now) (state_of other.now) }
+    ensures stands { IsTrue result → AreSameAt w (state_of one.now) (state_of other.now) }
+    ensures elsewhere { result ≡ false → Contains (site_in one.now).neighbours w
+        → Contains (site_in other.now).neighbours w
+        → ¬ AreSameAt w (state_of one.now) (state_of other.now) }
 {
     one.is_neighbour(w)
         && other.is_neighbour(w)
@@ -265,14 +284,14 @@ fn take_over_port<A: Allocator + Copy, B: Allocator>(to: &mut Node<A>, from: &No
 
 /// Whether two payloads are equal.
 fn same_payload(one: &Payload, other: &Payload) -> bool
-    ensures { IsTrue result → one.now ≡ other.now }
+    ensures { IsTrue result ↔ one.now ≡ other.now }
 {
     one.distance == other.distance && one.parent == other.parent && one.ring == other.ring
 }
 
 /// Whether two frames are equal.
 fn same_frame(one: &Frame, other: &Frame) -> bool
-    ensures { IsTrue result → one.now ≡ other.now }
+    ensures { IsTrue result ↔ one.now ≡ other.now }
 {
     one.seq == other.seq && one.ack == other.ack && same_payload(&one.payload, &other.payload)
 }

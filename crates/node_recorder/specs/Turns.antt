@@ -11,7 +11,7 @@ use Rattle.node_follower.specs.accounts.Deeds.{Leads}
 use Rattle.node_follower.specs.node_core.Site.{Site}
 use Rattle.node_follower.specs.node_core.State.{LocalState}
 use Rattle.node_follower.specs.node_core.View.{NodeView, site_in, state_of}
-use Rattle.node_follower.specs.Following.{account_of, AreSame}
+use Rattle.node_follower.specs.Following.{account_of, AreSame, LeadElsewhere}
 use Rattle.node_follower.specs.Parts.{loan_part, own_part, port_part, state_parts}
 use Rattle.node_recorder.specs.declared.recorder.NodeRecorder.{NodeRecorder}
 
@@ -82,10 +82,12 @@ module _ {A : Type 0} (now : ℕ) (deeds : List Deed) (has_all : Bool) (node : N
         (state_of new.follower)
     pub stands : AreSame (site_in new.follower).neighbours (state_of new.follower) (state_of node)
 
-  -- After the deeds, of which some may be missing, or which lead elsewhere, the node's whole state is noted
-  -- too.
+  -- After the deeds, of which some are missing, or which lead elsewhere, the node's whole state is noted
+  -- too. It is, as well, if the node has other neighbours than the second one.
   pub record NotesBoth : Type 0 where
     pub known : old.is_lost ≡ false
+    pub needed : has_all ≡ true → (site_in old.follower).neighbours ≡ (site_in node).neighbours
+        → LeadElsewhere (site_in old.follower) deeds (state_of old.follower) (state_of node)
     pub pages : new.pages ≡ after_parts now (state_parts old.network (site_in node) (state_of node))
         (after_deeds now deeds (with_beginning now old))
     pub stands : Stands new node

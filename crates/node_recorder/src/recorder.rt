@@ -4,7 +4,7 @@ ghost use Rattle.node_follower.specs.accounts.Deeds.{Leads};
 ghost use Rattle.node_follower.specs.node_core.Site.{site_of};
 ghost use Rattle.node_follower.specs.node_core.View.{site_in, state_of};
 ghost use Rattle.flight_recorder.specs.Recorder.{after_failure, after_write, fills};
-ghost use Rattle.node_follower.specs.Following.{account_of, AreSame};
+ghost use Rattle.node_follower.specs.Following.{account_of, AreSame, LeadElsewhere};
 ghost use Rattle.node_follower.specs.Parts.{state_parts};
 ghost use Rattle.node_recorder.specs.Turns.{after_deeds, after_parts, after_ports, after_queue, after_state};
 ghost use Rattle.node_recorder.specs.Turns.{mixed, network_mark, is_to_begin, with_beginning};
@@ -14,7 +14,7 @@ use flight_recorder::Recorder;
 use flight_recorder::flight_records::{Deed, Noted, StatePart};
 use node_follower::flight_records::topology::Net;
 use node_follower::node_core::Node;
-use node_follower::{Follower, loan_part, own_part, port_part, start_part};
+use node_follower::{Follower, accounts, loan_part, own_part, port_part, start_part};
 use std::alloc::{AllocError, Allocator, Global};
 
 /// Records a node turn by turn.
@@ -106,8 +106,13 @@ impl<A: Allocator + Copy> NodeRecorder<A> {
             (state_of self.old.follower) (state_of self.new.follower) }
         ensures stands { IsTrue result → AreSame (site_in self.new.follower).neighbours
             (state_of self.new.follower) (state_of node.now) }
+        ensures elsewhere { result ≡ false
+            → (site_in self.old.follower).neighbours ≡ (site_in node.now).neighbours
+            → LeadElsewhere (site_in self.old.follower) deeds.now (state_of self.old.follower)
+            (state_of node.now) }
         ensures rest { self.new ≡ record self.old { follower = self.new.follower } }
     {
+        accounts::laws::accounts();
         self.follower.follow(deeds) && self.follower.stands_as(node)
     }
 

@@ -107,13 +107,20 @@ fn rests_after(rt: &HostRuntime, dir: &str, events: &str) -> Result<bool, Fail> 
     has_lines(replayed.as_slice(), &RESTING)
 }
 
-/// Nodes of whom nobody is killed: whether they serve, rest, and stop; and whether the replay rests.
-fn undisturbed(rt: &HostRuntime, dir: &str) -> Result<[bool; 4], Fail> {
+/// Nodes of whom nobody is killed: whether they serve, rest, and stop; whether the replay rests; and whether
+/// it differs nowhere from what was recorded, and each frame that was taken was sent.
+fn undisturbed(rt: &HostRuntime, dir: &str) -> Result<[bool; 6], Fail> {
     let (trio, serve) = start(rt, dir)?;
     let at_rest = rest(rt, dir)?;
     let stopped = all_stop(rt, dir, trio)?;
-    let (_, replayed) = gathered(rt, dir)?;
-    Ok([serve, at_rest, stopped, replayed])
+    let (said, replayed) = gathered(rt, dir)?;
+    let same = has_line(said.as_slice(), "tokentree: differences 0", "")?;
+    let sent = has_line(
+        said.as_slice(),
+        "tokentree: frames lost ",
+        ", frames that nobody sent 0",
+    )?;
+    Ok([serve, at_rest, stopped, replayed, same, sent])
 }
 
 #[test]
@@ -121,7 +128,7 @@ fn records_lead_to_where_nodes_stood(rt: HostRuntime) -> Result<(), Fail> {
     let dir = fresh_folder(&rt, "recorded-trio", RING)?;
     let held = undisturbed(&rt, dir.as_str())?;
     clean(&rt, dir.as_str())?;
-    is_expected(&held, &[true; 4])
+    is_expected(&held, &[true; 6])
 }
 
 /// Sends node 0 frames that node 2 did not send, in its name.

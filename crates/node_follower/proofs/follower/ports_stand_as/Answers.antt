@@ -16,8 +16,8 @@ loop-w-preserved g c =
     let same : AreSameAt (slice_index_or ws i 0) s t = search rules in
     subst (λ xs. All (λ w. AreSameAt w s t) xs) (sym (take_more ws i 0 there)) (All-push (λ w. AreSameAt w s t) (take i ws) (slice_index_or ws i 0) c.loop-w.invariant same)
 
-pub returns : goal.returns
-returns g c _ =
+pub returns-clause-stand : goal.returns-clause-stand
+returns-clause-stand g c _ =
     let ws = c.args.one.now.registers.neighbours in
     let s = state_of c.args.one.now in
     let t = state_of c.args.other.now in
