@@ -80,8 +80,8 @@ are named. Four lines sum it all up:
   tokentree: nodes 3, events 1200, time 5000000 microseconds
   tokentree: frames lost 3, harms 2, frames that nobody sent 0
   tokentree: differences 1
-  tokentree: longest turn 2500 microseconds, loans 7, longest loan 90000
-             microseconds to ticket 7 at node 1
+  tokentree: longest turn 2500 microseconds, longest delay 900, loans 7,
+             longest loan 90000 microseconds to ticket 7 at node 1
 
 With --from or --last, 0 to 4294967295 seconds, the list begins later: lines of
 harm first set each node, edge and frame under way as it stood then. The numbers
@@ -92,7 +92,13 @@ count as sent by nobody, so begin after that.
 
 The time is that from the first entry to the last one. A frame counts as lost
 once a later one was taken. A turn is the time from one tick of a node to its
-next one. A loan counts when it begins; the longest is one that ended.
+next one. A delay is the time from the turn in which a frame was sent to the one
+in which it was taken, by the clocks of both nodes. A loan counts when it
+begins; the longest is one that ended.
+
+Give the network capacity 64 or more, as processes need: if more frames are
+under way than its capacity, the list loses some, and they count as lost or sent
+by nobody.
 
 Nothing is printed if a node has no record, or if a file cannot be read, is none
 of this version, or is the record of another node or network. A file that ends

@@ -2,6 +2,8 @@
 use Rattle.std.proofs.Common.{◌≡◌, ◌∙◌, ap, sym, ℕ, List, [], ◌∷◌, Option, Some, None, true, refl, arith}
 use Rattle.std.specs.Prelude.{fold}
 use Rattle.record_gathering.specs.configuration.run_model.World.{World}
+use Rattle.record_gathering.specs.configuration.run_model.declared.event.Event.TheVariants.{Send, Take, Lose, Damage}
+use Rattle.record_gathering.specs.configuration.run_model.declared.event.Harm.TheVariants.{Part}
 use Rattle.record_pages.specs.flight_records.declared.entry.Entry.{Entry}
 use Rattle.record_pages.specs.flight_records.declared.entry.Noted.{Noted}
 use Rattle.record_pages.specs.flight_records.declared.entry.Noted.TheVariants as noted
@@ -16,6 +18,7 @@ use Rattle.gather_command.specs.declared.damage.Difference.{Difference}
 use Rattle.gather_command.specs.declared.fault.FlawKind.TheVariants as kind
 use Rattle.gather_command.specs.Reading.{IsReadOn, Ends, Tears, Nameless, Stops, Further, start_of}
 use Rattle.gather_command.specs.Records.{starts_earlier}
+use Rattle.gather_command.specs.Delays.{DelaysView, no_delays, delays_after}
 use Rattle.gather_command.specs.Weave.{Moment, IsWoven, NoneLeft}
 use Rattle.gather_command.specs.Watch.{Seen, seen_after, nothing_seen}
 
@@ -73,6 +76,20 @@ loan = refl
 
 not-of-two-nodes : seen.watch.longest_turn ≡ 30 → ⊥
 not-of-two-nodes e = cc e
+
+-- two frames of node 0 are accepted at 10 and 20; the first is lost, and the second is taken at 50
+abbrev under_way : DelaysView
+under_way = delays_after (delays_after no_delays 10 (Send 0 1 ∷ [])) 20 (Send 0 1 ∷ [])
+
+delay : (delays_after under_way 50 (Lose 0 1 0 ∷ Take 0 1 ∷ [])).longest ≡ 30
+delay = refl
+
+delay-not : (delays_after under_way 50 (Lose 0 1 0 ∷ Take 0 1 ∷ [])).longest ≡ 40 → ⊥
+delay-not e = cc e
+
+-- once their edge went, nothing is under way
+parted : (delays_after under_way 50 (Damage (Part 1 0) ∷ Take 0 1 ∷ [])).longest ≡ 0
+parted = refl
 
 -- weaving does not end while an entry is left
 none-left-out : (w : World) → w.net.nodes ≡ 1 → IsWoven w [] ((tick 9 ∷ []) ∷ []) [] → ⊥

@@ -11,6 +11,7 @@ pub mod View
 pub mod Records
 pub mod Weave
 pub mod Damage
+pub mod Delays
 pub mod Watch
 pub mod WeavingView
 pub mod Scene

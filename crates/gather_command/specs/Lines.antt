@@ -60,11 +60,11 @@ lasted_text (Some l) =
     codes ", longest loan " ++ (decimal l.time ++ (codes " microseconds to ticket " ++ (decimal l.ticket
     ++ (codes " at node " ++ decimal l.node))))
 
--- how long turns and loans took
+-- how long turns, frames and loans took
 abbrev pub loans_line : Summary → List ℕ
 loans_line s =
-    codes "longest turn " ++ (decimal s.longest_turn ++ (codes " microseconds, loans " ++ (decimal s.loans
-    ++ lasted_text s.longest_loan)))
+    codes "longest turn " ++ (decimal s.longest_turn ++ (codes " microseconds, longest delay " ++ (decimal s.longest_delay
+    ++ (codes ", loans " ++ (decimal s.loans ++ lasted_text s.longest_loan)))))
 
 -- a field, by its name
 abbrev pub field_text : Field → List ℕ

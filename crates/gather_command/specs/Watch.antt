@@ -17,6 +17,7 @@ use Rattle.gather_command.specs.declared.summary.Lasted.{Lasted}
 use Rattle.gather_command.specs.declared.summary.Summary.{Summary}
 use Rattle.gather_command.specs.Damage.{DamageView, no_damage, with_fields}
 use Rattle.gather_command.specs.Weave.{Moment}
+use Rattle.gather_command.specs.Delays.{DelaysView, no_delays, delays_after, since}
 
 -- what is watched of each node, and of all: the longest time from one tick of a node to its next one,
 -- how many loans began, and the longest one that ended
@@ -36,11 +37,6 @@ unwatched n = record { nodes = replicate n unknown; longest_turn = 0; loans = 0;
 
 abbrev pub watched_of : WatchView → ℕ → Watched
 watched_of w v = slice_index_or w.nodes v unknown
-
--- the time since an instant, if there was one
-abbrev pub since : Option ℕ → ℕ → ℕ
-since None instant = 0
-since (Some before) instant = instant - before
 
 -- a node's whole state was noted
 abbrev pub with_state : WatchView → ℕ → WatchView
@@ -139,22 +135,24 @@ pub record Seen : Type 0 where
   pub found : Found
   pub damage : DamageView
   pub watch : WatchView
+  pub delays : DelaysView
   pub span : Option Span
 
 abbrev pub nothing_seen : ℕ → Seen
-nothing_seen n = record { found = nothing; damage = no_damage; watch = unwatched n; span = None }
+nothing_seen n = record { found = nothing; damage = no_damage; watch = unwatched n; delays = no_delays; span = None }
 
 abbrev pub seen_after : Seen → Moment → Seen
 seen_after s m = record {
   found = with_entry s.found m.events;
   damage = with_differences s.watch s.damage m;
   watch = with_moment s.watch m;
+  delays = delays_after s.delays m.entry.instant m.events;
   span = with_instant s.span m.entry.instant;
 }
 
 -- Where a list of events begins in the midst, so many events set up the world in front of it: of what was
 -- seen before, only which nodes' whole states were noted is kept. A loan of then counts from its node's next
--- entry on. The frames that the events put under way are none that nobody sent.
+-- entry on. The frames that the events put under way are none that nobody sent, and were sent when they were.
 abbrev pub one_again : Watched → Watched
 one_again n = record { is_known = n.is_known; ticked = None; loan = None }
 
@@ -162,7 +160,13 @@ abbrev pub watched_again : WatchView → WatchView
 watched_again w = record { nodes = map one_again w.nodes; longest_turn = 0; loans = 0; longest_loan = None }
 
 abbrev pub seen_again : Seen → Found → Seen
-seen_again s found = record { found = record found { forged = 0 }; damage = no_damage; watch = watched_again s.watch; span = None }
+seen_again s found = record {
+  found = record found { forged = 0 };
+  damage = no_damage;
+  watch = watched_again s.watch;
+  delays = record s.delays { longest = 0 };
+  span = None;
+}
 
 -- what a recording of so many nodes shows, in numbers
 abbrev pub numbers_of : ℕ → Seen → Summary
@@ -172,6 +176,7 @@ numbers_of n s = record {
   found = s.found;
   differences = s.damage.count;
   longest_turn = s.watch.longest_turn;
+  longest_delay = s.delays.longest;
   loans = s.watch.loans;
   longest_loan = s.watch.longest_loan;
 }

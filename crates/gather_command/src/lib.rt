@@ -32,6 +32,7 @@
 mod begun_file;
 pub mod command;
 mod damage;
+mod delays;
 mod fault;
 mod folder;
 mod gathered;

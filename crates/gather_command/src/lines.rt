@@ -169,7 +169,7 @@ impl fmt::Display for LastedText {
     }
 }
 
-/// How long turns and loans took, as a line without its end.
+/// How long turns, frames and loans took, as a line without its end.
 #[derive(Clone, Copy)]
 pub struct LoansLine(pub Summary);
 
@@ -180,9 +180,12 @@ impl fmt::Display for LoansLine {
     ghost output = { λ line. Some (loans_line line.0) };
 
     fn fmt<W: fmt::Write>(&self, f: &mut fmt::Formatter<W>) -> fmt::Result {
-        let (turn, loans) = (self.0.longest_turn, self.0.loans);
-        let lasted = LastedText(self.0.longest_loan);
-        write!(f, "longest turn {turn} microseconds, loans {loans}{lasted}")
+        let (turn, delay) = (self.0.longest_turn, self.0.longest_delay);
+        let (loans, lasted) = (self.0.loans, LastedText(self.0.longest_loan));
+        write!(
+            f,
+            "longest turn {turn} microseconds, longest delay {delay}, loans {loans}{lasted}"
+        )
     }
 }
 

@@ -1,9 +1,10 @@
 //! What is seen of the entries that were woven.
-ghost use Rattle.std.specs.Prelude.{◌≡◌, ◌<◌, IfOk, length, if◌then◌else◌};
+ghost use Rattle.std.specs.Prelude.{◌≡◌, ◌<◌, IfOk, OnOk, length, if◌then◌else◌};
 ghost use Rattle.gather_command.specs.Watch.{nothing_seen, seen_after, numbers_of, is_tick};
 ghost use Rattle.gather_command.specs.Watch.{is_whole, watched_after, seen_again};
 
 use crate::damage::{Damage, Difference};
+use crate::delays::Delays;
 use crate::summary::Summary;
 use crate::watch::{Span, Watch, length_of, with_instant};
 use record_gathering::configuration::run_model::Event;
@@ -18,6 +19,7 @@ pub struct Sight {
     found: Found,
     damage: Damage,
     watch: Watch,
+    delays: Delays,
     span: Option<Span>,
 }
 
@@ -30,6 +32,7 @@ impl Model for Sight {
       found = s.found;
       damage = s.damage;
       watch = s.watch;
+      delays = s.delays;
       span = s.span;
     } };
 }
@@ -51,6 +54,15 @@ fn is_whole(noted: &Noted) -> bool
 /// Watches a node, of whose record an entry was woven; after that the node lends to this ticket.
 fn watch_entry(watch: &mut Watch, node: u16, entry: &Entry, lent: Option<u16>)
     requires { node < length watch.old.nodes }
+    ensures watched { watch.new ≡ watched_after watch.old node entry.now lent }
+    ensures nodes { length watch.new.nodes ≡ length watch.old.nodes }
+{
+    watch_parts(watch, node, entry, lent);
+}
+
+/// Watches the end of a state, a tick, and a loan that begins or ends.
+fn watch_parts(watch: &mut Watch, node: u16, entry: &Entry, lent: Option<u16>)
+    requires { node < length watch.old.nodes }
     ensures { watch.new ≡ watched_after watch.old node entry.now lent }
 {
     if is_whole(&entry.noted) {
@@ -71,12 +83,16 @@ impl Sight {
             found: Found::new(),
             damage: Damage::new(alloc)?,
             watch: Watch::new(alloc, nodes)?,
+            delays: Delays::new(alloc)?,
             span: None,
         })
     }
 
     /// An entry of a node's record became these events, after which the node lends to this ticket.
     /// These fields of the node stood otherwise before them.
+    ///
+    /// # Errors
+    /// If memory runs out.
     pub fn sees(
         &mut self,
         node: u16,
@@ -84,22 +100,25 @@ impl Sight {
         events: &[Event],
         lent: Option<u16>,
         fields: &[Option<Field>],
-    )
+    ) -> Result<(), AllocError>
         requires { node < length self.old.watch.nodes }
-        ensures { self.new ≡ seen_after self.old (record {
+        ensures seen { OnOk result (self.new ≡ seen_after self.old (record {
           node = node;
           entry = entry.now;
           events = events.now;
           lent = lent;
           fields = fields.now;
-        }) }
+        })) }
+        ensures nodes { length self.new.watch.nodes ≡ length self.old.watch.nodes }
     {
+        self.delays.sees(entry.instant, events)?;
         self.found.count_entry(events);
         if self.watch.is_known(node) {
             self.damage.add(node, entry.instant, fields);
         }
         watch_entry(&mut self.watch, node, entry, lent);
         self.span = with_instant(self.span, entry.instant);
+        Ok(())
     }
 
     /// Nothing was seen but so many events, which set up the world. Which nodes' whole states were noted
@@ -111,6 +130,7 @@ impl Sight {
         self.found.forged = 0;
         self.damage.begins_again();
         self.watch.begins_again();
+        self.delays.begins_again();
         self.span = None;
     }
 
@@ -131,6 +151,7 @@ impl Sight {
             found: self.found,
             differences: self.damage.count(),
             longest_turn: self.watch.longest_turn(),
+            longest_delay: self.delays.longest(),
             loans: self.watch.loans(),
             longest_loan: self.watch.longest_loan(),
         }

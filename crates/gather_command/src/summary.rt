@@ -26,6 +26,9 @@ pub struct Summary {
     pub differences: u64,
     /// The longest time from one tick of a node to its next one, in microseconds.
     pub longest_turn: u64,
+    /// The longest time from the turn in which a link accepted a frame to the turn in which it was taken, in
+    /// microseconds, each by its node's clock.
+    pub longest_delay: u64,
     /// How often the lock was lent.
     pub loans: u64,
     /// The longest loan that ended, if one did.

@@ -1,7 +1,8 @@
 //! What is watched of each node while its record is read: its turns and its loans.
 ghost use Rattle.std.specs.Prelude.{◌≡◌, ◌<◌, IfOk, option_map, length, map};
+ghost use Rattle.gather_command.specs.Delays.{since};
 ghost use Rattle.gather_command.specs.Watch.{unwatched, watched_of, with_state, with_tick};
-ghost use Rattle.gather_command.specs.Watch.{with_lent, since, loan_to, with_loan, ended_loan};
+ghost use Rattle.gather_command.specs.Watch.{with_lent, loan_to, with_loan, ended_loan};
 ghost use Rattle.gather_command.specs.Watch.{longer, with_instant, length_of, one_again, watched_again};
 ghost use Rattle.record_pages.specs.flight_records.Again.{same_node};
 
@@ -55,7 +56,7 @@ impl Model for Watch {
 }
 
 /// The time since an instant, if there was one.
-fn since(before: Option<u64>, instant: u64) -> u64
+pub fn since(before: Option<u64>, instant: u64) -> u64
     ensures { result ≡ since before instant }
 {
     match before {

@@ -155,7 +155,7 @@ impl<S: Source + Drop> Weaving<S> {
         let fields = self.gathering.fields(node, &entry.noted);
         self.gathering.notes(node, &entry.noted, events)?;
         let lent = self.gathering.world().node(node).lent();
-        self.sight.sees(node, entry, events, lent, &fields);
+        self.sight.sees(node, entry, events, lent, &fields)?;
         Ok(())
     }
 

@@ -88,7 +88,7 @@ impl Found {
 }
 
 /// Whether one of these events writes a frame or noise to a link.
-fn any_written(events: &[Event]) -> bool
+pub fn any_written(events: &[Event]) -> bool
     ensures { result ≡ any_written events.now }
 {
     let mut found = false;

@@ -41,5 +41,5 @@ pub use configuration::run_model;
 pub use facts::Fact;
 pub use fields::Field;
 pub use flight_records;
-pub use found::Found;
+pub use found::{Found, any_written};
 pub use gathering::Gathering;

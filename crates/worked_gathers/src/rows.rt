@@ -118,20 +118,31 @@ pub fn sender(alloc: Global) -> Result<Vec<u8>, Fail> {
 
 /// The record of node 1, whose clock is slow: it takes a frame, and ticks twice.
 pub fn taker(alloc: Global, network: u32, node: u16, frame: Frame) -> Result<Vec<u8>, Fail> {
+    taker_at(alloc, 905, network, node, frame)
+}
+
+/// The record of node 1: it takes a frame at an instant, and ticks 5 and 55 microseconds later.
+fn taker_at(
+    alloc: Global,
+    instant: u64,
+    network: u32,
+    node: u16,
+    frame: Frame,
+) -> Result<Vec<u8>, Fail> {
     record_of(
         alloc,
         &[
             (900, start(network, node)),
-            (905, Noted::Deed(Deed::Takes { from: 0, frame })),
-            (910, Noted::Deed(Deed::Ticks)),
-            (960, Noted::Deed(Deed::Ticks)),
+            (instant, Noted::Deed(Deed::Takes { from: 0, frame })),
+            (instant.saturating_add(5), Noted::Deed(Deed::Ticks)),
+            (instant.saturating_add(55), Noted::Deed(Deed::Ticks)),
         ],
     )
 }
 
 /// What is gathered of these records: the events; what is wrong, if nothing was gathered; the numbers,
 /// in the order of the lines; and the first flaw.
-type Found = (Vec<Event>, Option<GatherFault>, [u64; 10], Option<Flaw>);
+type Found = (Vec<Event>, Option<GatherFault>, [u64; 11], Option<Flaw>);
 
 /// How long a loan was; 0 if there is none.
 fn time_of(loan: Option<Lasted>) -> u64 {
@@ -162,13 +173,14 @@ fn gathered(alloc: Global, first: MemoryRecord, second: MemoryRecord) -> Result<
                     numbers.found.forged,
                     numbers.differences,
                     numbers.longest_turn,
+                    numbers.longest_delay,
                     numbers.loans,
                     time_of(numbers.longest_loan),
                 ],
                 gathered.flaws.first().copied(),
             ))
         }
-        Err(fault) => Ok((kept.events, Some(fault), [0; 10], None)),
+        Err(fault) => Ok((kept.events, Some(fault), [0; 11], None)),
     }
 }
 
@@ -219,7 +231,24 @@ fn a_frame_is_taken_after_it_was_sent(rt: HostRuntime) -> Result<(), Fail> {
             numbers,
             flaw,
         )),
-        &(true, None, [2, 200, 5, 0, 0, 0, 0, 50, 0, 0], None),
+        &(true, None, [2, 200, 5, 0, 0, 0, 0, 50, 0, 0, 0], None),
+    )
+}
+
+/// What is gathered if node 1 takes the frame of node 0 at this instant.
+fn taken_at(alloc: Global, instant: u64) -> Result<[u64; 11], Fail> {
+    let first = sender(alloc)?;
+    let second = taker_at(alloc, instant, MARK, 1, FRAME)?;
+    let (_, _, numbers, _) = gathered(alloc, one(&first), one(&second))?;
+    Ok(numbers)
+}
+
+// it was sent at 1100; node 1 ticks last at 1192, and its record begins at 900
+#[test]
+fn a_frame_is_taken_after_a_while(rt: HostRuntime) -> Result<(), Fail> {
+    as_expected(
+        taken_at(rt.alloc(), 1137),
+        &[2, 292, 5, 0, 0, 0, 0, 50, 37, 0, 0],
     )
 }
 
@@ -257,7 +286,7 @@ fn a_forged_frame_is_a_harm(rt: HostRuntime) -> Result<(), Fail> {
             numbers,
             flaw,
         )),
-        &(true, None, [2, 200, 8, 0, 2, 1, 0, 50, 0, 0], None),
+        &(true, None, [2, 200, 8, 0, 2, 1, 0, 50, 0, 0, 0], None),
     )
 }
 
