@@ -75,7 +75,7 @@ fn watch_parts(watch: &mut Watch, node: u16, entry: &Entry, lent: Option<u16>)
 }
 
 impl Sight {
-    /// Nothing is seen of so many nodes. All memory is reserved here.
+    /// Nothing is seen of so many nodes. `AllocError` comes only if memory is refused.
     pub fn new(alloc: Global, nodes: u16) -> Result<Sight, AllocError>
         ensures { IfOk result (λ s. s ≡ nothing_seen nodes) }
     {
