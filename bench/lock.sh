@@ -6,7 +6,8 @@
 # and flock; takes half a minute for each ring. The program is ./tokentree, or what TOKENTREE names.
 #
 # bench/lock.sh --record [NODES..] compares nodes that keep a record with nodes that keep none instead: two rings run at
-# the same time, and their clients ask in turn. Takes two minutes for each size.
+# the same time, and their clients ask in turn, 10,000 times at each place, so that a hundred waits lie above each 99th
+# percentile. Of grants a second the median of seven tries is shown. Takes five minutes for each size.
 set -euo pipefail
 compare=
 [ "${1:-}" != --record ] || { compare=record; shift; }
@@ -170,22 +171,49 @@ def recorded(run, nodes):
     return sum(os.path.getsize(name) for name in names if os.path.exists(name))
 
 
+def idle_loads(rings):
+    """The percentage of a processor that a node of each ring uses while no client is there, measured at the same time."""
+    before = [[used(process) for process in running] for _, running in rings]
+    time.sleep(20)
+    return [
+        sum(used(process) - b for process, b in zip(running, own)) / 20 / len(running) * 100
+        for (_, running), own in zip(rings, before)
+    ]
+
+
+def rates_in_turn(rings, nodes, times):
+    """The median of the grants a second of each ring, which are measured in turn."""
+    rates = [[all_grants(run, nodes) for run, _ in rings] for _ in range(times)]
+    return [sorted(own)[times // 2] for own in zip(*rates)]
+
+
+def more(plain, other):
+    """By how many percent one number is more than another."""
+    return f"{(other / plain - 1) * 100:+.0f} %"
+
+
 def side_by_side(nodes):
     """Compares a ring of nodes that keep no record with a ring of nodes that keep one."""
     rings = [start(nodes, "plain"), start(nodes, "recorded", "--record")]
     runs = [run for run, _ in rings]
-    waits = [in_turn(runs, node, 2000) for node in (0, nodes // 2)]
-    for name, (run, running), near, far in zip(["no record", "records"], rings, *waits):
-        (near_half, near_most), (far_half, far_most) = middle_and_most(near), middle_and_most(far)
-        idle, rate = idle_load(running), all_grants(run, nodes)
+    near, far = ([middle_and_most(own) for own in in_turn(runs, node, 10000)] for node in (0, nodes // 2))
+    idle, rates = idle_loads(rings), rates_in_turn(rings, nodes, 7)
+    for at, name in enumerate(["no record", "records"]):
+        run, running = rings[at]
         size, has = memory(running[0]), recorded(run, nodes)
         statuses = stop(run, running)
         print(
-            f"ring of {nodes:2}  {name:9}  idle {idle:5.1f} %  lock at the root {near_half:.2f} and {near_most:.2f} ms"
-            f"  far from it {far_half:.2f} and {far_most:.2f} ms  all {rate:6.0f} grants a second"
+            f"ring of {nodes:2}  {name:9}  idle {idle[at]:5.1f} %"
+            f"  lock at the root {near[at][0]:.2f} and {near[at][1]:.2f} ms"
+            f"  far from it {far[at][0]:.2f} and {far[at][1]:.2f} ms  all {rates[at]:6.0f} grants a second"
             f"  memory {size} kB  records {has} bytes  statuses {statuses}",
             flush=True,
         )
+    print(
+        f"ring of {nodes:2}  with records: at the root {more(near[0][0], near[1][0])} and {more(near[0][1], near[1][1])},"
+        f" far from it {more(far[0][0], far[1][0])} and {more(far[0][1], far[1][1])}, grants {more(*rates)}",
+        flush=True,
+    )
 
 
 def locked_file(seconds):

@@ -36,12 +36,12 @@ impl Progress {
     /// One more is done.
     pub fn advance<R: Clock + Eprint>(&self, rt: &R) {
         let done = self.done.fetch_add(1, Ordering::SeqCst).wrapping_add(1);
-        self.tell(rt, done);
+        self.say(rt, done);
     }
 
     /// Shows that `done` of them are done, by the caller's count. If standard error fails, nothing
     /// is shown.
-    pub fn tell<R: Clock + Eprint>(&self, rt: &R, done: u64) {
+    pub fn say<R: Clock + Eprint>(&self, rt: &R, done: u64) {
         let Ok(elapsed) = self.started.elapsed(rt) else {
             return;
         };

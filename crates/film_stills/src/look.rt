@@ -11,7 +11,7 @@ pub struct Place {
 }
 
 impl Place {
-    /// What stands where there is no node.
+    /// What stands for a node that is not there.
     pub const NOWHERE: Place = Place {
         distance: 0,
         parent: None,
@@ -50,7 +50,7 @@ pub struct Look {
 }
 
 impl Look {
-    /// What stands where there is no node.
+    /// What stands for a node that is not there.
     pub const NOTHING: Look = Look {
         own: Place::NOWHERE,
         settled: true,

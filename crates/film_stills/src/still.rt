@@ -22,7 +22,7 @@ pub const NO_EDGE: (u16, u16) = (0, 0);
 /// What is seen of a network at a moment, or at the last of several.
 #[derive(Clone, Copy, Debug, PartialEq, Eq)]
 pub struct Still {
-    /// What is seen of each node, by its id; [`Look::NOTHING`] where there is no such node.
+    /// What is seen of each node, by its id; [`Look::NOTHING`] if there is no such node.
     pub looks: [Look; 64],
     /// The true place of each node, by its id.
     pub places: [Place; 64],

@@ -83,7 +83,7 @@ impl<A: Allocator> Model for Recorder<A> {
 
 impl<A: Allocator> Recorder<A> {
     /// A recorder at the start of one of two files, of at most `size` bytes each. All memory is
-    /// reserved here; `AllocError` comes only where that is refused.
+    /// reserved here; `AllocError` comes only if that is refused.
     pub fn new(alloc: A, size: u64, side: Side) -> Result<Recorder<A>, AllocError>
         requires { 65536 ≤ size }
         ensures { IfOk result (λ r. r ≡ at_start size side) }
@@ -136,9 +136,9 @@ impl<A: Allocator> Recorder<A> {
         self.last = front.last;
     }
 
-    /// Notes something of this instant, or of the one noted last if that is later; a frame that was
-    /// the last one of its link, in its short form. At the start only the start of a state is noted; once the record has stopped, nothing is; and where the page has no room for one more
-    /// entry, the record stops.
+    /// Notes something of this instant, or of the one noted last if that is later. A frame that was
+    /// the last one of its link is noted in its short form. At the start only the start of a state is
+    /// noted. If the page has no room for one more entry, the record stops; then nothing is noted.
     pub fn note(&mut self, instant: u64, noted: Noted)
         ensures { self.new ≡ after_note instant noted self.old }
     {

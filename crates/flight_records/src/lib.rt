@@ -2,7 +2,7 @@
 //!
 //! A record is entries in a row. An [`Entry`] is spelled by numbers in LEB128: its kind, the
 //! microseconds since the entry before it, its fields; and then by one byte that checks it. A tick
-//! takes 3 or 4 bytes, and a frame that is sent or taken again 4, where the last entry was less
+//! takes 3 or 4 bytes, and a frame that is sent or taken again 4, if the last entry was less
 //! than 128 microseconds ago. [`write_entry`] writes an entry at the end of a buffer, and an
 //! [`EntryReader`] reads one after the other, from a buffer that may hold a part of the record.
 //!

@@ -100,7 +100,7 @@ fn entry_of(last: u64, kind: u64, numbers: &[u64]) -> Result<Entry, Unread>
 /// Reads the entries of a record, one after the other.
 #[derive(Drop)]
 pub struct EntryReader {
-    /// The instant of the entry that was read last; 0 where none was.
+    /// The instant of the entry that was read last; 0 if none was.
     instant: u64,
 }
 

@@ -2,7 +2,7 @@
 ghost use Rattle.leb128.specs.Laws.{AreReadAgain, CutAreShort, WhatIsReadIsSpelled};
 ghost use Rattle.leb128.specs.Pieces.{AreReadInPieces};
 
-/// Numbers that were written in a row are read again, whatever follows; where the bytes are cut in
+/// Numbers that were written in a row are read again, whatever follows; if the bytes are cut in
 /// front of their end, they are short; and what is read was spelled so. Whoever writes numbers and
 /// reads them stands on it.
 pub fn one_reading()

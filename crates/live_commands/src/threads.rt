@@ -34,7 +34,7 @@ use topology::Net;
 
 /// Runs each node of the network of a file on its own thread, from fresh nodes and empty links,
 /// and prints the state that they lead to, with the sweeps of what they did. Writes what they did
-/// to the file `events`, if one is named, as an events text. If `tells` is set, a line on standard
+/// to the file `events`, if one is named, as an events text. If `says` is set, a line on standard
 /// error shows the progress.
 ///
 /// # Errors
@@ -55,7 +55,7 @@ pub fn run<R: Files + Clock + Print + Eprint + Threads + Wait + Sync + AllocGlob
     show(rt, start, &woven, events)
 }
 
-/// What the nodes of a network do on threads; if `tells` is set, a line shows the progress.
+/// What the nodes of a network do on threads; if `says` is set, a line shows the progress.
 fn run_watched<R: Clock + Eprint + Threads + Wait + Sync + AllocGlobal>(
     rt: &R,
     net: &Net,

@@ -35,7 +35,7 @@ impl<A: Allocator + Copy> Model for Follower<A> {
 
 impl<A: Allocator + Copy> Follower<A> {
     /// A second node of the network, in its default state. All memory is reserved here; `AllocError`
-    /// comes only where that is refused.
+    /// comes only if that is refused.
     pub fn new(alloc: A, net: &Net, id: u16) -> Result<Follower<A>, AllocError>
         requires { id < net.now.nodes }
         ensures site { IfOk result (λ follower. site_in follower ≡ site_of net.now id) }

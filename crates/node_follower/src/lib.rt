@@ -19,9 +19,9 @@
 //! [`start_part`], [`own_part`], [`port_part`] and [`loan_part`] are the parts of a node's state that a
 //! record begins with.
 //!
-//! The traps: a frame that came again and changes nothing may be missing among the deeds, and the
-//! follower stands as the node all the same. And after a no it has done the deeds before that one:
-//! have it take over a state again.
+//! The traps: a frame that came again changes nothing. So if such a deed is missing, the follower stands as
+//! the node all the same: ask whoever notes the deeds whether all are there. And after a no it has done the
+//! deeds before that one: have it take over a state again.
 #![tactic(auto)]
 
 mod follower;

@@ -19,7 +19,7 @@ pub enum Place {
 }
 
 impl Place {
-    /// Takes note of whether they are right at this time, and returns what is to be said of it.
+    /// Takes note of whether they are right at this time, and returns what to say of it.
     pub fn see(&mut self, is_right: bool, now: u64) -> Option<Event>
         ensures event { result ≡ by_place is_right now self.old }
         ensures after { self.new ≡ place_after is_right now self.old }

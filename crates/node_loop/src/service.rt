@@ -51,7 +51,7 @@ fn dismiss<P: Pipe, A: Allocator + Copy>(
 }
 
 /// Answers a client, or closes it if there is no room for the answer.
-fn tell<P: Pipe, A: Allocator + Copy>(
+fn reply<P: Pipe, A: Allocator + Copy>(
     node: &mut Node<A>,
     notes: &mut Notes<A>,
     clients: &mut Clients<P, A>,
@@ -157,7 +157,7 @@ fn serve_line<P: Pipe, A: Allocator + Copy>(
     let count = answer(node, ticket, line, &mut text);
     notes.line(ticket, line);
     if count > 0 {
-        tell(node, notes, clients, ticket, &text[..count]);
+        reply(node, notes, clients, ticket, &text[..count]);
     }
 }
 
@@ -231,8 +231,8 @@ pub(crate) fn tick<P: Pipe, A: Allocator + Copy>(
     let ticked = node.tick();
     notes.ticks();
     match ticked.act {
-        DeskAct::Granted(ticket) => tell(node, notes, clients, ticket, b"granted\n"),
-        DeskAct::Lost(ticket) => tell(node, notes, clients, ticket, b"lost\n"),
+        DeskAct::Granted(ticket) => reply(node, notes, clients, ticket, b"granted\n"),
+        DeskAct::Lost(ticket) => reply(node, notes, clients, ticket, b"lost\n"),
         DeskAct::Quiet => {}
     }
     ticked

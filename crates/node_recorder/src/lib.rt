@@ -9,14 +9,15 @@
 //! end of the last turn.
 //!
 //! ```
-//! recorder.turn_ended(run.node(), run.deeds(), run.has_all_deeds(), now);
+//! recorder.turn_ended(run.node(), notes.deeds(), notes.has_all(), now);
 //! if recorder.pages().is_due() { /* write it, as flight_recorder says */ }
 //! ```
 //!
 //! A second node with other neighbours than the node's cannot take its state over; then the whole state
 //! alone is noted at each turn, until [`NodeRecorder::rewire`] gives it the node's new ones.
 //!
-//! The trap: what is noted of a turn may leave out a frame that came again and changed nothing.
+//! The trap: it notes the deeds that it is shown. A frame that came again changes nothing, so it does not
+//! see whether they leave one out. The loop of a node notes each one.
 #![tactic(auto)]
 
 mod recorder;

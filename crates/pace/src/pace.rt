@@ -99,7 +99,7 @@ impl Pace {
         self.ports[port].give(frame, now);
     }
 
-    /// The plan of the turn that begins now: a frame on each port where one is due, and a tick if
+    /// The plan of the turn that begins now: a frame on each port for which one is due, and a tick if
     /// none must be left out.
     pub fn plan(&self, sights: &[PortSight], outlook: &Outlook, now: u64) -> Plan
         requires { length sights.now ≤ 64 }

@@ -7,7 +7,7 @@ use Rattle.accounts.specs.Deeds.{Deed, Ticks, Sends, Takes, Asks, Leaves, taken_
 use Rattle.processes.specs.Accounts.{Timed, deeds}
 use Rattle.processes.specs.Links.{Act, Accepts, Gives, Loses, the_accepts, the_gives, accept_at, give_at, accepts_in, gives_in}
 use Rattle.processes.specs.Connections.{accepted_frames, given_frames, AreInRange, Ended, all_lost, history_over, left_after}
-use Rattle.processes.specs.LinkLaws.{HistoriesTellFrames}
+use Rattle.processes.specs.LinkLaws.{HistoriesGiveFrames}
 
 pub of-accepts : (acts : List Act) → accepted_frames (the_accepts acts) ≡ accepted_frames acts
 of-accepts [] = refl
@@ -43,8 +43,8 @@ all-taken : (u : ℕ) (ts : List Timed) → given_frames (gives_in u ts) ≡ tak
 all-taken u [] = refl
 all-taken u (t ∷ ts) = one-taken u t.instant t.deed (deeds ts) (gives_in u ts) (all-taken u ts)
 
-pub tell-frames : HistoriesTellFrames
-tell-frames capacity u v first last sender receiver history h = (
+pub give-frames : HistoriesGiveFrames
+give-frames capacity u v first last sender receiver history h = (
   sym (of-accepts history) ∙ (ap accepted_frames h.accepted ∙ all-sent v sender),
   sym (of-gives history) ∙ (ap given_frames h.given ∙ all-taken u receiver),
 )

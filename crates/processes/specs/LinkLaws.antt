@@ -65,8 +65,8 @@ BytesAreHistory =
     (history_over (good_lines r junk) cs acts) (as_items (left_over (good_lines r junk) cs acts))
 
 -- the frames of a link's history are those that the accounts of its two ends speak of
-abbrev pub HistoriesTellFrames : Type 0
-HistoriesTellFrames =
+abbrev pub HistoriesGiveFrames : Type 0
+HistoriesGiveFrames =
     (capacity u v : ℕ) (first last : List Item) (sender receiver : List Timed) (history : List Act)
     → IsHistory capacity first (accepts_in v sender) (gives_in u receiver) history last
     → (accepted_frames history ≡ sent_to v (deeds sender))

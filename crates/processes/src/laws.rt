@@ -1,7 +1,7 @@
 //! What holds of processes: each law is the contract of a function that does nothing.
 ghost use Rattle.processes.specs.LinkLaws.{ConnectionsPlay, PipesAreConnections};
 ghost use Rattle.processes.specs.LinkLaws.{ConnectionsGiveABeginning, BytesKeepOrder};
-ghost use Rattle.processes.specs.LinkLaws.{BytesAreHistory, HistoriesTellFrames, JunkSpoilsOneFrame};
+ghost use Rattle.processes.specs.LinkLaws.{BytesAreHistory, HistoriesGiveFrames, JunkSpoilsOneFrame};
 ghost use Rattle.processes.specs.Laws.{ProcessesHaveOrder, OrdersAreRuns, ProcessesKeepPromise};
 ghost use Rattle.processes.specs.Turns.{PaceGivesWindows};
 ghost use Rattle.processes.specs.TimeLaws.{WindowsAreSweeps, ServesInTime, LendsInTime};
@@ -40,7 +40,7 @@ pub fn promise()
 /// history are those that the accounts of the link's two ends speak of.
 pub fn connections()
     ensures play { ConnectionsPlay }
-    ensures frames { HistoriesTellFrames }
+    ensures frames { HistoriesGiveFrames }
 {}
 
 /// A connection of bytes: two pipes, of which one gives a beginning of what the other took. It keeps

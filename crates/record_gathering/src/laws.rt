@@ -10,7 +10,7 @@ pub fn accepted_is_enough()
     ensures { AcceptedIsEnough }
 {}
 
-/// Nobody is shown damage where what was noted before leads to what was noted next.
+/// No damage is shown if what was noted before leads to what was noted next.
 pub fn harms_mean_differences()
     ensures { HarmsMeanDifferences }
 {}

@@ -13,7 +13,7 @@
 //! `svg_drawing`'s, whose names are offered again. [`command`] is the command `draw`, which prints a
 //! picture of the run that a file of events makes.
 //!
-//! The trap: the lanes and the tree are those of the network that is given, also where edges join
+//! The trap: the lanes and the tree are those of the network that is given, even if edges join
 //! and go; whether a node's distance and parent are true is asked of the network as it stands.
 #![tactic(auto)]
 

@@ -200,7 +200,7 @@ fn until<R: Eprint + Clock + Threads + Sync>(
             return Ok(latest);
         }
         if let Some(progress) = progress {
-            progress.tell(rt, u64::from(passed));
+            progress.say(rt, u64::from(passed));
         }
         latest = batch(rt, alloc, net, plan, latest, BATCH, &None)?;
     }

@@ -49,7 +49,7 @@ impl<R: Eprint + Clock + Sync> Gate for Watch<'_, R> {
         self.together.before(node, turn);
         if node == 0 && turn % TURNS_A_LOOK == 0 {
             if let Some(progress) = &self.progress {
-                progress.tell(self.rt, u64::from(turn));
+                progress.say(self.rt, u64::from(turn));
             }
         }
     }

@@ -104,7 +104,7 @@ fn number_at(first: u64, moments: u64, event: u64) -> AxisNumber
     }
 }
 
-/// The least of 1, 2, 5, 10, 20, 50 and so on whose ticks are far enough apart, where a column
+/// The least of 1, 2, 5, 10, 20, 50 and so on whose ticks are far enough apart, if a column
 /// shows as many moments and is as wide.
 fn round_step(moments: u64, width: Px) -> u64
     ensures { IsRoundStep moments width.0 result }

@@ -197,7 +197,7 @@ fn number_sweep(canvas: &mut Canvas, page: Page, number: SweepNumber) -> Result<
     canvas.words(at, Anchor::Middle, Colour::Ink, text.as_str())
 }
 
-/// The numbers over the ticks, where as many sweeps have ended before the first column.
+/// The numbers over the ticks, if as many sweeps have ended before the first column.
 fn sweep_numbers(
     alloc: Global,
     page: Page,

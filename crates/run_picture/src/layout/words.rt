@@ -98,7 +98,7 @@ fn description(alloc: Global, recording: &Recording) -> Result<String, AllocErro
     ensures words { IfOk result (λ words. string_bytes words ≡ description_words
         recording.now.events (counted_up_to (recording.now.unread + recording.now.judge.refused))
         (world_of recording.now.judge.configuration) recording.now.judge.sweeps) }
-    // Whatever run was recorded, the words tell of that run.
+    // Whatever run was recorded, the words describe that run.
     ensures says { (start : World) (es : List Event) → IsRecorded start es recording.now
         → IfOk result (λ words. TellsOf start es recording.now.unread (string_bytes words)) }
 {

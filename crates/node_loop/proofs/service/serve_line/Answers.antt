@@ -23,9 +23,9 @@ line-did t Unknown x y n m number site state noted = rw noted (did-same IsOfClie
 pub returns-then-count-gt0-clause-node : goal.returns-then-count-gt0-clause-node
 returns-then-count-gt0-clause-node g c =
     let number : IsTrue (is_number c.args.ticket) = search rules in
-    did-joins IsOfClient c.args.node.now c.answer-count.new.node c.tell.new.node c.args.notes.now c.line.new.self c.tell.new.notes
+    did-joins IsOfClient c.args.node.now c.answer-count.new.node c.reply.new.node c.args.notes.now c.line.new.self c.reply.new.notes
     (line-did c.args.ticket c.args.line c.args.node.now c.answer-count.new.node c.args.notes.now c.line.new.self number c.answer-count.ensures.site c.answer-count.ensures.state c.line.ensures)
-    (leaves-did c.answer-count.new.node c.tell.new.node c.line.new.self c.tell.new.notes c.tell.ensures.node)
+    (leaves-did c.answer-count.new.node c.reply.new.node c.line.new.self c.reply.new.notes c.reply.ensures.node)
 
 pub returns-else-count-gt0-clause-node : goal.returns-else-count-gt0-clause-node
 returns-else-count-gt0-clause-node g c =

@@ -1,7 +1,7 @@
 use Rattle.node_loop.proofs.Lives.{stay, live-join, live-gone, closed-gone}
 use Rattle.node_loop.specs.Deeds.{IsLeave}
 use Rattle.node_loop.proofs.Noting.{did-none}
-use Rattle.node_loop.proofs.service.tell.Goals as goal
+use Rattle.node_loop.proofs.service.reply.Goals as goal
 
 pub returns-else-not-say-clause-node : goal.returns-else-not-say-clause-node
 returns-else-not-say-clause-node g c = did-none IsLeave c.args.node.now c.args.notes.now

@@ -1,0 +1,29 @@
+#!/bin/sh
+# Tries the must-fail edits that the gate leaves out: `sh bench/edits.sh [CRATE..]`, at the top of the repository.
+#
+# A crate's edits cost one more proof of the whole crate, and then a part of one for each. So those of the largest
+# crates stand in crates/CRATE/edits instead of crates/CRATE/must-fail. Run this after a change of such a crate. It works
+# on a copy of the files as they stand, and takes what `rt ci` proved of them from what that kept. Its status is 0 if the
+# prover refused each edit, and 1 if not, or if something is not proved.
+set -eu
+cd "$(dirname "$0")/.."
+
+[ $# -gt 0 ] || set -- $(ls -d crates/*/edits | sed 's,^crates/,,; s,/edits$,,')
+for name; do
+    [ -d "crates/$name/edits" ] || { echo "edits: there is no folder crates/$name/edits" >&2; exit 2; }
+done
+
+copy=$(mktemp -d)
+trap 'rm -rf "$copy"' EXIT
+trap 'exit 130' INT TERM
+tar -cf - --exclude=out crates crates.txt HANDLES | tar -xf - -C "$copy"
+for name; do
+    mkdir -p "$copy/crates/$name/must-fail"
+    mv "$copy/crates/$name/edits"/*.edit "$copy/crates/$name/must-fail/"
+done
+cd "$copy"
+{ rt ci "$@" && echo 0 > status || echo $? > status; } 2>&1 | tee log | grep --line-buffered -E '^rt: .*(NOT PROVED|must-fail|trying)' || true
+status=$(cat status)
+[ "$status" = 0 ] || cat log
+tail -n 1 log
+exit "$status"
