@@ -31,3 +31,16 @@ payload_for-requires g c = c.if-is_neighbour.ensures.node refl
 
 pub returns : goal.returns
 returns g c w here has = c.loop-id.invariant.below w (let end = c.loop-id-test.false in omega arith) has
+
+pub frame_for-requires : goal.frame_for-requires
+frame_for-requires g c = c.if-is_neighbour.ensures.node refl
+
+pub bounds-ports-id : goal.bounds-ports-id
+bounds-ports-id g c =
+    let nodes : c.args.node.now.registers.ranges.nodes ≡ c.args.net.now.nodes = ap (λ s. s.ranges.nodes) c.requires.site in
+    let below = c.if-is_neighbour.ensures.node refl in let long = c.requires.ports.0 in omega arith
+
+pub offset_bounds-ports-id : goal.offset_bounds-ports-id
+offset_bounds-ports-id g c =
+    let nodes : c.args.node.now.registers.ranges.nodes ≡ c.args.net.now.nodes = ap (λ s. s.ranges.nodes) c.requires.site in
+    let below = c.if-is_neighbour.ensures.node refl in let long = c.requires.ports.0 in omega arith

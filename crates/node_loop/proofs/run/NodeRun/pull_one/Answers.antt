@@ -89,3 +89,21 @@ invariant_of-self-2-clause-ports_are g c =
     let self = c.args.self.now in
     let new = c.pull.new.self in
     (length-set self.ports.items c.args.id new ∙ self.ports_are.0, self.ports_are.1)
+
+pub invariant_of-self-in-Later-clause-ports_are : goal.invariant_of-self-in-Later-clause-ports_are
+invariant_of-self-in-Later-clause-ports_are g c = let self = c.args.self.now in (length-set self.ports.items c.args.id c.pull.new.self ∙ self.ports_are.0, self.ports_are.1)
+
+pub invariant_of-self-in-Later-clause-strangers : goal.invariant_of-self-in-Later-clause-strangers
+invariant_of-self-in-Later-clause-strangers g c =
+    let self = c.args.self.now in
+    let has : Contains self.node.registers.neighbours c.args.id = search rules in
+    loose-set self.node.registers.neighbours self.ports.items c.args.id c.pull.new.self has self.strangers
+
+pub invariant_of-self-in-Broken-clause-ports_are : goal.invariant_of-self-in-Broken-clause-ports_are
+invariant_of-self-in-Broken-clause-ports_are g c = let self = c.args.self.now in (length-set self.ports.items c.args.id c.pull.new.self ∙ self.ports_are.0, self.ports_are.1)
+
+pub invariant_of-self-in-Broken-clause-strangers : goal.invariant_of-self-in-Broken-clause-strangers
+invariant_of-self-in-Broken-clause-strangers g c =
+    let self = c.args.self.now in
+    let has : Contains self.node.registers.neighbours c.args.id = search rules in
+    loose-set self.node.registers.neighbours self.ports.items c.args.id c.pull.new.self has self.strangers
