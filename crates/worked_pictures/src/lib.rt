@@ -1,5 +1,5 @@
-//! Worked pictures: what a recording shows of small networks, and how it is drawn. Every expected
-//! value was computed by hand.
+//! Worked pictures: what a recording shows of small networks, and how it is drawn; where the curves and the
+//! bounds of small plots stand. Every expected value was computed by hand.
 //!
 //! It has only tests, since the tests of a crate prove all of that crate once more.
 #![tactic(auto)]
@@ -10,5 +10,7 @@ mod failures;
 mod films;
 #[cfg(test)]
 mod lanes;
+#[cfg(test)]
+mod plots;
 #[cfg(test)]
 mod rows;
