@@ -16,7 +16,7 @@ done
 copy=$(mktemp -d)
 trap 'rm -rf "$copy"' EXIT
 trap 'exit 130' INT TERM
-tar -cf - --exclude=out crates crates.txt HANDLES | tar -xf - -C "$copy"
+tar -cf - --exclude=out --exclude=must-fail crates crates.txt HANDLES | tar -xf - -C "$copy"
 for name; do
     mkdir -p "$copy/crates/$name/must-fail"
     mv "$copy/crates/$name/edits"/*.edit "$copy/crates/$name/must-fail/"
