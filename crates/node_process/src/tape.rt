@@ -145,7 +145,8 @@ impl<'a, R: Files<File = File> + Clock + Eprint + AllocGlobal> Tape<'a, R> {
     fn note_links<D: Doors, S: Store + Drop>(&mut self, run: &NodeRun<D, S>, instant: u64)
         ensures { self.new.names ≡ self.old.names }
     {
-        for id in 0..NODES {
+        let nodes = usize::from(run.net().nodes()).min(NODES);
+        for id in 0..nodes {
             let neighbour = id as u16;
             let is_linked = matches!(run.link(neighbour), Some(sight) if sight.is_up);
             if is_linked != self.linked[id] {
