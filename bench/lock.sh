@@ -5,9 +5,10 @@
 # comparison, also what a command costs under the lock and under flock(1), and a loop that locks one file. Needs python3
 # and flock; takes half a minute for each ring. The program is ./tokentree, or what TOKENTREE names.
 #
-# bench/lock.sh --record [NODES..] compares nodes that keep a record with nodes that keep none instead: two rings run at
-# the same time, and their clients ask in turn, 10,000 times at each place, so that a hundred waits lie above each 99th
-# percentile. Of grants a second the median of seven tries is shown. Takes five minutes for each size.
+# bench/lock.sh --record [NODES..] compares nodes that keep a record with nodes that keep none instead: two rings of
+# each kind run at the same time, and their clients ask in turn, each time in another order, 12,000 times for each kind
+# at each place. So 120 waits lie above each 99th percentile, and the two rings of one kind show how much chance is in
+# it. Of grants a second the median of ten tries is shown. Takes eight minutes for each size.
 set -euo pipefail
 compare=
 [ "${1:-}" != --record ] || { compare=record; shift; }
@@ -19,7 +20,7 @@ program=$(realpath "${TOKENTREE:-./tokentree}")
 folder=$(mktemp -d)
 trap 'rm -rf "$folder"' EXIT
 python3 - "$program" "$folder" "$compare" "$@" <<'PYTHON'
-import fcntl, multiprocessing, os, socket, subprocess, sys, time
+import fcntl, multiprocessing, os, random, socket, subprocess, sys, time
 
 program, folder, compare = sys.argv[1:4]
 sizes = [int(n) for n in sys.argv[4:]]
@@ -156,12 +157,13 @@ def ring(nodes):
 
 
 def in_turn(runs, node, times):
-    """The waits in each of these folders, in milliseconds, by clients that ask in turn."""
-    clients, waits = [Client(run, node) for run in runs], [[] for _ in runs]
+    """The waits in each of these folders, in milliseconds, by clients that ask in turn, each time in another order."""
+    clients, waits, order = [Client(run, node) for run in runs], [[] for _ in runs], list(range(len(runs)))
     for _ in range(times):
-        for client, own in zip(clients, waits):
+        random.shuffle(order)
+        for ring in order:
             time.sleep(0.005)
-            own.append(client.cycle() * 1000)
+            waits[ring].append(clients[ring].cycle() * 1000)
     return waits
 
 
@@ -182,36 +184,52 @@ def idle_loads(rings):
 
 
 def rates_in_turn(rings, nodes, times):
-    """The median of the grants a second of each ring, which are measured in turn."""
+    """The grants a second of each ring, so many times; they are measured in turn."""
     rates = [[all_grants(run, nodes) for run, _ in rings] for _ in range(times)]
-    return [sorted(own)[times // 2] for own in zip(*rates)]
+    return [list(own) for own in zip(*rates)]
 
 
-def more(plain, other):
-    """By how many percent one number is more than another."""
-    return f"{(other / plain - 1) * 100:+.0f} %"
+def of_kind(values, kind):
+    """What was measured of the two rings without a record (0), or with one (1), together."""
+    return values[kind] + values[kind + 2]
+
+
+def more(values, measure):
+    """By how many percent records change a measure, and by how many the second ring without one is away from the first."""
+    by_record = measure(of_kind(values, 1)) / measure(of_kind(values, 0)) - 1
+    by_chance = measure(values[2]) / measure(values[0]) - 1
+    return f"{by_record * 100:+.0f} % ({by_chance * 100:+.0f} %)"
+
+
+def half(values):
+    return middle_and_most(values)[0]
+
+
+def most(values):
+    return middle_and_most(values)[1]
 
 
 def side_by_side(nodes):
-    """Compares a ring of nodes that keep no record with a ring of nodes that keep one."""
-    rings = [start(nodes, "plain"), start(nodes, "recorded", "--record")]
+    """Compares two rings of nodes that keep no record with two rings of nodes that keep one."""
+    names = ["plain", "recorded", "plain-2", "recorded-2"]
+    rings = [start(nodes, name, *["--record"] * name.startswith("recorded")) for name in names]
     runs = [run for run, _ in rings]
-    near, far = ([middle_and_most(own) for own in in_turn(runs, node, 10000)] for node in (0, nodes // 2))
-    idle, rates = idle_loads(rings), rates_in_turn(rings, nodes, 7)
-    for at, name in enumerate(["no record", "records"]):
-        run, running = rings[at]
-        size, has = memory(running[0]), recorded(run, nodes)
-        statuses = stop(run, running)
+    near, far = (in_turn(runs, node, 6000) for node in (0, nodes // 2))
+    idle, rates = idle_loads(rings), rates_in_turn(rings, nodes, 5)
+    size = [memory(running[0]) for _, running in rings]
+    statuses = [stop(run, running) for run, running in rings]
+    for kind, name in enumerate(["no record", "records"]):
         print(
-            f"ring of {nodes:2}  {name:9}  idle {idle[at]:5.1f} %"
-            f"  lock at the root {near[at][0]:.2f} and {near[at][1]:.2f} ms"
-            f"  far from it {far[at][0]:.2f} and {far[at][1]:.2f} ms  all {rates[at]:6.0f} grants a second"
-            f"  memory {size} kB  records {has} bytes  statuses {statuses}",
+            f"ring of {nodes:2}  {name:9}  idle {idle[kind]:.1f} and {idle[kind + 2]:.1f} %"
+            f"  lock at the root {half(of_kind(near, kind)):.2f} and {most(of_kind(near, kind)):.2f} ms"
+            f"  far from it {half(of_kind(far, kind)):.2f} and {most(of_kind(far, kind)):.2f} ms"
+            f"  all {half(of_kind(rates, kind)):6.0f} grants a second  memory {size[kind]} kB"
+            f"  records {recorded(runs[kind], nodes)} bytes  statuses {statuses[kind]}",
             flush=True,
         )
     print(
-        f"ring of {nodes:2}  with records: at the root {more(near[0][0], near[1][0])} and {more(near[0][1], near[1][1])},"
-        f" far from it {more(far[0][0], far[1][0])} and {more(far[0][1], far[1][1])}, grants {more(*rates)}",
+        f"ring of {nodes:2}  by records (by chance): at the root {more(near, half)} and {more(near, most)},"
+        f" far from it {more(far, half)} and {more(far, most)}, grants {more(rates, half)}",
         flush=True,
     )
 
