@@ -81,8 +81,6 @@ judge() {
         # output.
         says_one_line || { [ "$kind" = write ] && [ ! -s "$folder/err" ]; } || grep -q ' no answer$' "$folder/out" ||
             wrong "$name: status $status says $(head -c 200 "$folder/err")"
-        # After a refused write the program asks by one newline whether its reader is gone.
-        [ "$kind" != write ] || [ ! -s "$folder/out" ] || [ -n "$(tail -c 1 "$folder/out")" ] || truncate -s -1 "$folder/out"
         [ -n "$loose" ] || cmp -s -n "$(wc -c <"$folder/out")" "$folder/out" "$folder/usual" ||
             wrong "$name: no beginning of the usual output"
     fi
