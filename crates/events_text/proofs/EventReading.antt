@@ -80,6 +80,9 @@ read-of : (verb : Word) (ws : List Word) (e : Event) → list_all has_no_space (
     → line_event (join_with_byte 32 (verb ∷ ws)) ≡ Some e
 read-of verb ws e spaces read = rw (words-joined verb ws spaces) read
 
+five : (a b c d e : Bool) → (a && b && c && d && e) ≡ true → (a ≡ true) × (b ≡ true) × (c ≡ true) × (d ≡ true) × (e ≡ true)
+five a b c d e all = grind (arith)
+
 -- the words of a payload and of a harm
 payload-no_space : (p : Payload) → payload_is_small p ≡ true → list_all has_no_space (payload_words p) ≡ true
 payload-no_space p s = grind (arith, number-no_space, or_none-no_space)
@@ -99,6 +102,12 @@ module _ (read : NumbersAreRead) where
   payload-read : (p : Payload) → payload_is_small p ≡ true → payload_of (payload_words p) ≡ Some p
   payload-read p s = grind (arith, number-read, or_none-read)
 
+  frame-read : (u v seq ack : ℕ) (p : Payload) → is_small u ≡ true → is_small v ≡ true → is_small seq ≡ true → is_small ack ≡ true
+      → payload_is_small p ≡ true
+      → damage_of (harm_words (harm.Item u v (item.Frame (record { seq = seq; ack = ack; payload = p }))))
+      ≡ Some (Damage (harm.Item u v (item.Frame (record { seq = seq; ack = ack; payload = p }))))
+  frame-read u v seq ack p su sv ss sa sp = rw (number-read u su, number-read v sv, number-read seq ss, number-read ack sa, payload-read p sp) refl
+
   harm-read : (h : Harm) → harm_is_small h ≡ true → damage_of (harm_words h) ≡ Some (Damage h)
   harm-read (harm.Own v d p) s = grind (arith, number-read, or_none-read, yes_or_no-read, payload-read)
   harm-read (harm.Counters v w seq last) s = grind (arith, number-read, or_none-read, yes_or_no-read, payload-read)
@@ -106,7 +115,9 @@ module _ (read : NumbersAreRead) where
   harm-read (harm.Copy v w payload) s = grind (arith, number-read, or_none-read, yes_or_no-read, payload-read)
   harm-read (harm.Value v w x) s = grind (arith, number-read, or_none-read, yes_or_no-read, payload-read)
   harm-read (harm.Desk v lent left served) s = grind (arith, number-read, or_none-read, yes_or_no-read, payload-read)
-  harm-read (harm.Item u v (item.Frame f)) s = grind (arith, number-read, or_none-read, yes_or_no-read, payload-read)
+  harm-read (harm.Item u v (item.Frame f)) s =
+      let (first, second, seq, ack, payload) = five (is_small u) (is_small v) (is_small f.seq) (is_small f.ack) (payload_is_small f.payload) s in
+      frame-read u v f.seq f.ack f.payload first second seq ack payload
   harm-read (harm.Item u v item.Noise) s = grind (arith, number-read, or_none-read, yes_or_no-read, payload-read)
   harm-read (harm.Empty u v) s = grind (arith, number-read, or_none-read, yes_or_no-read, payload-read)
   harm-read (harm.Join u v) s = grind (arith, number-read, or_none-read, yes_or_no-read, payload-read)

@@ -66,7 +66,7 @@ line-join = refl
 line-part : line_event (codes "harm part 3 1") ≡ Some (Damage (harm.Part 3 1))
 line-part = refl
 
--- a capital letter; a word too few, one too many; two spaces, one in front, one at the end; `none` where a number is wanted, and
+-- a capital letter; a word too few, one too many; two spaces, one in front, one at the end; `none` in place of a number, and
 -- another word where `yes` or `no` is
 unread-capital : line_event (codes "Tick 0") ≡ None
 unread-capital = refl

@@ -39,12 +39,12 @@ pub record HoldsAfter (front : List ℕ) (base : ℕ) (r : RecorderView) (file :
 abbrev pub Holds : RecorderView → List ℕ → List Entry → Type 0
 Holds r file es = HoldsAfter [] 0 r file es
 
--- the entries that a note adds: one, or none where it is passed over or there is no room
+-- the entries that a note adds: one, or none if it is passed over or there is no room
 abbrev pub added : ℕ → Noted → RecorderView → List Entry
 added instant n r =
     if is_passed_over n r || has_no_room r then [] else entry_noted instant n r ∷ []
 
--- A note adds its entry; a page that is written goes to the end of the file; where that is full, a
+-- A note adds its entry; a page that is written goes to the end of the file; if that is full, a
 -- record of no entries is begun. Whoever goes on after the front of a file, and cuts off what stands after
 -- it, holds that front. And who reads the file and then the page reads the entries of the front and then
 -- these very entries.

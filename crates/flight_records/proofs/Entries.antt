@@ -61,7 +61,7 @@ records-grow last (x ∷ es) e order f =
     ((order.0, rest.0), rest.1, ap (λ (l : List ℕ). spelling last x ++ l) rest.2 ∙ sym (append_assoc (spelling last x) (record_of x.instant es) (spelling (instant_after x.instant es) e)))
 
 module _ (again : AreReadAgain) (cut : CutAreShort) (spelled : WhatIsSpelled) where
-  -- what is done with the numbers, where they are whole
+  -- what is done with the numbers, if they are whole
   numbers-read : (last : ℕ) (e : Entry) (rest : List ℕ) → Follows last e
       → entry_at last (body last e ++ rest) ≡ checked last (kind e.noted) (following last e) (body last e ++ rest) rest
   unfolding entry_at

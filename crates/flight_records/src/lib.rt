@@ -14,7 +14,7 @@
 //! }
 //! ```
 //!
-//! Where a record is cut, the whole entries in front of the cut are read, and then that the bytes
+//! If a record is cut, the whole entries in front of the cut are read, and then that the bytes
 //! are `Short`: none are left, or a part of an entry. `laws` says so. Whoever has more of the record
 //! gives the reader what was left again, with more after it.
 //!

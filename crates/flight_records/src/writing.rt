@@ -1,15 +1,11 @@
 //! Entries are written.
 ghost use Rattle.std.specs.Prelude.{◌≡◌, ◌+◌, ◌*◌, ◌≤◌, ◌++◌, length, vec_len, vec_capacity};
 ghost use Rattle.leb128.specs.Spelling.{in_a_row};
-ghost use Rattle.flight_records.specs.Spelling.{numbers, check, spelling};
+ghost use Rattle.flight_records.specs.Spelling.{check, spelling};
 
 use crate::entry::Entry;
-use arrayvec::ArrayVec;
 use leb128::push_number;
 use std::alloc::Allocator;
-
-/// The numbers of an entry: its kind's, the microseconds since the entry before, its fields.
-type Numbers = ArrayVec<u64, 12>;
 
 /// Writes an entry at the end of `out`, into room that is there: at most 121 bytes. `last` is the
 /// instant of the entry before it, and 0 at the start of a record.
@@ -22,21 +18,11 @@ pub fn write_entry<A: Allocator>(last: u64, entry: &Entry, out: &mut Vec<u8, A>)
     ensures room { vec_capacity out.new ≡ vec_capacity out.old }
 {
     let start = out.len();
-    push_numbers(&numbers(last, entry), out);
+    push_number(out, entry.noted.kind());
+    push_number(out, entry.instant - last);
+    push_numbers(&entry.noted.fields(), out);
     let check = check(&out[start..]);
     out.push_reserved(check);
-}
-
-/// The numbers of an entry, after one of the instant `last`.
-fn numbers(last: u64, entry: &Entry) -> Numbers
-    requires { last ≤ entry.now.instant }
-    ensures { result.items ≡ numbers last entry.now }
-{
-    let mut numbers = Numbers::new();
-    numbers.push(entry.noted.kind());
-    numbers.push(entry.instant - last);
-    let _fits = numbers.try_extend_from_slice(&entry.noted.fields());
-    numbers
 }
 
 /// Writes numbers at the end, into room that is there.

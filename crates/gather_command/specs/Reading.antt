@@ -25,7 +25,7 @@ abbrev pub in_full : Entry → Noted → Entry
 in_full e long = record { instant = e.instant; noted = long }
 
 -- What a file still gives, after an entry of the instant `last` and after these frames: entries, and
--- what is wrong where it was not read to its end. `Fails` says that its source may fail. Of a file that
+-- what is wrong if it was not read to its end. `Fails` says that its source may fail. Of a file that
 -- does not say its bytes nothing is said.
 pub data IsReadOn (Fails : Type 0) : ℕ → FramesView → Option (List ℕ) → List Entry → Option FlawKind → Type 0 where
   Unsaid : {last : ℕ} {frames : FramesView} {es : List Entry} {flaw : Option FlawKind}

@@ -150,7 +150,7 @@ seen_after s m = record {
   span = with_instant s.span m.entry.instant;
 }
 
--- Where a list of events begins in the midst, so many events set up the world in front of it: of what was
+-- If a list of events begins in the midst, so many events set up the world in front of it: of what was
 -- seen before, only which nodes' whole states were noted is kept. A loan of then counts from its node's next
 -- entry on. The frames that the events put under way are none that nobody sent, and were sent when they were.
 abbrev pub one_again : Watched → Watched

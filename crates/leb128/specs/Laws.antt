@@ -18,7 +18,7 @@ pub record AreReadAgain : Type 0 where
   pub row : (ns rest : List ℕ) → AreWide ns
       → numbers_at (length ns) (in_a_row ns ++ rest) ≡ Ok (ns, rest)
 
--- where the bytes are cut in front of their end, they are short
+-- if the bytes are cut in front of their end, they are short
 pub record CutAreShort : Type 0 where
   pub one : (n : ℕ) (front : List ℕ) (b : ℕ) (back : List ℕ) → leb128 n ≡ front ++ b ∷ back
       → number_at front ≡ Err Short

@@ -9,7 +9,7 @@ use Rattle.std.proofs.lemmas.Bool.Decides.{nat_tests}
 use Rattle.std.proofs.lemmas.Str.{digit_value_digit}
 use Rattle.std.proofs.lemmas.Str.Parse.{digits_value-take-le}
 use Rattle.std.proofs.lemmas.Int.Digits.{digits_value_more}
-use Rattle.line_words.specs.Numbers.{small_number}
+use Rattle.line_words.specs.Numbers.{digits_up_to}
 
 digit-is : (c : ℕ) → is_ascii_digit c ≡ true → digit_value c ≡ c - 48
 digit-is c d = grind (arith, nat_tests, digit_value_digit c)
@@ -24,5 +24,5 @@ pub more-digits : (ds : List ℕ) (i : ℕ) → i < length ds → list_all is_as
 more-digits ds i h a d = grind (arith, common_steps)
 
 -- the first digits spell no more than all
-pub too-large : (ds : List ℕ) (i : ℕ) → 65535 < digits_value 10 (take i ds) → small_number ds ≡ None
-too-large ds i big = grind (arith, nat_tests, digits_value-take-le 10 ds i (omega arith))
+pub too-large : (most : ℕ) (ds : List ℕ) (i : ℕ) → most < digits_value 10 (take i ds) → digits_up_to most ds ≡ None
+too-large most ds i big = grind (arith, nat_tests, digits_value-take-le 10 ds i (omega arith))

@@ -1,7 +1,7 @@
 -- Small examples of words and numbers, and words that spell none.
 use Rattle.std.proofs.Common.{◌≡◌, true, false, [], ◌∷◌, Some, None, refl, codes}
 use Rattle.line_words.specs.Words.{words, first_word, other_words, ends}
-use Rattle.line_words.specs.Numbers.{number, number_or_none, yes_or_no}
+use Rattle.line_words.specs.Numbers.{are_digits, digits_up_to, number, number_or_none, yes_or_no}
 
 -- two spaces have an empty word between them, and a space at the end has one after it
 words-two : words (codes "tick 0") ≡ codes "tick" ∷ codes "0" ∷ []
@@ -22,6 +22,22 @@ ends-all = refl
 
 first-left : first_word (other_words (words (codes "tick 0"))) ≡ Some (codes "0")
 first-left = refl
+
+-- digits, with zeros in front or not, and words of other bytes
+digits : are_digits (codes "07") ≡ true
+digits = refl
+
+digits_not-none : are_digits [] ≡ false
+digits_not-none = refl
+
+digits_not-sign : are_digits (codes "-7") ≡ false
+digits_not-sign = refl
+
+up-to-most : digits_up_to 59 (codes "059") ≡ Some 59
+up-to-most = refl
+
+up-to_not-more : digits_up_to 59 (codes "60") ≡ None
+up-to_not-more = refl
 
 -- numbers, and words that are none
 number-zero : number (codes "0") ≡ Some 0

@@ -1,5 +1,5 @@
 -- Each number and each line has one spelling.
-use Rattle.std.proofs.Common.{rules, ◌≡◌, ◌≢◌, ℕ, zero, suc, ◌<◌, Bool, true, false, ◌&&◌, List, [], ◌∷◌, length, get_or, nat_lt, Option, Some, None, refl, ap, sym, ◌∙◌, arith}
+use Rattle.std.proofs.Common.{rules, ◌≡◌, ◌≢◌, ℕ, zero, suc, ◌<◌, Bool, true, false, ◌&&◌, List, [], ◌∷◌, length, get_or, nat_le, Option, Some, None, refl, ap, sym, ◌∙◌, arith}
 use Rattle.std.specs.Prelude.{if◌then◌else◌}
 use Rattle.std.specs.List.{list_all, join_with_byte}
 use Rattle.std.specs.Char.{is_ascii_digit}
@@ -41,7 +41,7 @@ no-leading (suc n) h = above-zero (decimal (suc n)) (first_decimal (suc n) (omeg
 pub numbers-read : (n : ℕ) → n < 65536 → number (decimal n) ≡ Some n
 numbers-read n h =
     let same : digits_value 10 (decimal n) ≡ n = digits_value-decimal own n (omega arith) in
-    let small : nat_lt n 65536 ≡ true = grind (arith, nat_tests) in
+    let small : nat_le n 65535 ≡ true = grind (arith, nat_tests) in
     rw (no-leading n h, digits-decimal n h, same, small) refl
 
 -- and from nothing else
@@ -55,7 +55,7 @@ lone-zero (x ∷ []) no_zero is_zero some = refl
 lone-zero (x ∷ y ∷ word) no_zero is_zero some = grind (arith, nat_tests)
 
 parts-of : (zero_first digits : Bool) (value n : ℕ)
-    → ◌≡◌ {A = Option ℕ} (if zero_first then None else if digits && nat_lt value 65536 then Some value else None) (Some n)
+    → ◌≡◌ {A = Option ℕ} (if zero_first then None else if digits && nat_le value 65535 then Some value else None) (Some n)
     → (zero_first ≡ false) × (digits ≡ true) × (value < 65536) × (value ≡ n)
 parts-of zero_first digits value n e = grind (arith, nat_tests)
 

@@ -1,5 +1,5 @@
 -- What one word says: a number, a number or `none`, `yes` or `no`.
-use Rattle.std.specs.Prelude.{ℕ, Bool, true, false, ◌&&◌, ◌==◌, if◌then◌else◌, nat_lt, [], ◌∷◌, Option, Some, None, codes}
+use Rattle.std.specs.Prelude.{ℕ, Bool, true, false, ◌&&◌, ◌==◌, if◌then◌else◌, nat_le, [], ◌∷◌, Option, Some, None, codes}
 use Rattle.std.specs.List.{list_all}
 use Rattle.std.specs.Option.{option_map}
 use Rattle.std.specs.Char.{is_ascii_digit}
@@ -12,9 +12,9 @@ abbrev pub are_digits : Word → Bool
 are_digits [] = false
 are_digits (digit ∷ digits) = list_all is_ascii_digit (digit ∷ digits)
 
--- the number below 65536 that decimal digits spell
-abbrev pub small_number : Word → Option ℕ
-small_number word = if are_digits word && nat_lt (digits_value 10 word) 65536 then Some (digits_value 10 word) else None
+-- the number that decimal digits spell, if it is no greater than the most
+abbrev pub digits_up_to : ℕ → Word → Option ℕ
+digits_up_to most word = if are_digits word && nat_le (digits_value 10 word) most then Some (digits_value 10 word) else None
 
 -- a zero in front of other bytes
 abbrev pub has_leading_zero : Word → Bool
@@ -24,7 +24,7 @@ has_leading_zero (digit ∷ other ∷ digits) = digit == 48
 
 -- a word is a number if it is digits below 65536 with no leading zero
 abbrev pub number : Word → Option ℕ
-number word = if has_leading_zero word then None else small_number word
+number word = if has_leading_zero word then None else digits_up_to 65535 word
 
 -- a word is a number or `none`
 abbrev pub number_or_none : Word → Option (Option ℕ)

@@ -1,6 +1,6 @@
 //! What one word says.
-ghost use Rattle.std.specs.Prelude.{◌≡◌};
-ghost use Rattle.line_words.specs.Numbers.{small_number, number, number_or_none, yes_or_no};
+ghost use Rattle.std.specs.Prelude.{◌≡◌, ◌≤◌, IfSome};
+ghost use Rattle.line_words.specs.Numbers.{digits_up_to, number, number_or_none, yes_or_no};
 
 /// The number that a word spells: decimal, at most 65535, with no leading zero.
 pub fn number(word: &[u8]) -> Option<u16>
@@ -9,27 +9,28 @@ pub fn number(word: &[u8]) -> Option<u16>
     if word.len() > 1 && word[0] == b'0' {
         return None;
     }
-    small_number(word)
+    digits_up_to(word, u32::from(u16::MAX)).map(|number| number as u16)
 }
 
-/// The number below 65536 that decimal digits spell, at least one.
-fn small_number(digits: &[u8]) -> Option<u16>
-    ensures { result ≡ small_number digits.now }
+/// The number that decimal digits spell, at least one of them, if it is at most `most`. Zeros may stand in front.
+pub fn digits_up_to(digits: &[u8], most: u32) -> Option<u32>
+    ensures number { result ≡ digits_up_to most digits.now }
+    ensures within { IfSome result (λ number. number ≤ most) }
 {
     if digits.is_empty() {
         return None;
     }
-    let mut value: u32 = 0;
+    let mut value: u64 = 0;
     for digit in digits {
         if !digit.is_ascii_digit() {
             return None;
         }
-        value = 10 * value + u32::from(*digit - b'0');
-        if value > 65535 {
+        value = 10 * value + u64::from(*digit - b'0');
+        if value > u64::from(most) {
             return None;
         }
     }
-    Some(value as u16)
+    Some(value as u32)
 }
 
 /// The number that a word spells, or `none`.

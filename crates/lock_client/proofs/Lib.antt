@@ -4,6 +4,5 @@ pub mod Guarding
 pub mod Holding
 pub mod LineLemmas
 pub mod Losing
-pub mod NumberLemmas
 pub mod Rows
 mod RowsSteps

@@ -1,5 +1,5 @@
 -- Small examples of what a guard does and of its words, and ones that fail.
-use Rattle.std.proofs.Common.{◌≡◌, ◌++◌, true, false, [], ◌∷◌, Some, None, refl, codes, arith}
+use Rattle.std.proofs.Common.{◌≡◌, ◌++◌, true, false, [], ◌∷◌, refl, codes, arith}
 use Rattle.lock_client.specs.declared.guard.GuardStage.TheVariants.{Idle, Searching, Waiting, Over}
 use Rattle.lock_client.specs.declared.guard.GuardEvent.{GuardEvent}
 use Rattle.lock_client.specs.declared.guard.GuardEvent.TheVariants.{Said, Closed, Looked, GraceIsOver}

@@ -17,7 +17,7 @@ use Rattle.lock_client.specs.Laws.{IsHarmless, IsReleasedNext, IsHeldToTheEnd, I
 use Rattle.lock_client.specs.Guards.{idle_after, watching_after, unseen, searching_after, asked_after, killed_after, waiting_after, guard_deed, look_rest}
 use Rattle.lock_client.specs.GuardLaws.{is_asking}
 use Rattle.held_signals.specs.Signals.{signal_number}
-use Rattle.lock_client.specs.Words.{are_digits, process_number}
+use Rattle.lock_client.specs.Words.{process_number}
 
 -- ---- a client
 
@@ -216,12 +216,6 @@ status-cannot = refl
 
 number-terminate : signal_number Terminate ≡ 15
 number-terminate = refl
-
-digits : are_digits (codes "07") ≡ true
-digits = refl
-
-digits_not-none : are_digits [] ≡ false
-digits_not-none = refl
 
 process-most : process_number (codes "4194304") ≡ Some 4194304
 process-most = refl

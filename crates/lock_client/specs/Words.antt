@@ -1,21 +1,15 @@
 -- The lines from a client to the guard of its command.
-use Rattle.std.specs.Prelude.{ℕ, Bool, false, ◌&&◌, ◌==◌, if◌then◌else◌, nat_lt, nat_le, List, [], ◌∷◌, Option, Some, None, map, length, drop, codes}
-use Rattle.std.specs.List.{list_all, starts_with}
-use Rattle.std.specs.Char.{is_ascii_digit}
+use Rattle.std.specs.Prelude.{ℕ, ◌==◌, if◌then◌else◌, nat_lt, List, Option, Some, None, map, length, drop, codes}
+use Rattle.std.specs.List.{starts_with}
 use Rattle.std.specs.Str.{bytes_eq}
-use Rattle.std.specs.Str.Parse.{digits_value}
 use Rattle.byte_lines.specs.Lines.{whole_lines}
+use Rattle.line_words.specs.Numbers.{digits_up_to}
 use Rattle.lock_client.specs.declared.words.GuardWord.{GuardWord}
 use Rattle.lock_client.specs.declared.words.GuardWord.TheVariants.{Start, Runs, Done, Other}
 
--- at least one byte, each a decimal digit
-abbrev pub are_digits : List ℕ → Bool
-are_digits [] = false
-are_digits (digit ∷ digits) = list_all is_ascii_digit (digit ∷ digits)
-
 -- the id of a process that decimal digits spell: at most 2 ^ 22, by Linux
 abbrev pub process_number : List ℕ → Option ℕ
-process_number word = if are_digits word && nat_le (digits_value 10 word) 4194304 then Some (digits_value 10 word) else None
+process_number = digits_up_to 4194304
 
 -- `runs ` and the id of the command's process
 abbrev pub runs_of : Option ℕ → GuardWord

@@ -2,9 +2,10 @@
 ghost use Rattle.std.specs.Prelude.{◌≡◌, ◌++◌, ◌∷◌, [], List, ℕ, ◌≤◌, length};
 ghost use Rattle.std.specs.Option.{option_to_list};
 ghost use Rattle.byte_lines.specs.Kept.{StandsAfter};
-ghost use Rattle.lock_client.specs.Words.{guard_word, guard_words, runs_word, process_number};
+ghost use Rattle.lock_client.specs.Words.{guard_word, guard_words, runs_word};
 
 use byte_lines::{HalfLine, LineReading};
+use line_words::digits_up_to;
 use std::marker::Model;
 
 /// The greatest id of a process on Linux.
@@ -94,30 +95,10 @@ fn runs(line: &[u8]) -> GuardWord
     ensures { result ≡ runs_word line.now }
 {
     match line.strip_prefix(b"runs ") {
-        Some(digits) => match process_number(digits) {
+        Some(digits) => match digits_up_to(digits, MOST_PROCESS) {
             Some(process) => GuardWord::Runs(process),
             None => GuardWord::Other,
         },
         None => GuardWord::Other,
     }
-}
-
-/// The id of a process that decimal digits spell, at least one.
-fn process_number(digits: &[u8]) -> Option<u32>
-    ensures { result ≡ process_number digits.now }
-{
-    if digits.is_empty() {
-        return None;
-    }
-    let mut value: u32 = 0;
-    for digit in digits {
-        if !digit.is_ascii_digit() {
-            return None;
-        }
-        value = 10 * value + u32::from(*digit - b'0');
-        if value > MOST_PROCESS {
-            return None;
-        }
-    }
-    Some(value)
 }

@@ -46,7 +46,7 @@ after_state now network site s r =
     (after_note now (noted.State (own_part s))
     (after_note now (noted.State (Start network site.id)) r)))))
 
--- the whole state of a node is to be noted before its next deeds: a file begins, or the node has other
+-- the whole state of a node must be noted before its next deeds: a file begins, or the node has other
 -- neighbours
 abbrev pub is_to_begin : {A : Type 0} → NodeRecorder A → Bool
 is_to_begin r = r.is_rewired || is_at_start r.pages
@@ -71,7 +71,7 @@ pub record TakesOver {A : Type 0} (now : ℕ) (node : NodeView) (old new : NodeR
 
 module _ {A : Type 0} (now : ℕ) (deeds : List Deed) (has_all : Bool) (node : NodeView)
     (old new : NodeRecorder A) where
-  -- The deeds are noted, after the state before them if that is to be noted. They lead the second node, by
+  -- The deeds are noted, after the state before them if that must be noted. They lead the second node, by
   -- its own steps, to where the node stands.
   pub record NotesDeeds : Type 0 where
     pub all : has_all ≡ true

@@ -1,4 +1,4 @@
--- The earliest so far, where one more record is looked at.
+-- The earliest so far, once one more record is looked at.
 use Rattle.std.proofs.Common.{◌≡◌, ◌∙◌, sym, subst, arith, ℕ, ◌+◌, ◌<◌, ◌≤◌, true, false, List, Option, None, Some, inl, inr, ◌⊎◌}
 use Rattle.std.specs.Prelude.{nat_le}
 use Rattle.std.proofs.lemmas.Bool.{cases_lt}

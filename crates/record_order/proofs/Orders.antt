@@ -1,4 +1,4 @@
--- Where no step is ready, and one is not read, there is no order.
+-- If no step is ready, and one is not read, there is no order.
 use Rattle.std.proofs.Common.{◌≡◌, ◌∙◌, ap, refl, sym, subst, arith, ℕ, zero, suc, ◌+◌, ◌<◌, ◌≤◌, ◌==◌, true, cond, List, [], ◌∷◌, ◌++◌, length, drop, Option, None, Some, inl, inr}
 use Rattle.std.proofs.lemmas.Bool.{cases_lt, cases_Bool, eqb-true}
 use Rattle.std.proofs.lemmas.Bool.Decides.{nat_tests}
@@ -7,7 +7,7 @@ use Rattle.record_order.specs.declared.ready.Step.{Step}
 use Rattle.record_order.specs.Order.{is_met, ready_instant, head_of, IsEarliest}
 use Rattle.record_order.specs.Laws.{first_of, counts, AreHeads, IsMet, IsReady, one_more, Goes, nothing, OneOrderOrNone}
 
--- what is met stays so, where no less was read
+-- what is met stays so, if no less was read
 met-more : (read more : ℕ → ℕ) (need : Option Need) → ((v : ℕ) → read v ≤ more v) → IsMet read need → IsMet more need
 met-more read more None le met = tt
 met-more read more (Some need) le met = omega (arith, met, le need.node)
@@ -81,7 +81,7 @@ stuck-there records read heads n are h v ready =
       | inr ge ↦ no-step (counts read v) ready.0 ready.1 (ap (λ (steps : List Step). drop (counts read v) steps) (sym (are.no_more v ge)) ∙ ready.2)
     ]
 
--- what is ready is so, where as much was read
+-- what is ready is so, if as much was read
 ready-same : (records : ℕ → List Step) (read last : ℕ → ℕ) (v : ℕ) → ((u : ℕ) → read u ≡ last u) → IsReady records last v → IsReady records read v
 ready-same records read last v same ready =
     (ready.0, ready.1, subst (λ (k : ℕ). drop k (records v) ≡ ready.0 ∷ ready.1) (sym (same v)) ready.2, met-more last read ready.0.need (λ u. omega (arith, same u)) ready.3)

@@ -30,7 +30,7 @@ abbrev pub head_of : List (Option Step) → ℕ → Option Step
 head_of heads v = slice_index_or heads v None
 
 -- Of the first n records this is the node whose next step is the earliest that is ready, and the first
--- of those of one instant; there is none where none is ready.
+-- of those of one instant; there is none if none is ready.
 abbrev pub IsEarliest : List ℕ → List (Option Step) → ℕ → Option ℕ → Type 0
 IsEarliest read heads n None = (u : ℕ) → u < n → ready_instant read (head_of heads u) ≡ None
 IsEarliest read heads n (Some v) =

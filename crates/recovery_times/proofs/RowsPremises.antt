@@ -4,7 +4,8 @@ use Rattle.std.specs.Fmt.{digits}
 use Rattle.topology.specs.Network.{Network}
 use Rattle.recovery_times.specs.declared.words.TimeFault.TheVariants.{Turn, Delay, Loan, Repeat}
 use Rattle.recovery_times.specs.Times.{usual, lending_of, recovery_of}
-use Rattle.recovery_times.specs.Reading.{point_at, digits_up_to, whole_of, thousandths_of, after_point, part_of, within_an_hour}
+use Rattle.line_words.specs.Numbers.{digits_up_to}
+use Rattle.recovery_times.specs.Reading.{point_at, whole_of, thousandths_of, after_point, part_of, within_an_hour}
 use Rattle.recovery_times.specs.Text.{times_text}
 use Rattle.recovery_times.specs.Words.{no_less, time_or, or_fault, premises_of, option_name, least_text, time_fault_text}
 
@@ -46,10 +47,10 @@ after-first = refl
 after-none : after_point (codes "22") ≡ None
 after-none = refl
 
-digits-most : digits_up_to (codes "3600000") ≡ Some 3600000
+digits-most : digits_up_to 3600000 (codes "3600000") ≡ Some 3600000
 digits-most = refl
 
-digits_not-more : digits_up_to (codes "3600001") ≡ None
+digits_not-more : digits_up_to 3600000 (codes "3600001") ≡ None
 digits_not-more = refl
 
 whole-zero : whole_of (codes "0") ≡ Some 0

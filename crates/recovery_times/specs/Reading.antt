@@ -3,22 +3,16 @@ use Rattle.std.specs.Prelude.{ℕ, suc, ◌+◌, ◌-◌, ◌*◌, ◌^◌, ◌&
 use Rattle.std.specs.Borrow.{Bor}
 use Rattle.std.specs.Option.{option_and_then, option_map}
 use Rattle.std.specs.Str.Parse.{digits_value}
-use Rattle.line_words.specs.Numbers.{are_digits, has_leading_zero}
+use Rattle.line_words.specs.Numbers.{are_digits, digits_up_to, has_leading_zero}
 
 -- how many bytes stand in front of the first point
 abbrev pub point_at : List ℕ → ℕ
 point_at [] = 0
 point_at (byte ∷ bytes) = if byte == 46 then 0 else suc (point_at bytes)
 
--- the number that decimal digits spell, at least one, at most as many milliseconds as an hour has
-abbrev pub digits_up_to : List ℕ → Option ℕ
-digits_up_to digits =
-    if are_digits digits && nat_le (digits_value 10 digits) 3600000
-    then Some (digits_value 10 digits) else None
-
--- the whole milliseconds: no zero stands in front of other digits
+-- the whole milliseconds, at most as many as an hour has: no zero stands in front of other digits
 abbrev pub whole_of : List ℕ → Option ℕ
-whole_of digits = if has_leading_zero digits then None else digits_up_to digits
+whole_of digits = if has_leading_zero digits then None else digits_up_to 3600000 digits
 
 -- the microseconds that one to three digits after the point spell
 abbrev pub thousandths_of : List ℕ → Option ℕ

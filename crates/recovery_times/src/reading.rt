@@ -1,7 +1,9 @@
 //! A time, as a word spells it.
 ghost use Rattle.std.specs.Prelude.{◌≡◌, ◌≤◌, IfSome, length, take};
-ghost use Rattle.recovery_times.specs.Reading.{point_at, digits_up_to, whole_of, thousandths_of};
+ghost use Rattle.recovery_times.specs.Reading.{point_at, whole_of, thousandths_of};
 ghost use Rattle.recovery_times.specs.Reading.{micros_of, thousandths_in};
+
+use line_words::digits_up_to;
 
 /// The longest time that is read, an hour, in microseconds.
 const HOUR: u32 = 3_600_000_000;
@@ -43,7 +45,7 @@ fn whole_of(digits: &[u8]) -> Option<u32>
     if digits.len() > 1 && digits[0] == b'0' {
         return None;
     }
-    digits_up_to(digits)
+    digits_up_to(digits, HOUR_IN_MILLIS)
 }
 
 /// The microseconds that stand after the point, if there is one.
@@ -62,32 +64,11 @@ fn thousandths_of(digits: &[u8]) -> Option<u32>
     ensures part { result ≡ thousandths_of digits.now }
     ensures within { IfSome result (λ part. part ≤ 360000000) }
 {
-    let value = digits_up_to(digits)?;
+    let value = digits_up_to(digits, HOUR_IN_MILLIS)?;
     match digits.len() {
         1 => Some(100 * value),
         2 => Some(10 * value),
         3 => Some(value),
         _ => None,
     }
-}
-
-/// The number that decimal digits spell, at least one, at most as many milliseconds as an hour has.
-fn digits_up_to(digits: &[u8]) -> Option<u32>
-    ensures number { result ≡ digits_up_to digits.now }
-    ensures within { IfSome result (λ number. number ≤ 3600000) }
-{
-    if digits.is_empty() {
-        return None;
-    }
-    let mut value: u32 = 0;
-    for digit in digits {
-        if !digit.is_ascii_digit() {
-            return None;
-        }
-        value = 10 * value + u32::from(*digit - b'0');
-        if value > HOUR_IN_MILLIS {
-            return None;
-        }
-    }
-    Some(value)
 }

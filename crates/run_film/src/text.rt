@@ -34,7 +34,7 @@ pub struct FilmText {
 /// The film of what the events that a source gives lead to on a network.
 ///
 /// # Errors
-/// Where memory runs out, the source fails or gives too many bytes.
+/// If memory runs out, the source fails, or it gives too many bytes.
 pub fn film_text<S: Source>(
     alloc: Global,
     net: &Net,

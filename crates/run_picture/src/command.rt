@@ -26,7 +26,7 @@ use watched::Watched;
 /// The most columns of a picture.
 pub const MOST_COLUMNS: u16 = 1200;
 
-/// What is to be drawn of a run.
+/// Which part of a run is drawn.
 #[derive(Clone, Copy)]
 pub struct Wanted {
     /// The most columns, 1 to [`MOST_COLUMNS`]; 0 counts as 1.

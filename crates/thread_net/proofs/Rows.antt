@@ -281,7 +281,7 @@ no-silent_turn w ran =
 no-other_world : IsThreadRun (λ v. 1) start events start → ⊥
 no-other_world ran = let distance : 0 ≡ 2 = ap (λ (w : World). (w.node 0).distance) ran.leads in omega (arith, distance)
 
--- ---- where a thread was refused
+-- ---- a thread was refused
 
 abbrev alone_events : List Event
 alone_events = Tick 0 ∷ Send 0 1 ∷ []

@@ -1,4 +1,4 @@
--- What stands where nodes did not run all their turns.
+-- What stands if nodes did not run all their turns.
 use Rattle.std.specs.Prelude.{◌≡◌, ◌⊎◌, ℕ, ◌<◌, List}
 use Rattle.judge.specs.run_model.World.{World}
 use Rattle.judge.specs.run_model.declared.event.Event.{Event}
@@ -14,7 +14,7 @@ pub record IsPartRun (turns : ℕ) (start : World) (events : List Event) (last :
   pub idle : (v : ℕ) × (v < start.net.nodes) × (did v ≡ 0)
   pub run : IsThreadRun did start events last
 
--- where memory was refused the world is as it was
+-- if memory was refused, the world is as it was
 abbrev pub IsFault : ℕ → ConfigurationView → RunFault → Type 0
 IsFault turns world (Memory back) = back ≡ world
 IsFault turns world (Spawn woven) = IsPartRun turns (world_of world) woven.events.items (world_of woven.world)

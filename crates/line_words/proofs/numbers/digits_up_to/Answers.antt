@@ -1,13 +1,13 @@
 use Rattle.std.proofs.Common.{◌+◌, sym, arith}
 use Rattle.line_words.proofs.MoreDigits.{more-value, more-digits, too-large}
-use Rattle.line_words.proofs.numbers.small_number.Goals as goal
+use Rattle.line_words.proofs.numbers.digits_up_to.Goals as goal
 
-pub returns-then-value-gt65535 : goal.returns-then-value-gt65535
-returns-then-value-gt65535 c =
+pub returns-then-value-from-clause-number : goal.returns-then-value-from-clause-number
+returns-then-value-from-clause-number c =
     let ds = c.args.digits.now in
     let i = c.loop-digit.digit-index in
     let value = more-value ds i c.loop-digit.value (omega arith) c.loop-digit.invariant.0 (sym c.if-not-is_ascii_digit.ensures.value) in
-    sym (too-large ds (i + 1) (omega arith))
+    sym (too-large c.args.most ds (i + 1) (omega arith))
 
 pub loop-digit-preserved : goal.loop-digit-preserved
 loop-digit-preserved c =
