@@ -5,10 +5,11 @@
 # comparison, also what a command costs under the lock and under flock(1), and a loop that locks one file. Needs python3
 # and flock; takes half a minute for each ring. The program is ./tokentree, or what TOKENTREE names.
 #
-# bench/lock.sh --record [NODES..] compares nodes that keep a record with nodes that keep none instead: two rings of
-# each kind run at the same time, and their clients ask in turn, each time in another order, 12,000 times for each kind
-# at each place. So 120 waits lie above each 99th percentile, and the two rings of one kind show how much chance is in
-# it. Of grants a second the median of ten tries is shown. Takes eight minutes for each size.
+# bench/lock.sh --record [NODES..] compares nodes that keep a record with nodes that keep none instead. In each of
+# eight rounds two new rings of each kind run at the same time, and their clients ask in turn, each time in another
+# order, 1,000 times in each ring at each place. So 160 of 16,000 waits lie above each 99th percentile. Two rings of one
+# kind differ by chance, which is why there are eight rounds; how much they differ is shown beside what records change.
+# Of grants a second the median of sixteen tries is shown. Takes eleven minutes for each size.
 set -euo pipefail
 compare=
 [ "${1:-}" != --record ] || { compare=record; shift; }
@@ -25,6 +26,8 @@ import fcntl, multiprocessing, os, random, socket, subprocess, sys, time
 program, folder, compare = sys.argv[1:4]
 sizes = [int(n) for n in sys.argv[4:]]
 TICKS = os.sysconf("SC_CLK_TCK")
+ROUNDS = 8
+NAMES = ["plain", "recorded", "plain-2", "recorded-2"]
 
 
 class Client:
@@ -176,17 +179,11 @@ def recorded(run, nodes):
 def idle_loads(rings):
     """The percentage of a processor that a node of each ring uses while no client is there, measured at the same time."""
     before = [[used(process) for process in running] for _, running in rings]
-    time.sleep(20)
+    time.sleep(5)
     return [
-        sum(used(process) - b for process, b in zip(running, own)) / 20 / len(running) * 100
+        [sum(used(process) - b for process, b in zip(running, own)) / 5 / len(running) * 100]
         for (_, running), own in zip(rings, before)
     ]
-
-
-def rates_in_turn(rings, nodes, times):
-    """The grants a second of each ring, so many times; they are measured in turn."""
-    rates = [[all_grants(run, nodes) for run, _ in rings] for _ in range(times)]
-    return [list(own) for own in zip(*rates)]
 
 
 def of_kind(values, kind):
@@ -209,22 +206,28 @@ def most(values):
     return middle_and_most(values)[1]
 
 
-def side_by_side(nodes):
-    """Compares two rings of nodes that keep no record with two rings of nodes that keep one."""
-    names = ["plain", "recorded", "plain-2", "recorded-2"]
-    rings = [start(nodes, name, *["--record"] * name.startswith("recorded")) for name in names]
+def round_of_rings(nodes, place):
+    """What a round measures, by the four rings: waits at the root and far from it, idle loads, rates, and the rest."""
+    rings = [start(nodes, f"{name}-{place}", *["--record"] * name.startswith("recorded")) for name in NAMES]
     runs = [run for run, _ in rings]
-    near, far = (in_turn(runs, node, 6000) for node in (0, nodes // 2))
-    idle, rates = idle_loads(rings), rates_in_turn(rings, nodes, 5)
-    size = [memory(running[0]) for _, running in rings]
-    statuses = [stop(run, running) for run, running in rings]
+    near, far = (in_turn(runs, node, 1000) for node in (0, nodes // 2))
+    idle, rates = idle_loads(rings), [[all_grants(run, nodes)] for run in runs]
+    sizes = [[memory(running[0])] for _, running in rings]
+    assert all(stop(run, running) == [0] * nodes for run, running in rings)
+    return near, far, idle, rates, sizes, [[recorded(run, nodes)] for run in runs]
+
+
+def side_by_side(nodes):
+    """Compares rings of nodes that keep no record with rings of nodes that keep one."""
+    rounds = [round_of_rings(nodes, place) for place in range(ROUNDS)]
+    near, far, idle, rates, sizes, records = ([sum(own, []) for own in zip(*kind)] for kind in zip(*rounds))
     for kind, name in enumerate(["no record", "records"]):
         print(
-            f"ring of {nodes:2}  {name:9}  idle {idle[kind]:.1f} and {idle[kind + 2]:.1f} %"
+            f"ring of {nodes:2}  {name:9}  idle {half(of_kind(idle, kind)):.1f} %"
             f"  lock at the root {half(of_kind(near, kind)):.2f} and {most(of_kind(near, kind)):.2f} ms"
             f"  far from it {half(of_kind(far, kind)):.2f} and {most(of_kind(far, kind)):.2f} ms"
-            f"  all {half(of_kind(rates, kind)):6.0f} grants a second  memory {size[kind]} kB"
-            f"  records {recorded(runs[kind], nodes)} bytes  statuses {statuses[kind]}",
+            f"  all {half(of_kind(rates, kind)):6.0f} grants a second  memory {half(of_kind(sizes, kind))} kB"
+            f"  records {half(of_kind(records, kind))} bytes",
             flush=True,
         )
     print(

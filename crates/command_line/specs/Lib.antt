@@ -1,3 +1,5 @@
+pub use Rattle.program_ends.specs as program_ends
+pub use Rattle.subcommands.specs as subcommands
 pub mod Ends
 pub mod Manner
 pub mod Named

@@ -13,4 +13,5 @@ mod RowsGivenBack
 pub mod RowsDelays
 pub mod RowsMeasured
 mod RowsLayered
+mod RowsMoves
 pub mod RowsScheduled

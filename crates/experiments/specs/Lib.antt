@@ -3,6 +3,7 @@ pub use Rattle.schedules.specs as schedules
 pub mod Delays
 pub mod Laws
 pub mod Layered
+pub mod Moves
 pub mod Plan
 pub mod Recovery
 pub mod Scheduled

@@ -5,16 +5,24 @@
 //! schedule up to the sharper bound. [`measure_layers`] also says when each layer of the proof stood
 //! for good. [`summary_of`] gives the least, the median and the most of many.
 //!
+//! How many sweeps a network can really take is not known; each run that serves late is a lower bound.
+//! [`climb`] looks for one by hill climbing over the harms at the start and over the order in which nodes
+//! and links move. Nothing is claimed of the search itself: whatever it does, the list that it answers is
+//! judged again from its start, and the contract of [`climb`] speaks of that list.
+//!
 //! ```
 //! let run = measure_run(alloc, &net, Scheduler::Rounds, 7)?;
 //! // after run.sweeps sweeps it served; there were run.seen of them
+//! let run = climb(alloc, &net, Search { seed: 7, steps: 2000 })?;
+//! // run.events, after run.harms, serve only after run.delay.sweeps sweeps
 //! ```
 //!
-//! The trap: a loan that the scramble wrote has no client who would ever give the lock back. After
-//! each round the experiment gives it back in that client's name, since a network without a lease
-//! would else wait for ever.
+//! Two traps. The search finds what it finds; that it finds no later run says nothing. And a loan that
+//! the scramble wrote has no client who would ever give the lock back. After each round the experiment
+//! gives it back in that client's name, since a network without a lease would else wait for ever.
 #![tactic(auto)]
 
+mod climbing;
 mod delay;
 mod giving_back;
 pub mod laws;
@@ -22,9 +30,12 @@ mod layered_run;
 mod layers_seen;
 mod measured_run;
 mod plan;
+mod play;
 mod summary;
+mod trial;
 mod watch;
 
+pub use climbing::{Search, SlowRun, climb};
 pub use delay::{Delay, replay};
 pub use judge;
 pub use layered_run::{Settling, measure_layers};

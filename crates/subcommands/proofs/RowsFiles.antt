@@ -17,10 +17,10 @@ use Rattle.network_kinds.specs.declared.kind.Kind.TheVariants.{Line}
 use Rattle.recovery_times.specs.Times.{usual}
 use Rattle.command_parts.specs.schedules.damage_tool.Draws.{draw, draw_junk}
 use Rattle.command_parts.specs.world.declared.simulation.Summary.{Summary as Simulated}
-use Rattle.slow_runs.specs.experiments.declared.measured_run.Recovery.{Recovery}
-use Rattle.slow_runs.specs.experiments.declared.measured_run.Scheduler.TheVariants as scheduler
-use Rattle.slow_runs.specs.experiments.declared.summary.Summary.{Summary}
-use Rattle.slow_runs.specs.experiments.Summary.{IsSummaryOf}
+use Rattle.experiments.specs.declared.measured_run.Recovery.{Recovery}
+use Rattle.experiments.specs.declared.measured_run.Scheduler.TheVariants as scheduler
+use Rattle.experiments.specs.declared.summary.Summary.{Summary}
+use Rattle.experiments.specs.Summary.{IsSummaryOf}
 use Rattle.subcommands.specs.declared.measure.Plan.{Plan}
 use Rattle.subcommands.specs.declared.network.Wanted.{Wanted}
 use Rattle.subcommands.specs.Bound.{bound_text, timed_text}

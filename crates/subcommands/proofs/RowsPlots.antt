@@ -1,6 +1,6 @@
 -- A small example of what is plotted of measured runs, and one that looks like it and is none.
 use Rattle.std.proofs.Common.{◌≡◌, ◌≢◌, [], ◌∷◌, refl, arith}
-use Rattle.slow_runs.specs.experiments.declared.layered_run.Settling.{Settling}
+use Rattle.experiments.specs.declared.layered_run.Settling.{Settling}
 use Rattle.settling_plot.specs.declared.figure.Layer.TheVariants.{Links, Tree, Ring, Served}
 use Rattle.subcommands.specs.MeasuredPlot.{settled_sweeps}
 

@@ -4,12 +4,12 @@ use Rattle.std.proofs.lemmas.Fmt.{decimal_digit}
 use Rattle.std.proofs.lemmas.List.Elements.{All-head, All-tail}
 use Rattle.rand_pcg.specs.Lcg.{Lcg}
 use Rattle.topology.specs.Network.{Network}
-use Rattle.slow_runs.specs.experiments.Shown.{IsRunOf}
-use Rattle.slow_runs.specs.experiments.declared.layered_run.Settling.{Settling}
-use Rattle.slow_runs.specs.experiments.declared.measured_run.Recovery.{Recovery}
-use Rattle.slow_runs.specs.experiments.declared.measured_run.Scheduler.TheVariants as scheduler
-use Rattle.slow_runs.specs.experiments.declared.plan.Order.TheVariants as order
-use Rattle.slow_runs.specs.experiments.declared.plan.PlanFault.TheVariants as plan
+use Rattle.experiments.specs.Shown.{IsRunOf}
+use Rattle.experiments.specs.declared.layered_run.Settling.{Settling}
+use Rattle.experiments.specs.declared.measured_run.Recovery.{Recovery}
+use Rattle.experiments.specs.declared.measured_run.Scheduler.TheVariants as scheduler
+use Rattle.experiments.specs.declared.plan.Order.TheVariants as order
+use Rattle.experiments.specs.declared.plan.PlanFault.TheVariants as plan
 use Rattle.command_parts.specs.declared.fault.Fault.TheVariants as fault
 use Rattle.subcommands.specs.declared.schedule.Turns.TheVariants as turns
 use Rattle.subcommands.specs.declared.measure.Plan.{Plan}

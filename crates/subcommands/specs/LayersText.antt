@@ -1,8 +1,8 @@
 -- What has settled of a world, as lines.
 use Rattle.std.specs.Prelude.{◌≡◌, ℕ, Bool, if◌then◌else◌, List, ◌++◌, codes, decimal}
 use Rattle.command_parts.specs.world.run_model.World.{World}
-use Rattle.slow_runs.specs.experiments.layers.declared.whole.Layers.{Layers}
-use Rattle.slow_runs.specs.experiments.layers.LayersOf.{AreLayersOf}
+use Rattle.experiments.specs.layers.declared.whole.Layers.{Layers}
+use Rattle.experiments.specs.layers.LayersOf.{AreLayersOf}
 
 -- how a layer that stands or does not is written
 abbrev pub yes_or_no : Bool → List ℕ

@@ -12,6 +12,6 @@ pub mod MeasuredData
 pub mod MeasuredCsv
 pub mod MeasuredPlot
 pub use Rattle.command_parts.specs as command_parts
-pub use Rattle.slow_runs.specs.experiments as experiments
+pub use Rattle.experiments.specs as experiments
 pub mod Hints
 pub mod LayersText

@@ -2,10 +2,10 @@
 use Rattle.std.specs.Prelude.{◌≡◌, ℕ, Bool, ◌||◌, ◌&&◌, not, nat_le, if◌then◌else◌, List, [], ◌∷◌, ◌++◌, ◌+◌, length, All, IsTrue, ◌↔◌, Option, Some, None, codes, decimal}
 use Rattle.topology.specs.Network.{Network, bound_of}
 use Rattle.topology.specs.Eccentricity.{sharp_of}
-use Rattle.slow_runs.specs.experiments.declared.measured_run.Recovery.{Recovery}
-use Rattle.slow_runs.specs.experiments.declared.summary.Summary.{Summary}
-use Rattle.slow_runs.specs.experiments.Shown.{IsRunOf}
-use Rattle.slow_runs.specs.experiments.Summary.{IsSummaryOf}
+use Rattle.experiments.specs.declared.measured_run.Recovery.{Recovery}
+use Rattle.experiments.specs.declared.summary.Summary.{Summary}
+use Rattle.experiments.specs.Shown.{IsRunOf}
+use Rattle.experiments.specs.Summary.{IsSummaryOf}
 use Rattle.subcommands.specs.Bound.{number_line}
 use Rattle.subcommands.specs.declared.measure.Plan.{Plan}
 

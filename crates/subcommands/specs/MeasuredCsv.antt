@@ -2,8 +2,8 @@
 use Rattle.std.specs.Prelude.{◌≡◌, ℕ, Bool, ◌&&◌, nat_le, if◌then◌else◌, List, [], ◌∷◌, ◌++◌, All, IsTrue, ◌↔◌, codes, decimal}
 use Rattle.topology.specs.Network.{Network}
 use Rattle.topology.specs.Eccentricity.{sharp_of}
-use Rattle.slow_runs.specs.experiments.Layered.{IsSettlingOf}
-use Rattle.slow_runs.specs.experiments.declared.layered_run.Settling.{Settling}
+use Rattle.experiments.specs.Layered.{IsSettlingOf}
+use Rattle.experiments.specs.declared.layered_run.Settling.{Settling}
 use Rattle.subcommands.specs.Measured.{AreRunsOf}
 use Rattle.subcommands.specs.declared.measure.Plan.{Plan}
 

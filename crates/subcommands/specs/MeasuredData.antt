@@ -6,10 +6,10 @@ use Rattle.serde_json.specs.View.{items_of}
 use Rattle.serde_json.specs.Written.{IsInOrder}
 use Rattle.topology.specs.Network.{Network, bound_of}
 use Rattle.topology.specs.Eccentricity.{sharp_of}
-use Rattle.slow_runs.specs.experiments.declared.measured_run.Recovery.{Recovery}
-use Rattle.slow_runs.specs.experiments.declared.summary.Summary.{Summary}
-use Rattle.slow_runs.specs.experiments.Shown.{IsRunOf}
-use Rattle.slow_runs.specs.experiments.Summary.{IsSummaryOf}
+use Rattle.experiments.specs.declared.measured_run.Recovery.{Recovery}
+use Rattle.experiments.specs.declared.summary.Summary.{Summary}
+use Rattle.experiments.specs.Shown.{IsRunOf}
+use Rattle.experiments.specs.Summary.{IsSummaryOf}
 use Rattle.subcommands.specs.BoundData.{count, or_null}
 use Rattle.subcommands.specs.Measured.{AreRunsOf, has_served, HaveServed, served_sweeps}
 use Rattle.subcommands.specs.declared.measure.Plan.{Plan}

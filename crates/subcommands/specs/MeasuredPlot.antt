@@ -2,8 +2,8 @@
 use Rattle.std.specs.Prelude.{◌≡◌, ℕ, ◌+◌, ◌-◌, ◌*◌, if◌then◌else◌, List, [], ◌∷◌, IsTrue, ◌↔◌, string_bytes}
 use Rattle.topology.specs.Network.{Network}
 use Rattle.topology.specs.Eccentricity.{eccentricity_of, sharp_of}
-use Rattle.slow_runs.specs.experiments.Layered.{IsSettlingOf}
-use Rattle.slow_runs.specs.experiments.declared.layered_run.Settling.{Settling}
+use Rattle.experiments.specs.Layered.{IsSettlingOf}
+use Rattle.experiments.specs.declared.layered_run.Settling.{Settling}
 use Rattle.settling_plot.specs.Plot.{IsPlotted}
 use Rattle.settling_plot.specs.declared.figure.Figure.{Figure}
 use Rattle.settling_plot.specs.declared.figure.Layer.{Layer}

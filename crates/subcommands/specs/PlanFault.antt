@@ -1,6 +1,6 @@
 -- The program's fault for a schedule's fault.
-use Rattle.slow_runs.specs.experiments.declared.plan.PlanFault.{PlanFault}
-use Rattle.slow_runs.specs.experiments.declared.plan.PlanFault.TheVariants.{Memory as MemoryRefused, Sink}
+use Rattle.experiments.specs.declared.plan.PlanFault.{PlanFault}
+use Rattle.experiments.specs.declared.plan.PlanFault.TheVariants.{Memory as MemoryRefused, Sink}
 use Rattle.command_parts.specs.declared.fault.Fault.{Fault}
 use Rattle.command_parts.specs.declared.fault.Fault.TheVariants.{Memory, Output}
 

@@ -1,6 +1,6 @@
 -- What follows a scramble, in the order of its events.
-use Rattle.slow_runs.specs.experiments.declared.plan.Order.{Order}
-use Rattle.slow_runs.specs.experiments.declared.plan.Order.TheVariants.{Rounds as InRounds, Random as AtRandom}
+use Rattle.experiments.specs.declared.plan.Order.{Order}
+use Rattle.experiments.specs.declared.plan.Order.TheVariants.{Rounds as InRounds, Random as AtRandom}
 use Rattle.subcommands.specs.declared.schedule.Turns.{Turns}
 use Rattle.subcommands.specs.declared.schedule.Turns.TheVariants.{Rounds, Random}
 use Rattle.subcommands.specs.Damaged.{seeded}

@@ -2,8 +2,8 @@
 use Rattle.std.specs.Prelude.{◌≡◌, ◌≤◌, ℕ, List, ◌++◌, Some, codes}
 use Rattle.topology.specs.Network.{Network, bound_of}
 use Rattle.topology.specs.Eccentricity.{sharp_of}
-use Rattle.slow_runs.specs.experiments.Delays.{IsReplayed}
-use Rattle.slow_runs.specs.experiments.declared.delay.Delay.{Delay}
+use Rattle.experiments.specs.Delays.{IsReplayed}
+use Rattle.experiments.specs.declared.delay.Delay.{Delay}
 use Rattle.subcommands.specs.Bound.{number_line}
 use Rattle.subcommands.specs.declared.worst.Extent.{Extent}
 use Rattle.subcommands.specs.declared.worst.Extent.TheVariants.{Searches, Minutes}

@@ -40,5 +40,5 @@ pub mod simulate;
 pub mod worst;
 
 pub use command_parts::{Fault, PathFault};
-pub use slow_runs::experiments::Scheduler;
-pub use slow_runs::experiments::schedules::Chances;
+pub use experiments::Scheduler;
+pub use experiments::schedules::Chances;

@@ -11,7 +11,7 @@ ghost use Rattle.command_parts.specs.declared.fault.Fault.TheVariants.{Output};
 use crate::bound::push_number;
 use crate::side_by_side::measured;
 use command_parts::{Fault, read_network};
-use slow_runs::experiments::{Recovery, Scheduler, Summary, summary_of};
+use experiments::{Recovery, Scheduler, Summary, summary_of};
 use std::alloc::{AllocError, Global};
 use std::fmt::Write;
 use std::process::ExitCode;

@@ -9,7 +9,7 @@ ghost use Rattle.subcommands.specs.Faults.{IsUnprinted};
 use crate::measure::{Plan, ending};
 use crate::side_by_side::measured;
 use command_parts::{Fault, read_network};
-use slow_runs::experiments::Settling;
+use experiments::Settling;
 use std::alloc::{AllocError, Global};
 use std::fmt::Write;
 use std::process::ExitCode;

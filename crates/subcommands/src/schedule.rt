@@ -3,7 +3,7 @@ ghost use Rattle.std.specs.Prelude.{◌≡◌, ◌⊎◌, [], Err, IfOk, IfErr, 
 ghost use Rattle.std.specs.Io.Buffered.{writer_buffer, writer_contents};
 ghost use Rattle.std.specs.Process.{exit_status};
 ghost use Rattle.byte_streams.specs.Streams.{Rose};
-ghost use Rattle.slow_runs.specs.experiments.Plan.{planned};
+ghost use Rattle.experiments.specs.Plan.{planned};
 ghost use Rattle.subcommands.specs.PlanFault.{fault_of};
 ghost use Rattle.command_parts.specs.EventText.{GrowsByText};
 ghost use Rattle.subcommands.specs.Damaged.{seeded};
@@ -12,10 +12,10 @@ ghost use Rattle.subcommands.specs.Faults.{IsUnprinted};
 ghost use Rattle.command_parts.specs.declared.fault.Fault.TheVariants.{Memory, Output};
 
 use command_parts::{EventText, Fault, read_network};
+use experiments::schedules::Chances;
+use experiments::{Order, PlanFault, give_plan};
 use rand_core::SeedableRng;
 use rand_pcg::Lcg64Xsh32;
-use slow_runs::experiments::schedules::Chances;
-use slow_runs::experiments::{Order, PlanFault, give_plan};
 use std::alloc::Global;
 use std::io::{BufWriter, Write, writer};
 use std::process::ExitCode;

@@ -1,15 +1,15 @@
 //! The measured runs of a plan, side by side.
 ghost use Rattle.std.specs.Prelude.{◌≡◌, ◌+◌, IfOk, ℕ};
-ghost use Rattle.slow_runs.specs.experiments.Layered.{IsSettlingOf};
-ghost use Rattle.slow_runs.specs.experiments.Shown.{IsRunOf};
-ghost use Rattle.slow_runs.specs.experiments.declared.measured_run.Scheduler.{Scheduler};
+ghost use Rattle.experiments.specs.Layered.{IsSettlingOf};
+ghost use Rattle.experiments.specs.Shown.{IsRunOf};
+ghost use Rattle.experiments.specs.declared.measured_run.Scheduler.{Scheduler};
 ghost use Rattle.topology.specs.Network.{Network};
 ghost use Rattle.subcommands.specs.Measured.{AreRunsOf};
 
 use crate::measure::Plan;
 use command_parts::Progress;
+use experiments::{Recovery, Scheduler, Settling, measure_layers, measure_run};
 use rayon::prelude::*;
-use slow_runs::experiments::{Recovery, Scheduler, Settling, measure_layers, measure_run};
 use std::alloc::{AllocError, Global};
 use std::thread::Threads;
 use std::time::Clock;

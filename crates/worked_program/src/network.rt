@@ -1,6 +1,5 @@
 //! Copies of this test program on networks of three processes: the lock as its users take it.
-use command_line::run_words;
-use program_ends::fill_standard_streams;
+use command_line::{fill_standard_streams, run_words};
 use std::alloc::{AllocError, Global};
 use std::io::{Read, Write};
 use std::os::unix::net::UnixStream;

@@ -1,6 +1,6 @@
 use Rattle.std.proofs.Common.{◌≡◌, ◌∙◌, ◌++◌, ap, subst, length, string_bytes}
 use Rattle.topology.specs.Eccentricity.{sharp_of}
-use Rattle.slow_runs.specs.experiments.Summary.{IsSummaryOf}
+use Rattle.experiments.specs.Summary.{IsSummaryOf}
 use Rattle.subcommands.specs.Measured.{run_lines, served_sweeps, totals}
 use Rattle.subcommands.proofs.measure.measured_text.Goals as goal
 

@@ -1,5 +1,5 @@
 use Rattle.std.proofs.Common.{◌≤◌, drop}
-use Rattle.slow_runs.specs.experiments.schedules.Taking.{IsUnderWay}
+use Rattle.experiments.specs.schedules.Taking.{IsUnderWay}
 use Rattle.subcommands.proofs.worst.give_all.Given as goal
 
 -- the sink has taken all events but those that are left

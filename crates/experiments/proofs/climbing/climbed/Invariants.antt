@@ -1,5 +1,5 @@
-use Rattle.slow_runs.specs.Moves.{AreMoves}
-use Rattle.slow_runs.proofs.climbing.climbed.Given as goal
+use Rattle.experiments.specs.Moves.{AreMoves}
+use Rattle.experiments.proofs.climbing.climbed.Given as goal
 
 -- the best run so far has no harm, nor have the moves
 abbrev pub invariant-loop : goal.invariant-loop

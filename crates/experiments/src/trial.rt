@@ -1,12 +1,12 @@
 //! What a search changes, bit by bit.
 ghost use Rattle.std.specs.Prelude.{◌≡◌, length, IfOk, OnOk};
 
-use experiments::judge::run_model::{Event, Harm};
-use experiments::schedules::damage_tool::scramble_world;
-use link_model::{Frame, Item, Payload};
 use rand::seq::IndexedMutRandom;
 use rand::{Rng, RngExt};
 use rand_pcg::Lcg64Xsh32;
+use run_model::link_model::{Frame, Item, Payload};
+use run_model::{Event, Harm};
+use schedules::damage_tool::scramble_world;
 use std::alloc::{AllocError, Global};
 use topology::{Net, Ranges};
 

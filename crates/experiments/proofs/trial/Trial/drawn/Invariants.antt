@@ -1,5 +1,5 @@
 use Rattle.std.proofs.Common.{◌≡◌, length}
-use Rattle.slow_runs.proofs.trial.Trial.drawn.Given as goal
+use Rattle.experiments.proofs.trial.Trial.drawn.Given as goal
 
 -- each pass so far has its order
 abbrev pub invariant-loop-pass : goal.invariant-loop-pass

@@ -1,16 +1,16 @@
 //! A trial's run, and how late it serves.
 ghost use Rattle.std.specs.Prelude.{◌≡◌, [], false, IfOk, OnOk};
 ghost use Rattle.experiments.specs.Delays.{is_harm};
-ghost use Rattle.slow_runs.specs.Moves.{AreMoves};
+ghost use Rattle.experiments.specs.Moves.{AreMoves};
 
 use crate::trial::Trial;
-use experiments::Watch;
-use experiments::judge::World;
-use experiments::judge::run_model::Event;
-use experiments::schedules::EventSink;
+use crate::watch::Watch;
+use judge::World;
 use rand::SeedableRng;
 use rand::seq::SliceRandom;
 use rand_pcg::Lcg64Xsh32;
+use run_model::Event;
+use schedules::EventSink;
 use std::alloc::{AllocError, Global};
 use topology::Net;
 

@@ -1,5 +1,5 @@
-use Rattle.slow_runs.specs.Moves.{AreMoves}
-use Rattle.slow_runs.proofs.play.play.Given as goal
+use Rattle.experiments.specs.Moves.{AreMoves}
+use Rattle.experiments.proofs.play.play.Given as goal
 
 -- no harm has happened so far, and none is among the moves
 abbrev pub invariant-loop-order : goal.invariant-loop-order

@@ -1,7 +1,7 @@
 -- Events without harms.
 use Rattle.std.specs.Prelude.{◌≡◌, false, List}
 use Rattle.std.specs.List.{list_any}
-use Rattle.experiments.specs.layers.configuration.run_model.declared.event.Event.{Event}
+use Rattle.layers.specs.configuration.run_model.declared.event.Event.{Event}
 use Rattle.experiments.specs.Delays.{is_harm}
 
 -- none of these events is a harm

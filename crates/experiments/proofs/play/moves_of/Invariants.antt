@@ -1,5 +1,5 @@
-use Rattle.slow_runs.specs.Moves.{AreMoves}
-use Rattle.slow_runs.proofs.play.moves_of.Given as goal
+use Rattle.experiments.specs.Moves.{AreMoves}
+use Rattle.experiments.proofs.play.moves_of.Given as goal
 
 -- no harm is among them so far
 abbrev pub invariant-loop-node : goal.invariant-loop-node

@@ -1,7 +1,7 @@
 use Rattle.std.proofs.Common.{◌∙◌, sym}
 use Rattle.std.proofs.lemmas.List.Sorted.{list_any-IsPermutation}
 use Rattle.experiments.specs.Delays.{is_harm}
-use Rattle.slow_runs.proofs.play.Playing.pass.Goals as goal
+use Rattle.experiments.proofs.play.Playing.pass.Goals as goal
 
 pub loop-event-init : goal.loop-event-init
 loop-event-init c = record {

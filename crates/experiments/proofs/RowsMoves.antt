@@ -1,8 +1,8 @@
 -- Lists without harms, and one with a harm.
 use Rattle.std.proofs.Common.{◌≡◌, [], ◌∷◌, refl, arith}
-use Rattle.experiments.specs.layers.configuration.run_model.declared.event.Event.TheVariants.{Damage, Leave, Send, Take, Tick}
-use Rattle.experiments.specs.layers.configuration.run_model.declared.event.Harm.TheVariants.{Empty}
-use Rattle.slow_runs.specs.Moves.{AreMoves}
+use Rattle.layers.specs.configuration.run_model.declared.event.Event.TheVariants.{Damage, Leave, Send, Take, Tick}
+use Rattle.layers.specs.configuration.run_model.declared.event.Harm.TheVariants.{Empty}
+use Rattle.experiments.specs.Moves.{AreMoves}
 
 moves-none : AreMoves []
 moves-none = refl

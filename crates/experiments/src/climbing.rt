@@ -1,14 +1,14 @@
 //! Hill climbing.
 ghost use Rattle.std.specs.Prelude.{◌≡◌, IfOk, Some};
 ghost use Rattle.experiments.specs.Delays.{IsReplayed};
-ghost use Rattle.slow_runs.specs.Moves.{AreMoves};
+ghost use Rattle.experiments.specs.Moves.{AreMoves};
 
+use crate::delay::{Delay, replay};
 use crate::play::{Playing, moves_of, play};
 use crate::trial::Trial;
-use experiments::judge::run_model::Event;
-use experiments::{Delay, replay};
 use rand::SeedableRng;
 use rand_pcg::Lcg64Xsh32;
+use run_model::Event;
 use std::alloc::{AllocError, Global};
 use std::mem;
 use topology::Net;

@@ -1,5 +1,5 @@
-use Rattle.slow_runs.specs.Moves.{AreMoves}
-use Rattle.slow_runs.proofs.play.Playing.pass.Given as goal
+use Rattle.experiments.specs.Moves.{AreMoves}
+use Rattle.experiments.proofs.play.Playing.pass.Given as goal
 
 -- no harm has happened so far, and none is among the moves
 abbrev pub invariant-loop-event : goal.invariant-loop-event

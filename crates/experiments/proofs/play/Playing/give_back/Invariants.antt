@@ -1,5 +1,5 @@
-use Rattle.slow_runs.specs.Moves.{AreMoves}
-use Rattle.slow_runs.proofs.play.Playing.give_back.Given as goal
+use Rattle.experiments.specs.Moves.{AreMoves}
+use Rattle.experiments.proofs.play.Playing.give_back.Given as goal
 
 -- no harm has happened so far
 abbrev pub invariant-loop-node : goal.invariant-loop-node
