@@ -2,7 +2,7 @@
 # Makes everything that can fail fail once, in the built program. Each kind of system call of a command
 # (bench/failing-calls.c names the kinds; growths of memory are one) fails at its first use, in another run at its
 # second, and so on until a run meets no failure. Each run must end with a status of its command, and with one line on
-# standard error if that status is 1, or as it would have without the failure. Nothing else may suffer: a network goes
+# standard error if that status is 1 (or two: see below), or as it would have without the failure. Nothing else may suffer: a network goes
 # on serving, and a node starts from whatever file is left. Then the machine itself refuses: no descriptors, no room on
 # the disk, a folder without the right to write.
 #
@@ -68,6 +68,12 @@ says_one_line() {
     [ "$(wc -l <"$folder/err")" -eq 1 ] && grep -q '^tokentree: ' "$folder/err"
 }
 
+# Whether it has one or two such lines: a failure that lasts has a line before its own, which says what the system says
+# of it, and each of the two processes of `lock` may say a line.
+says_two_lines() {
+    [ "$(wc -l <"$folder/err")" -eq 2 ] && ! grep -qv '^tokentree: ' "$folder/err" || says_one_line
+}
+
 # Compares a run with a failure with the usual one: NAME STATUSES USUAL KIND; STATUSES are those that a failure may end
 # with, besides the usual one. If `loose` is set, the output differs from run to run.
 judge() {
@@ -79,7 +85,7 @@ judge() {
     else
         # If that line itself cannot be written, there is none; for a node that gave no answer, it is on standard
         # output.
-        says_one_line || { [ "$kind" = write ] && [ ! -s "$folder/err" ]; } || grep -q ' no answer$' "$folder/out" ||
+        says_one_line || { [[ $name == lock,* ]] && says_two_lines; } || { [ "$kind" = write ] && [ ! -s "$folder/err" ]; } || grep -q ' no answer$' "$folder/out" ||
             wrong "$name: status $status says $(head -c 200 "$folder/err")"
         [ -n "$loose" ] || cmp -s -n "$(wc -c <"$folder/out")" "$folder/out" "$folder/usual" ||
             wrong "$name: no beginning of the usual output"
@@ -167,9 +173,9 @@ try lock "122 125 126 127" still_serves lock --timeout 5 "$folder/nodes" 0 -- "$
 # Judges a run in which the machine refuses something, and says how it ended: NAME STATUSES [USUAL]; the run left its
 # `status` and `err`. It must end as usual, or with one of the statuses and a line.
 refused() {
-    [ "$status" = "${3:-}" ] || { [[ " $2 " == *" $status "* ]] && says_one_line; } ||
+    [ "$status" = "${3:-}" ] || { [[ " $2 " == *" $status "* ]] && says_two_lines; } ||
         wrong "$1: status $status: $(head -c 200 "$folder/err")"
-    echo "$1: status $status $(head -n 1 "$folder/err")"
+    echo "$1: status $status $(tr '\n' ' ' <"$folder/err")"
 }
 
 # Fewer and fewer descriptors; the program's loader itself needs one for the C library. A line: the usual status, and

@@ -7,6 +7,7 @@ use network_hints::hint;
 use std::fmt::Display;
 use std::fs::{Metadata, OpenOptions};
 use std::io::ErrorKind;
+use std::path::{AsPath, Path};
 use std::rt::Files;
 use std::{fs, io};
 use topology::NetFault;
@@ -86,10 +87,26 @@ pub fn explain_reading<R: Files + Eprint>(rt: &R, path: &str) {
     }
 }
 
-/// Says what the system said of a file that cannot be written, if it says so still.
+/// Says what the system said of a file that cannot be written, if it says so still. Of one that is not
+/// there, though its folder is, the system would say just that; so this says that none can be made.
 pub fn explain_writing<R: Files + Eprint>(rt: &R, path: &str) {
-    if let Err(error) = OpenOptions::new().write(true).open(rt, path) {
-        say(rt, path, error);
+    match OpenOptions::new().write(true).open(rt, path) {
+        Err(error) if error.kind() == ErrorKind::NotFound && has_folder(rt, path) => {
+            say(rt, path, "no file can be made in its folder");
+        }
+        Err(error) => say(rt, path, error),
+        Ok(_) => {}
+    }
+}
+
+/// Whether the folder is there in which a file of this path would stand.
+fn has_folder<R: Files>(rt: &R, path: &str) -> bool {
+    match Path::new(path).parent() {
+        Some(folder) if !folder.path_text().is_empty() => {
+            fs::metadata(rt, folder).is_ok_and(|found| found.is_dir())
+        }
+        Some(_) => true,
+        None => false,
     }
 }
 
