@@ -2,9 +2,10 @@
 # Makes everything that can fail fail once, in the built program. Each kind of system call of a command
 # (bench/failing-calls.c names the kinds; growths of memory are one) fails at its first use, in another run at its
 # second, and so on until a run meets no failure. Each run must end with a status of its command, and with one line on
-# standard error if that status is 1 (or two: see below), or as it would have without the failure. Nothing else may suffer: a network goes
-# on serving, and a node starts from whatever file is left. Then the machine itself refuses: no descriptors, no room on
-# the disk, a folder without the right to write.
+# standard error if that status is 1, or as it would have without the failure. In front of that line may stand one that
+# says what the system says, if the failure lasts; of `lock`, each of its two processes may say a line. Nothing else may
+# suffer: a network goes on serving, and a node starts from whatever file is left. Then the machine itself refuses: no
+# descriptors, no room on the disk, a folder without the right to write.
 #
 #   bench/failures.sh [MOST]     the most runs for each kind of call of one command (400)
 #
@@ -68,8 +69,7 @@ says_one_line() {
     [ "$(wc -l <"$folder/err")" -eq 1 ] && grep -q '^tokentree: ' "$folder/err"
 }
 
-# Whether it has one or two such lines: a failure that lasts has a line before its own, which says what the system says
-# of it, and each of the two processes of `lock` may say a line.
+# Whether it has one or two such lines.
 says_two_lines() {
     [ "$(wc -l <"$folder/err")" -eq 2 ] && ! grep -qv '^tokentree: ' "$folder/err" || says_one_line
 }
@@ -85,7 +85,8 @@ judge() {
     else
         # If that line itself cannot be written, there is none; for a node that gave no answer, it is on standard
         # output.
-        says_one_line || { [[ $name == lock,* ]] && says_two_lines; } || { [ "$kind" = write ] && [ ! -s "$folder/err" ]; } || grep -q ' no answer$' "$folder/out" ||
+        says_one_line || { [[ $name == lock,* ]] && says_two_lines; } ||
+            { [ "$kind" = write ] && [ ! -s "$folder/err" ]; } || grep -q ' no answer$' "$folder/out" ||
             wrong "$name: status $status says $(head -c 200 "$folder/err")"
         [ -n "$loose" ] || cmp -s -n "$(wc -c <"$folder/out")" "$folder/out" "$folder/usual" ||
             wrong "$name: no beginning of the usual output"
