@@ -102,8 +102,10 @@ def start(nodes, name, *words):
     """Starts a ring of nodes, and waits until the farthest has its distance. Returns its folder and its processes."""
     network, run = f"{folder}/ring-{nodes}.toml", f"{folder}/{name}-{nodes}"
     edges = [[i, (i + 1) % nodes] for i in range(nodes)]
-    with open(network, "w") as file:
-        file.write(f"nodes = {nodes}\nroot = 0\ncapacity = 64\nlease = 0\nedges = {edges}\n")
+    # Nodes of another ring may be reading it.
+    if not os.path.exists(network):
+        with open(network, "w") as file:
+            file.write(f"nodes = {nodes}\nroot = 0\ncapacity = 64\nlease = 0\nedges = {edges}\n")
     running = [
         subprocess.Popen([program, "node", *words, network, str(i), run], stdout=subprocess.PIPE) for i in range(nodes)
     ]
