@@ -2,10 +2,10 @@
 # Makes everything that can fail fail once, in the built program. Each kind of system call of a command
 # (bench/failing-calls.c names the kinds; growths of memory are one) fails at its first use, in another run at its
 # second, and so on until a run meets no failure. Each run must end with a status of its command, and with one line on
-# standard error if that status is 1, or as it would have without the failure. In front of that line may stand one that
-# says what the system says, if the failure lasts; of `lock`, each of its two processes may say a line. Nothing else may
-# suffer: a network goes on serving, and a node starts from whatever file is left. Then the machine itself refuses: no
-# descriptors, no room on the disk, a folder without the right to write.
+# standard error if that status is 1, or as it would have without the failure. In front of that line stands one that says
+# what the system says, if standard output fails, and may stand one, if the failure lasts; of `lock`, each of its two
+# processes may say a line. Nothing else may suffer: a network goes on serving, and a node starts from whatever file is
+# left. Then the machine itself refuses: no descriptors, no room on the disk, a folder without the right to write.
 #
 #   bench/failures.sh [MOST]     the most runs for each kind of call of one command (400)
 #
@@ -74,6 +74,11 @@ says_two_lines() {
     [ "$(wc -l <"$folder/err")" -eq 2 ] && ! grep -qv '^tokentree: ' "$folder/err" || says_one_line
 }
 
+# Whether it says that standard output failed, and in front of that what the system said.
+says_full() {
+    printf 'tokentree: %s\n' 'standard output: No space left on device (os error 28)' 'output Refused' | cmp -s - "$folder/err"
+}
+
 # Compares a run with a failure with the usual one: NAME STATUSES USUAL KIND; STATUSES are those that a failure may end
 # with, besides the usual one. If `loose` is set, the output differs from run to run.
 judge() {
@@ -86,7 +91,7 @@ judge() {
         # If that line itself cannot be written, there is none; for a node that gave no answer, it is on standard
         # output.
         says_one_line || { [[ $name == lock,* ]] && says_two_lines; } ||
-            { [ "$kind" = write ] && [ ! -s "$folder/err" ]; } || grep -q ' no answer$' "$folder/out" ||
+            { [ "$kind" = write ] && { says_full || [ ! -s "$folder/err" ]; }; } || grep -q ' no answer$' "$folder/out" ||
             wrong "$name: status $status says $(head -c 200 "$folder/err")"
         [ -n "$loose" ] || cmp -s -n "$(wc -c <"$folder/out")" "$folder/out" "$folder/usual" ||
             wrong "$name: no beginning of the usual output"
@@ -231,10 +236,13 @@ if mount -t tmpfs -o size=64k none "$folder/disk" 2>/dev/null; then
     "$program" node --record "$folder/two.toml" 0 "$folder/disk/nodes" >"$folder/out" 2>"$folder/err" 9>&- &
     node=$!
     for _ in $(seq 100); do
-        [ ! -s "$folder/err" ] || break
+        ! grep -q ': the record ends, ' "$folder/err" || break
         sleep 0.1
     done
-    says_one_line && grep -q 'record-0.[01]: the record ends, and the node runs on: ' "$folder/err" ||
+    # Of each file that it cannot write it says so once.
+    [ "$(wc -l <"$folder/err")" -eq 2 ] &&
+        head -n 1 "$folder/err" | grep -q '^tokentree: .*/record\.toml: the network is not kept, .*: No space left on device' &&
+        tail -n 1 "$folder/err" | grep -q '^tokentree: .*/record-0\.[01]: the record ends, and the node runs on: ' ||
         wrong "a full disk, record: $(head -c 200 "$folder/err")"
     kill -0 "$node" 2>/dev/null || wrong "a full disk ends a node that keeps a record"
     rm "$folder/disk/full"

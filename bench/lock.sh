@@ -5,11 +5,12 @@
 # comparison, also what a command costs under the lock and under flock(1), and a loop that locks one file. Needs python3
 # and flock; takes half a minute for each ring. The program is ./tokentree, or what TOKENTREE names.
 #
-# bench/lock.sh --record [NODES..] compares nodes that keep a record with nodes that keep none instead. In each of
-# eight rounds two new rings of each kind run at the same time, and their clients ask in turn, each time in another
-# order, 1,000 times in each ring at each place. So 160 of 16,000 waits lie above each 99th percentile. Two rings of one
-# kind differ by chance, which is why there are eight rounds; how much they differ is shown beside what records change.
-# Of grants a second the median of sixteen tries is shown. Takes eleven minutes for each size.
+# bench/lock.sh --record [NODES..] compares nodes that keep a record with nodes that keep none instead. In each of 32
+# rounds two new rings of each kind run at the same time, and their clients ask in turn, each time in another order, 300
+# times in each ring at each place. So 192 of 19,200 waits lie above each 99th percentile, in 64 rings of each kind. Two
+# rings of one kind differ by chance, which is why there are so many; how much they differ is shown beside what records
+# change. Idle loads and grants a second are measured in the first eight rounds, which makes sixteen values of each kind,
+# of which the median is shown. Takes twelve minutes for each size.
 set -euo pipefail
 compare=
 [ "${1:-}" != --record ] || { compare=record; shift; }
@@ -21,12 +22,15 @@ program=$(realpath "${TOKENTREE:-./tokentree}")
 folder=$(mktemp -d)
 trap 'rm -rf "$folder"' EXIT
 python3 - "$program" "$folder" "$compare" "$@" <<'PYTHON'
-import fcntl, multiprocessing, os, random, socket, subprocess, sys, time
+import fcntl, multiprocessing, os, random, shutil, socket, subprocess, sys, time
 
 program, folder, compare = sys.argv[1:4]
 sizes = [int(n) for n in sys.argv[4:]]
 TICKS = os.sysconf("SC_CLK_TCK")
-ROUNDS = 8
+ROUNDS = 32
+WAITS = 300
+# In so many rounds, the first ones, idle loads and grants are measured too.
+FULL_ROUNDS = 8
 NAMES = ["plain", "recorded", "plain-2", "recorded-2"]
 
 
@@ -99,7 +103,7 @@ def spread(run, node, times):
 
 
 def start(nodes, name, *words):
-    """Starts a ring of nodes, and waits until the farthest has its distance. Returns its folder and its processes."""
+    """Starts a ring of nodes. Returns its folder and its processes."""
     network, run = f"{folder}/ring-{nodes}.toml", f"{folder}/{name}-{nodes}"
     edges = [[i, (i + 1) % nodes] for i in range(nodes)]
     # Nodes of another ring may be reading it.
@@ -111,11 +115,16 @@ def start(nodes, name, *words):
     ]
     for process in running:
         assert process.stdout.readline().startswith(b"start") and process.stdout.readline() == b"ready\n"
-    far = nodes // 2
-    while b"distance %d " % far not in Client(run, far).ask(b"status"):
-        time.sleep(0.01)
-    time.sleep(1)
     return run, running
+
+
+def settle(runs, nodes):
+    """Waits until the farthest node of each ring has its distance, and a second more."""
+    far = nodes // 2
+    for run in runs:
+        while b"distance %d " % far not in Client(run, far).ask(b"status"):
+            time.sleep(0.01)
+    time.sleep(1)
 
 
 def idle_load(running):
@@ -146,6 +155,7 @@ def stop(run, running):
 
 def ring(nodes):
     run, running = start(nodes, "run")
+    settle([run], nodes)
     idle = idle_load(running)
     near_half, near_most = spread(run, 0, 500)
     far_half, far_most = spread(run, nodes // 2, 500)
@@ -212,11 +222,17 @@ def round_of_rings(nodes, place):
     """What a round measures, by the four rings: waits at the root and far from it, idle loads, rates, and the rest."""
     rings = [start(nodes, f"{name}-{place}", *["--record"] * name.startswith("recorded")) for name in NAMES]
     runs = [run for run, _ in rings]
-    near, far = (in_turn(runs, node, 1000) for node in (0, nodes // 2))
-    idle, rates = idle_loads(rings), [[all_grants(run, nodes)] for run in runs]
-    sizes = [[memory(running[0])] for _, running in rings]
+    settle(runs, nodes)
+    near, far = (in_turn(runs, node, WAITS) for node in (0, nodes // 2))
+    idle = rates = sizes = [[] for _ in rings]
+    if place < FULL_ROUNDS:
+        idle, rates = idle_loads(rings), [[all_grants(run, nodes)] for run in runs]
+        sizes = [[memory(running[0])] for _, running in rings]
     assert all(stop(run, running) == [0] * nodes for run, running in rings)
-    return near, far, idle, rates, sizes, [[recorded(run, nodes)] for run in runs]
+    records = [[recorded(run, nodes)] * (place < FULL_ROUNDS) for run in runs]
+    for run in runs:
+        shutil.rmtree(run)
+    return near, far, idle, rates, sizes, records
 
 
 def side_by_side(nodes):

@@ -78,7 +78,7 @@ status = said(["status", RUN]).stdout
 up.send_signal(signal.SIGTERM)
 up.wait()
 with open(f"{folder}/events", "w") as file:
-    gathered = subprocess.run([program, "gather", RUN, "--network", NETWORK], stdout=file, stderr=subprocess.PIPE, text=True)
+    gathered = subprocess.run([program, "gather", RUN], stdout=file, stderr=subprocess.PIPE, text=True)
 print(gathered.stderr, end="")
 judged = said(["simulate", NETWORK, f"{folder}/events"])
 wrong = []
@@ -87,7 +87,7 @@ differs = re.compile(r"node \d+ differs at microsecond (\d+): .*")
 ends = [at / 1e6 for _, at in kills]
 quiet = list(zip([0.0] + [at - began + 4 for at in ends], ends + [float("inf")]))
 for first, last in quiet:
-    words = [program, "gather", RUN, "--network", NETWORK, "--from", str(math.ceil(first))]
+    words = [program, "gather", RUN, "--from", str(math.ceil(first))]
     later = subprocess.run(words, stdout=subprocess.DEVNULL, stderr=subprocess.PIPE, text=True)
     found = differs.search(later.stderr)
     if later.returncode != 0 or found and int(found.group(1)) / 1e6 < last - 2:

@@ -101,7 +101,8 @@ for streams in [">&-", "2>&-", ">&- 2>&-", "<&- >&- 2>&-"]:
 for words in [["bound"], ["simulate", "-"]]:
     file, where = fresh("closed")
     shown = start([words[0], file, *words[1:]], ">&-")
-    row("%s with >&- says that its output was refused" % words[0], ended(shown)[::2], (1, "tokentree: output Refused\n"))
+    row("%s with >&- says that its output was refused, and why" % words[0], ended(shown)[::2],
+        (1, "tokentree: standard output: Bad file descriptor (os error 9)\ntokentree: output Refused\n"))
 
 # DIR is gone, or is another folder.
 for what, do in [("removed", lambda where: shutil.rmtree(where)),

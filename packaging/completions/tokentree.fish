@@ -97,7 +97,7 @@ complete -c tokentree -n '__fish_seen_subcommand_from draw; and not contains -- 
 complete -c tokentree -n '__fish_seen_subcommand_from draw; and not contains -- -- (commandline -opc)' -l page -d 'Write the film in an HTML page with controls'
 complete -c tokentree -n '__fish_seen_subcommand_from draw; and not contains -- -- (commandline -opc)' -l seconds -x -d 'Seconds of the film, 2 to 600 [default: 20]'
 complete -c tokentree -n __fish_use_subcommand -f -a gather -d 'Prints what nodes did, by their records, as a list of events'
-complete -c tokentree -n '__fish_seen_subcommand_from gather; and not contains -- -- (commandline -opc)' -l network -x -d 'The network file (TOML); must be given'
+complete -c tokentree -n '__fish_seen_subcommand_from gather; and not contains -- -- (commandline -opc)' -l network -x -d 'The network file (TOML); DIR/record.toml if left out'
 complete -c tokentree -n '__fish_seen_subcommand_from gather; and not contains -- -- (commandline -opc)' -l from -x -d 'Begin so many seconds after the first entry'
 complete -c tokentree -n '__fish_seen_subcommand_from gather; and not contains -- -- (commandline -opc)' -l last -x -d 'Begin so many seconds before the last entry'
 complete -c tokentree -n __fish_use_subcommand -f -a threads -d 'Runs each node on a thread of its own, and shows the state reached'

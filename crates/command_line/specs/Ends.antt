@@ -1,11 +1,11 @@
 -- How a command line ends: its status, and what it says if it fails.
-use Rattle.std.specs.Prelude.{◌≡◌, ◌⊎◌, ℕ, Bool, false, ◌||◌, List, [], ◌∷◌, Result, Ok, Err, if◌then◌else◌, codes}
+use Rattle.std.specs.Prelude.{ℕ, Bool, false, ◌||◌, List, [], ◌∷◌, Result, Ok, Err, if◌then◌else◌, codes}
 use Rattle.std.specs.Str.{bytes_eq}
 use Rattle.std.specs.Process.{exit_status}
 use Rattle.std.specs.declared.process.ExitCode.{ExitCode}
 use Rattle.command_grammar.specs.FaultText.{word_fault_text}
 use Rattle.subcommands.specs.command_parts.FaultText.{fault_text}
-use Rattle.subcommands.specs.command_parts.declared.fault.Fault.TheVariants.{Output}
+use Rattle.program_ends.specs.Ends.{end_status}
 use Rattle.recovery_times.specs.Words.{time_fault_text}
 use Rattle.command_line.specs.declared.refusal.Refusal.{Refusal}
 use Rattle.command_line.specs.declared.refusal.Refusal.TheVariants.{Word, Time, Limit, Window, Kind, Schedule, NoWords, NoCommand, Fault}
@@ -49,14 +49,9 @@ refusal_text (Schedule fault) = schedule_fault_text fault
 refusal_text NoCommand = codes "no command"
 refusal_text (Fault fault) = fault_text fault
 
--- the command's own status; 2 if the words are invalid; else that of a fault, which is 125 for
--- `lock`, since 1 may be its command's
+-- the command's own status; 2 if the words are invalid; 141 if the reader of the output is gone; else
+-- that of a fault, which is 125 for `lock`, since 1 may be its command's
 abbrev pub status_of : Bool → Result ExitCode Refusal → ℕ
 status_of is_lock (Ok status) = exit_status status
-status_of is_lock (Err (Fault fault)) = if is_lock then 125 else 1
+status_of is_lock (Err (Fault fault)) = end_status fault (if is_lock then 125 else 1)
 status_of is_lock (Err refusal) = 2
-
--- that status; or 141 if the reader of the output is gone
-abbrev pub EndsWith : Bool → Result ExitCode Refusal → ExitCode → Type 0
-EndsWith is_lock (Err (Fault Output)) code = (exit_status code ≡ status_of is_lock (Err (Fault Output))) ⊎ (exit_status code ≡ 141)
-EndsWith is_lock done code = exit_status code ≡ status_of is_lock done

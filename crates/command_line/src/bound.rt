@@ -1,4 +1,7 @@
 //! The words of `bound`.
+ghost use Rattle.std.specs.Prelude.{◌≡◌, IfOk};
+ghost use Rattle.std.specs.Process.{exit_status};
+
 use crate::program::NETWORK_FILE;
 use crate::refusal::Refusal;
 use clap::{ArgMatches, Command};
@@ -108,10 +111,12 @@ With --json it prints one JSON object. The names are those of the lines, with
 window_us in microseconds, and recovers_within_ms and lends_within_ms.";
 
 /// Does what the words of `bound` say.
-pub fn run<R: Files + Print + AllocGlobal>(
+pub fn run<R: Files + Print + Eprint + AllocGlobal>(
     rt: &R,
     given: &ArgMatches,
-) -> Result<ExitCode, Refusal> {
+) -> Result<ExitCode, Refusal>
+    ensures { IfOk result (λ status. exit_status status ≡ 0) }
+{
     let path = word(given, "FILE")?;
     let (sharp, premises) = (given.get_flag("sharp"), premises(given)?);
     if given.get_flag("json") {

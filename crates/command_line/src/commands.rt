@@ -13,7 +13,7 @@ use clap::{ArgMatches, Command};
 use command_grammar::parser;
 use fault_hints::{explain_network, explain_reading, explain_writing};
 use lock_words::whole_words;
-use program_ends::{fails, fault_status, output_fails, shows};
+use program_ends::{fails, fault_status, print_status, shows};
 use std::alloc::{AllocError, Global};
 use std::convert::AsStr;
 use std::process::ExitCode;
@@ -73,10 +73,7 @@ fn say_version<R: Print + Eprint>(rt: &R) -> ExitCode
     ensures { (exit_status result ≡ 0) ⊎ ((exit_status result ≡ 1) ⊎ (exit_status result ≡ 141)) }
 {
     let (name, version) = (TOKENTREE.name, TOKENTREE.version);
-    match println!(rt; "{name} {version}") {
-        Ok(()) => ExitCode::SUCCESS,
-        Err(_) => output_fails(rt, 1),
-    }
+    print_status(rt, println!(rt; "{name} {version}"))
 }
 
 /// What the parser made of the words, or the status of a line that showed help or was invalid.

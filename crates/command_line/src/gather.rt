@@ -6,9 +6,7 @@ ghost use Rattle.command_line.specs.Gather.{IsStretchOf, IsStretchRefused};
 
 use crate::refusal::Refusal;
 use clap::{ArgMatches, Command};
-use command_grammar::{
-    Choice, Grammar, Number, Parameter, WordFault, number_if_given, with_command, word,
-};
+use command_grammar::{Grammar, Number, Parameter, WordFault, number_if_given, with_command, word};
 use gather_command::{Stretch, command};
 use std::alloc::{AllocError, Global};
 use std::process::ExitCode;
@@ -21,7 +19,11 @@ const GATHER: Grammar<'static> = Grammar {
     help: HELP,
     parameters: &[
         Parameter::Place("DIR", "The folder of the nodes' records"),
-        Parameter::Value("network", "FILE", "The network file (TOML); must be given"),
+        Parameter::Value(
+            "network",
+            "FILE",
+            "The network file (TOML); DIR/record.toml if left out",
+        ),
         Parameter::Value(
             "from",
             "SECONDS",
@@ -35,10 +37,7 @@ const GATHER: Grammar<'static> = Grammar {
     ],
     needs: &[],
     excludes: &[("from", "last")],
-    choice: Some(Choice {
-        name: "networks",
-        of: &["network"],
-    }),
+    choice: None,
 };
 
 /// Adds the command to the program's parser.
@@ -50,10 +49,11 @@ pub fn add_to<'a>(parser: Command<'a>, alloc: Global) -> Result<Command<'a>, All
 const HELP: &str = "\
 Reads the records of all nodes of a network, the files DIR/record-ID.0 and
 DIR/record-ID.1 of each node ID, and prints what the nodes did as one list of
-events, for simulate and draw:
+events, for simulate and draw. The nodes kept their network in DIR/record.toml,
+as it stood last:
 
-  $ tokentree gather run --network ring.toml > events.txt
-  $ tokentree draw ring.toml events.txt > run.svg
+  $ tokentree gather run > events.txt
+  $ tokentree draw run/record.toml events.txt > run.svg
 
 What a node did is its event. A frame is taken after it was sent, and frames in
 front of it were lost. Else the earliest comes next, by the clocks of the nodes;
@@ -101,10 +101,10 @@ under way than its capacity, the list loses some, and they count as lost or sent
 by nobody.
 
 Nothing is printed if a node has no record, or if a file cannot be read, is none
-of this version, or is the record of another node or network. A file that ends
-within an entry, as after a crash, or is spoiled from a place on, is read up to
-there: a line on standard error says where, and the status is 1. No file is
-changed.
+of this version, or is the record of another node or network; nor if no network
+is given and the nodes kept none. A file that ends within an entry, as after a
+crash, or is spoiled from a place on, is read up to there: a line on standard
+error says where, and the status is 1. No file is changed.
 
 Statuses: 0 done; 1 a file, memory or standard output failed, or a file was not
 read to its end, and a line on standard error says which; 2 invalid arguments.";
@@ -133,7 +133,7 @@ pub fn run<R: Files + Print + Eprint + AllocGlobal>(
     ensures { IfOk result (λ status. (exit_status status ≡ 0) ⊎ (exit_status status ≡ 1)) }
 {
     let dir = word(given, "DIR")?;
-    let network = word(given, "network")?;
+    let network = given.get_str("network");
     Ok(command::run(rt, dir, network, stretch(given)?)?)
 }
 

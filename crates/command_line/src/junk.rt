@@ -56,7 +56,7 @@ const LINES: Number<'static> = Number {
 };
 
 /// Does what the words of `junk` say.
-pub fn run<R: Print + AllocGlobal>(rt: &R, given: &ArgMatches) -> Result<ExitCode, Refusal>
+pub fn run<R: Print + Eprint + AllocGlobal>(rt: &R, given: &ArgMatches) -> Result<ExitCode, Refusal>
     ensures { IfOk result (λ status. exit_status status ≡ 0) }
 {
     let seed = given_number(given, SEED)? as u32;

@@ -19,7 +19,7 @@ use std::rt::Files;
 use std::thread::Threads;
 use std::time::Clock;
 use subcommands::measure::Plan;
-use subcommands::{Scheduler, measure, measure_csv, measure_json, measure_plot};
+use subcommands::{PathFault, Scheduler, measure, measure_csv, measure_json, measure_plot};
 
 /// What `measure` takes.
 const MEASURE: Grammar<'static> = Grammar {
@@ -161,7 +161,7 @@ pub fn run<R: Files + Print + Eprint + Clock + AllocGlobal + Threads + Sync>(
         return Ok(measure_json::run(rt, file, plan)?);
     }
     if let Some(path) = given.get_str("plot") {
-        return Ok(plot(rt, file, plan, path));
+        return plot(rt, file, plan, path);
     }
     if given.get_flag("csv") {
         return Ok(measure_csv::run(rt, file, plan)?);
@@ -175,12 +175,12 @@ fn plot<R: Files + Print + Eprint + Clock + AllocGlobal + Threads + Sync>(
     file: &str,
     plan: Plan,
     path: &str,
-) -> ExitCode
-    ensures { (exit_status result ≡ 0) ⊎ (exit_status result ≡ 1) }
+) -> Result<ExitCode, Refusal>
+    ensures { IfOk result (λ status. (exit_status status ≡ 0) ⊎ (exit_status status ≡ 1)) }
 {
     match measure_plot::run(rt, file, plan, path) {
-        Ok(status) => status,
-        Err(fault) => ended(rt, file, Err(fault)),
+        Err(PathFault::Fault(fault)) => Err(Refusal::Fault(fault)),
+        done => Ok(ended(rt, file, done)),
     }
 }
 

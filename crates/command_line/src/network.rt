@@ -130,7 +130,7 @@ const SEED: Number<'static> = Number {
 };
 
 /// Does what the words of `network` say.
-pub fn run<R: Print + AllocGlobal>(rt: &R, given: &ArgMatches) -> Result<ExitCode, Refusal>
+pub fn run<R: Print + Eprint + AllocGlobal>(rt: &R, given: &ArgMatches) -> Result<ExitCode, Refusal>
     ensures { IfOk result (λ status. exit_status status ≡ 0) }
 {
     let wanted = wanted(given)?;

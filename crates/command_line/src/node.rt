@@ -97,7 +97,8 @@ node writes them in turn, so the last one to two of that size are there. A file
 begins with the node's whole state, and goes on with what the node takes, sends
 and ticks, which clients ask and leave, and which links come and go, each with
 its instant. If a file cannot be written, the record ends with a line on
-standard error, and the node runs on.
+standard error, and the node runs on. The network's text stands beside the
+records, in DIR/record.toml.
 
 Statuses: 0 ended by the stop file; 1 it cannot run, and a line on standard
 error says why; 2 invalid arguments.";

@@ -1,11 +1,11 @@
 //! Why a command line fails, and how the program ends then.
 ghost use Rattle.std.specs.Prelude.{◌≡◌, IfOk, IfErr};
 ghost use Rattle.std.specs.Process.{exit_status};
-ghost use Rattle.command_line.specs.Ends.{EndsWith};
+ghost use Rattle.command_line.specs.Ends.{status_of};
 
 use command_grammar::WordFault;
 use fault_hints::{explain_network, explain_writing};
-use program_ends::{LINE_REFUSED, PathFaultLine, fails, fault_status, output_fails};
+use program_ends::{LINE_REFUSED, PathFaultLine, fails, fault_status};
 use recovery_times::TimeFault;
 use std::fmt;
 use std::process::ExitCode;
@@ -153,18 +153,17 @@ impl fmt::Display for Refusal {
 }
 
 /// The status of a command line. If it fails, a line on standard error says why, and names the
-/// command's help if words are invalid.
-pub fn status<R: Print + Eprint>(
+/// command's help if words are invalid; but it ends quietly if the reader of standard output is gone.
+pub fn status<R: Eprint>(
     rt: &R,
     done: Result<ExitCode, Refusal>,
     is_lock: bool,
     command: Option<&str>,
 ) -> ExitCode
-    ensures { EndsWith is_lock done result }
+    ensures { exit_status result ≡ status_of is_lock done }
 {
     match done {
         Ok(status) => status,
-        Err(Refusal::Fault(Fault::Output)) => output_fails(rt, fault_status(is_lock)),
         Err(Refusal::Fault(fault)) => fails(rt, fault, fault_status(is_lock)),
         Err(refusal) => {
             let command = command.unwrap_or("");

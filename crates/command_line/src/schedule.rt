@@ -151,7 +151,10 @@ const GIVE_BACK: Number<'static> = Number {
 };
 
 /// Does what the words of `schedule` say.
-pub fn run<R: Files + Print + AllocGlobal>(rt: &R, given: &ArgMatches) -> Result<ExitCode, Refusal>
+pub fn run<R: Files + Print + Eprint + AllocGlobal>(
+    rt: &R,
+    given: &ArgMatches,
+) -> Result<ExitCode, Refusal>
     ensures { IfOk result (λ status. exit_status status ≡ 0) }
 {
     let network = word(given, "FILE")?;

@@ -1,2 +1,3 @@
 pub mod EventLines
 mod RowsTexts
+mod RowsOutput

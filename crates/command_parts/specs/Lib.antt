@@ -3,6 +3,7 @@ pub use Rattle.world.specs as world
 pub mod SimulationFault
 pub mod Simulated
 pub mod FaultText
+pub mod Output
 pub mod PathFaultText
 pub mod EventText
 pub mod Returns

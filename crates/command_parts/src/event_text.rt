@@ -1,12 +1,15 @@
 //! The events text as a sink of events.
-ghost use Rattle.std.specs.Prelude.{◌≡◌, OnOk, []};
+ghost use Rattle.std.specs.Prelude.{◌≡◌, OnErr, OnOk, IsSome, None, []};
 ghost use Rattle.std.specs.Io.Buffered.{writer_buffer, writer_contents};
 ghost use Rattle.std.specs.Io.KnownBytes.{Keeps};
 ghost use Rattle.byte_streams.specs.Streams.{CountsFailures};
+ghost use Rattle.command_parts.specs.Output.{kept_fault, IsKeptAs};
 
-use crate::streams::count_failure;
+use crate::fault::Fault;
+use crate::output::kept_fault;
+use crate::streams::note_failure;
 use schedules::EventSink;
-use std::io::{BufWriter, Write};
+use std::io::{BufWriter, Error, Write};
 use world::events_text::EventLine;
 use world::run_model::Event;
 use world::streams::Failed;
@@ -16,6 +19,8 @@ use world::streams::Failed;
 pub struct EventText<W: Write + Drop> {
     writer: BufWriter<W>,
     failures: u64,
+    /// The error of the first failure.
+    first: Option<Error>,
 }
 
 impl<W: Write + Drop> EventText<W> {
@@ -23,11 +28,22 @@ impl<W: Write + Drop> EventText<W> {
     pub fn new(writer: BufWriter<W>) -> EventText<W>
         ensures writer { result.writer ≡ writer }
         ensures failures { result.failures ≡ 0 }
+        ensures first { result.first ≡ None }
     {
         EventText {
             writer,
             failures: 0,
+            first: None,
         }
+    }
+
+    /// The fault that a command ends with after this one, if the text goes to standard output. One of
+    /// the output is that of the text's first error, as [`output_fault`](crate::output_fault) has it.
+    pub fn fault<R: Eprint>(&self, rt: &R, fault: Fault) -> Fault
+        ensures fault { result ≡ kept_fault fault self.now.first }
+        ensures kept { IsKeptAs fault result }
+    {
+        kept_fault(rt, fault, self.first)
     }
 
     /// Writes all that was taken.
@@ -39,10 +55,11 @@ impl<W: Write + Drop> EventText<W> {
         ensures bytes { Keeps (writer_contents W.contents self.old.writer)
             (writer_contents W.contents self.new.writer) }
         ensures cause { CountsFailures result self.old.failures self.new.failures }
+        ensures kept { OnErr result (IsSome self.new.first) }
     {
         match self.writer.flush() {
             Ok(()) => Ok(()),
-            Err(_) => Err(count_failure(&mut self.failures)),
+            Err(error) => Err(note_failure(&mut self.failures, &mut self.first, error)),
         }
     }
 }
@@ -60,7 +77,7 @@ impl<W: Write + Drop> EventSink for EventText<W> {
     fn take(&mut self, event: &Event) -> Result<(), Failed> {
         match writeln!(self.writer, "{}", EventLine(*event)) {
             Ok(()) => Ok(()),
-            Err(_) => Err(count_failure(&mut self.failures)),
+            Err(error) => Err(note_failure(&mut self.failures, &mut self.first, error)),
         }
     }
 

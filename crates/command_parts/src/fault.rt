@@ -3,7 +3,8 @@ use network_file::NetworkFault;
 use std::fmt;
 use world::simulation::SimFault;
 
-/// Why a command ends with status 1. Printed, it is the fault's line without `tokentree: `.
+/// Why a command ends with status 1, or quietly if nobody reads on. Printed, it is the fault's line
+/// without `tokentree: `.
 #[derive(Clone, Copy, Debug, PartialEq, Eq, Drop)]
 pub enum Fault {
     /// The network file gives no network.
@@ -18,6 +19,8 @@ pub enum Fault {
     Memory,
     /// Standard output failed.
     Output,
+    /// The reader of standard output is gone.
+    Closed,
     /// The file for the events cannot be written.
     EventsUnwritable,
     /// A thread could not be started.
@@ -38,6 +41,7 @@ impl fmt::Display for Fault {
             Fault::EventsLong => f.write_str("events Long"),
             Fault::Memory => f.write_str("memory Refused"),
             Fault::Output => f.write_str("output Refused"),
+            Fault::Closed => f.write_str("output Closed"),
             Fault::EventsUnwritable => f.write_str("events Unwritable"),
             Fault::Threads => f.write_str("threads Refused"),
         }

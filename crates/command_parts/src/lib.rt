@@ -7,6 +7,8 @@
 //! let id = decimal_number("1", 65535);                 // Some(1); none of "01" or "+1"
 //! let mut source = ReadSource::new(reader(rt));        // what a simulation reads
 //! let mut sink = WriteSink::new(BufWriter::new(alloc, writer(rt))?);
+//! let fault = sink.fault(rt, Fault::Output);           // `Fault::Closed` if the reader is gone
+//! printed(rt, rt.print("nodes 2\n"))?;                 // or one of these two
 //! ```
 //!
 //! The trap: a [`WriteSink`] and an [`EventText`] have written all that they took only after a
@@ -15,6 +17,7 @@
 
 mod event_text;
 mod fault;
+mod output;
 mod path_fault;
 mod progress;
 mod returns;
@@ -25,6 +28,7 @@ pub use event_text::EventText;
 pub use fault::Fault;
 pub use line_words::decimal_number;
 pub use network_file::{NetworkFault, network_of, read_network};
+pub use output::{output_fault, printed};
 pub use path_fault::PathFault;
 pub use progress::Progress;
 pub use returns::{Returns, return_hint, say_hint};

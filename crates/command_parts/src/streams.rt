@@ -3,12 +3,15 @@
 //! Std's readers and writers may show their bytes to contracts (`remaining`, `contents`). A file
 //! does not, so neither do these ends; but each of their calls says what it read from a reader
 //! that does, or wrote to such a writer.
-ghost use Rattle.std.specs.Prelude.{◌≡◌, ◌≤◌, ℕ, List, [], None, OnOk, length};
+ghost use Rattle.std.specs.Prelude.{◌≡◌, ◌≤◌, ℕ, List, [], None, OnErr, OnOk, IsSome, length};
 ghost use Rattle.std.specs.Io.Buffered.{writer_buffer, writer_contents};
 ghost use Rattle.std.specs.Io.KnownBytes.{Appends, Keeps, ReadConsumes};
 ghost use Rattle.byte_streams.specs.Streams.{CountsFailures, Reads, Rose, Writes};
+ghost use Rattle.command_parts.specs.Output.{first_error, kept_fault, IsKeptAs};
 
-use std::io::{BufWriter, ErrorKind, Read, Write};
+use crate::fault::Fault;
+use crate::output::kept_fault;
+use std::io::{BufWriter, Error, ErrorKind, Read, Write};
 use world::streams::{Failed, Sink, Source};
 
 /// A reader as a source.
@@ -76,6 +79,8 @@ pub trait Flush: Sink {
 pub struct WriteSink<W: Write + Drop> {
     writer: BufWriter<W>,
     failures: u64,
+    /// The error of the first failure.
+    first: Option<Error>,
 }
 
 impl<W: Write + Drop> WriteSink<W> {
@@ -83,11 +88,22 @@ impl<W: Write + Drop> WriteSink<W> {
     pub fn new(writer: BufWriter<W>) -> WriteSink<W>
         ensures writer { result.writer ≡ writer }
         ensures failures { result.failures ≡ 0 }
+        ensures first { result.first ≡ None }
     {
         WriteSink {
             writer,
             failures: 0,
+            first: None,
         }
+    }
+
+    /// The fault that a command ends with after this one, if the sink writes to standard output. One of
+    /// the output is that of the sink's first error, as [`output_fault`](crate::output_fault) has it.
+    pub fn fault<R: Eprint>(&self, rt: &R, fault: Fault) -> Fault
+        ensures fault { result ≡ kept_fault fault self.now.first }
+        ensures kept { IsKeptAs fault result }
+    {
+        kept_fault(rt, fault, self.first)
     }
 }
 
@@ -100,10 +116,11 @@ impl<W: Write + Drop> Flush for WriteSink<W> {
         ensures bytes { Keeps (writer_contents W.contents self.old.writer)
             (writer_contents W.contents self.new.writer) }
         ensures cause { CountsFailures result self.old.failures self.new.failures }
+        ensures kept { OnErr result (IsSome self.new.first) }
     {
         match self.writer.flush() {
             Ok(()) => Ok(()),
-            Err(_) => Err(count_failure(&mut self.failures)),
+            Err(error) => Err(note_failure(&mut self.failures, &mut self.first, error)),
         }
     }
 }
@@ -119,16 +136,29 @@ impl<W: Write + Drop> Sink for WriteSink<W> {
         ensures all { OnOk result
             (Appends (writer_contents W.contents self.old.writer)
             (writer_contents W.contents self.new.writer) bytes.now) }
+        ensures kept { OnErr result (IsSome self.new.first) }
     {
         match self.writer.write_all(bytes) {
             Ok(()) => Ok(bytes.len()),
-            Err(_) => Err(count_failure(&mut self.failures)),
+            Err(error) => Err(note_failure(&mut self.failures, &mut self.first, error)),
         }
     }
 }
 
+/// Counts a failure, and keeps its error if it is the first.
+pub(crate) fn note_failure(failures: &mut u64, first: &mut Option<Error>, error: Error) -> Failed
+    ensures rose { Rose failures.old failures.new }
+    ensures grows { failures.old ≤ failures.new }
+    ensures kept { first.new ≡ first_error first.old error }
+{
+    if first.is_none() {
+        *first = Some(error);
+    }
+    count_failure(failures)
+}
+
 /// Counts a failure; the count stops at its greatest value.
-pub(crate) fn count_failure(failures: &mut u64) -> Failed
+fn count_failure(failures: &mut u64) -> Failed
     ensures rose { Rose failures.old failures.new }
     ensures grows { failures.old ≤ failures.new }
 {

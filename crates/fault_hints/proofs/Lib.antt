@@ -1,1 +1,1 @@
-mod RowsOutput
+mod RowsKinds

@@ -1,6 +1,6 @@
 //! Files that are refused.
 ghost use Rattle.std.specs.Prelude.{◌≡◌, ◌↔◌, IsTrue, option_map};
-ghost use Rattle.fault_hints.specs.Kinds.{kind_text, AreSwapped};
+ghost use Rattle.fault_hints.specs.Kinds.{kind_text, unmade_text, AreSwapped};
 
 use network_file::NetworkFault;
 use network_hints::hint;
@@ -90,12 +90,21 @@ pub fn explain_reading<R: Files + Eprint>(rt: &R, path: &str) {
 /// Says what the system said of a file that cannot be written, if it says so still. Of one that is not
 /// there, though its folder is, the system would say just that; so this says that none can be made.
 pub fn explain_writing<R: Files + Eprint>(rt: &R, path: &str) {
-    match OpenOptions::new().write(true).open(rt, path) {
-        Err(error) if error.kind() == ErrorKind::NotFound && has_folder(rt, path) => {
-            say(rt, path, "no file can be made in its folder");
+    if let Err(error) = OpenOptions::new().write(true).open(rt, path) {
+        match unmade(error.kind(), has_folder(rt, path)) {
+            Some(what) => say(rt, path, what),
+            None => say(rt, path, error),
         }
-        Err(error) => say(rt, path, error),
-        Ok(_) => {}
+    }
+}
+
+/// Why a file could not be made, if the system's own words do not say it.
+fn unmade(kind: ErrorKind, has_folder: bool) -> Option<&'static str>
+    ensures { option_map (λ text. text.now) result ≡ unmade_text kind has_folder }
+{
+    match kind {
+        ErrorKind::NotFound if has_folder => Some("no file can be made in its folder"),
+        _ => None,
     }
 }
 

@@ -46,18 +46,18 @@ fn payload_numbers(payload: &Payload) -> [u64; 3]
 }
 
 /// A neighbour and a frame.
-fn with_frame(neighbour: u16, frame: &Frame) -> Fields
-    ensures { result.items ≡ neighbour ∷ frame_numbers frame.now }
+pub(crate) fn frame_fields(neighbour: u16, frame: &Frame) -> [u64; 6]
+    ensures { result ≡ neighbour ∷ frame_numbers frame.now }
 {
     let [distance, parent, ring] = payload_numbers(&frame.payload);
-    fields_of(&[
+    [
         u64::from(neighbour),
         u64::from(frame.seq),
         u64::from(frame.ack),
         distance,
         parent,
         ring,
-    ])
+    ]
 }
 
 impl StatePart {
@@ -149,8 +149,8 @@ impl Deed {
     {
         match *self {
             Deed::Ticks => fields_of(&[]),
-            Deed::Takes { from, frame } => with_frame(from, &frame),
-            Deed::Sends { to, frame } => with_frame(to, &frame),
+            Deed::Takes { from, frame } => fields_of(&frame_fields(from, &frame)),
+            Deed::Sends { to, frame } => fields_of(&frame_fields(to, &frame)),
             Deed::TakesAgain { from: number }
             | Deed::SendsAgain { to: number }
             | Deed::Asks { ticket: number }

@@ -1,9 +1,11 @@
 //! Entries are written.
 ghost use Rattle.std.specs.Prelude.{◌≡◌, ◌+◌, ◌*◌, ◌≤◌, ◌++◌, length, vec_len, vec_capacity};
 ghost use Rattle.leb128.specs.Spelling.{in_a_row};
+ghost use Rattle.flight_records.specs.Numbers.{fields};
 ghost use Rattle.flight_records.specs.Spelling.{check, spelling};
 
-use crate::entry::Entry;
+use crate::entry::{Deed, Entry, Noted};
+use crate::fields::frame_fields;
 use leb128::push_number;
 use std::alloc::Allocator;
 
@@ -20,9 +22,26 @@ pub fn write_entry<A: Allocator>(last: u64, entry: &Entry, out: &mut Vec<u8, A>)
     let start = out.len();
     push_number(out, entry.noted.kind());
     push_number(out, entry.instant - last);
-    push_numbers(&entry.noted.fields(), out);
+    push_fields(&entry.noted, out);
     let check = check(&out[start..]);
     out.push_reserved(check);
+}
+
+/// Writes the fields of what is noted at the end, into room that is there. Most of a record are frames, in
+/// their long or short form: their fields are written without a list of them.
+fn push_fields<A: Allocator>(noted: &Noted, out: &mut Vec<u8, A>)
+    requires { vec_len out.old + 100 ≤ vec_capacity out.old }
+    ensures items { out.new.items ≡ out.old.items ++ in_a_row (fields noted.now) }
+    ensures most { vec_len out.new ≤ vec_len out.old + 100 }
+    ensures room { vec_capacity out.new ≡ vec_capacity out.old }
+{
+    match *noted {
+        Noted::Deed(Deed::Takes { from, frame }) => push_numbers(&frame_fields(from, &frame), out),
+        Noted::Deed(Deed::Sends { to, frame }) => push_numbers(&frame_fields(to, &frame), out),
+        Noted::Deed(Deed::TakesAgain { from }) => push_number(out, u64::from(from)),
+        Noted::Deed(Deed::SendsAgain { to }) => push_number(out, u64::from(to)),
+        _ => push_numbers(&noted.fields(), out),
+    }
 }
 
 /// Writes numbers at the end, into room that is there.

@@ -1,5 +1,5 @@
 -- What is read, and what is watched, by rows that are small enough to see through.
-use Rattle.std.proofs.Common.{◌≡◌, ◌∙◌, ap, sym, ℕ, List, [], ◌∷◌, Option, Some, None, true, refl, arith}
+use Rattle.std.proofs.Common.{◌≡◌, ◌∙◌, ap, sym, ℕ, List, [], ◌∷◌, Option, Some, None, true, refl, arith, codes}
 use Rattle.std.specs.Prelude.{fold}
 use Rattle.record_gathering.specs.configuration.run_model.World.{World}
 use Rattle.record_gathering.specs.configuration.run_model.declared.event.Event.TheVariants.{Send, Take, Lose, Damage}
@@ -18,6 +18,8 @@ use Rattle.gather_command.specs.declared.damage.Difference.{Difference}
 use Rattle.gather_command.specs.declared.fault.FlawKind.TheVariants as kind
 use Rattle.gather_command.specs.Reading.{IsReadOn, Ends, Tears, Nameless, Stops, Further, start_of}
 use Rattle.gather_command.specs.Records.{starts_earlier}
+use Rattle.command_parts.specs.declared.fault.Fault.TheVariants as said
+use Rattle.gather_command.specs.Network.{network_path, none_kept_line}
 use Rattle.gather_command.specs.Delays.{DelaysView, no_delays, delays_after}
 use Rattle.gather_command.specs.Weave.{Moment, IsWoven, NoneLeft}
 use Rattle.gather_command.specs.Watch.{Seen, seen_after, nothing_seen}
@@ -122,3 +124,17 @@ first-same e = cc e
 
 not-the-distance : harmed.damage.shown ≡ record { node = 1; instant = 990; field = Distance } ∷ [] → ⊥
 not-the-distance e = other-field (ap (λ (d : Difference). d.field) (first-same (sym one-difference ∙ e)))
+
+-- the network of the file that is given, or else of the one that is kept
+given-file : network_path (codes "run") (Some (codes "ring.toml")) ≡ codes "ring.toml"
+given-file = refl
+
+kept-file : network_path (codes "run") None ≡ codes "run/record.toml"
+kept-file = refl
+
+not-the-kept-file : network_path (codes "run") (Some (codes "ring.toml")) ≡ codes "run/record.toml" → ⊥
+not-the-kept-file e = absurd cc
+
+none-kept : none_kept_line (codes "run/record.toml") said.Memory
+    ≡ codes "no network is kept in run/record.toml (memory Refused); give --network FILE"
+none-kept = refl

@@ -7,6 +7,7 @@ pub use Rattle.command_parts.specs as command_parts
 pub mod Memory
 pub mod Reading
 pub mod Folder
+pub mod Network
 pub mod View
 pub mod Records
 pub mod Weave

@@ -1,8 +1,9 @@
 //! `gather DIR`: what the nodes of a folder did, as a list of events.
-ghost use Rattle.std.specs.Prelude.{◌≡◌, ◌⊎◌, [], IfOk, IfErr, OnOk, length};
+ghost use Rattle.std.specs.Prelude.{◌≡◌, ◌⊎◌, [], IfOk, IfErr, None, OnOk, length};
 ghost use Rattle.std.specs.Io.Buffered.{writer_buffer, writer_contents};
 ghost use Rattle.std.specs.Process.{exit_status};
 ghost use Rattle.command_parts.specs.EventText.{GrowsByText};
+ghost use Rattle.command_parts.specs.declared.fault.Fault.TheVariants.{Memory};
 ghost use Rattle.gather_command.specs.Reading.{MayFail, Reads, Begins};
 ghost use Rattle.gather_command.specs.Gathered.{IsRefused};
 ghost use Rattle.gather_command.specs.Part.{IsGatheredAs};
@@ -15,6 +16,7 @@ use crate::gathered::Gathered;
 use crate::lines::{
     DifferenceLine, DifferencesLine, FaultLine, FlawLine, FoundLine, LoansLine, StretchLine,
 };
+use crate::network::{NoneKeptLine, network_path};
 use crate::part::gather_stretch;
 use crate::records::Records;
 use crate::stretch::Stretch;
@@ -28,39 +30,82 @@ use std::rt::Files;
 use topology::Net;
 
 /// Prints what the nodes of a file's network did in a stretch of time, as their records in a folder
-/// say, as a list of events: a line each. If the stretch does not begin with the records, the list
-/// begins with harms that set up the network as it stood then. Afterwards a line on standard error names
-/// each file that was not read to its end, one each of the first fields that stood otherwise than what
-/// their nodes' records led to, and four lines say in numbers what the list shows. The status is 1 if a
-/// file was not read to its end, or if a record gives no events; then a line on standard error says which
-/// and why.
+/// say, as a list of events: a line each. If no file is given, it is the one that they kept there. If the
+/// stretch does not begin with the records, the list begins with harms that set up the network as it stood
+/// then. Afterwards a line on standard error names each file that was not read to its end, one each of the
+/// first fields that stood otherwise than what their nodes' records led to, and four lines say in numbers
+/// what the list shows. The status is 1 if a file was not read to its end, if a record gives no events, or
+/// if no network was kept; then a line on standard error says which and why.
 ///
 /// What is unproved: that the entries that are woven are those of the folder's files, and that the
 /// text reaches standard output; neither says what its bytes are. [`gather_text`] says all the rest.
 ///
 /// # Errors
-/// If the file gives no network, memory runs out, or standard output fails. Then a beginning of the
-/// list may be printed.
+/// If the file that is given gives no network, memory runs out, or standard output fails. Then a
+/// beginning of the list may be printed.
 pub fn run<R: Files + Print + Eprint + AllocGlobal>(
     rt: &R,
     dir: &str,
-    network: &str,
+    network: Option<&str>,
     stretch: Stretch,
 ) -> Result<ExitCode, Fault>
     ensures { IfOk result (λ status. (exit_status status ≡ 0) ⊎ (exit_status status ≡ 1)) }
 {
-    let net = read_network(rt, network)?;
+    let Some(net) = network_of(rt, dir, network)? else {
+        return Ok(ExitCode::FAILURE);
+    };
     if !is_folder(rt, dir) {
-        let _ = eprintln!(rt; "tokentree: there is no folder {dir}");
+        say_no_folder(rt, dir);
         return Ok(ExitCode::FAILURE);
     }
-    match print_events(rt, dir, &net, stretch) {
+    match print_events(rt, dir, &net, stretch)? {
         Ok(gathered) => {
             say_gathered(rt, dir, &gathered);
             Ok(flaws_status(&gathered.flaws))
         }
         Err(fault) => ended(rt, dir, fault),
     }
+}
+
+/// The network of the file that is given, or else of the one that the nodes of the folder kept. If they
+/// kept none, a line says so and what to do, and none is returned.
+///
+/// # Errors
+/// If the file that is given gives no network, or memory runs out.
+fn network_of<R: Files + Eprint + AllocGlobal>(
+    rt: &R,
+    dir: &str,
+    network: Option<&str>,
+) -> Result<Option<Net>, Fault>
+    ensures given { IfOk result (λ net. net ≡ None → network.entry ≡ None) }
+    ensures kept { network.entry ≡ None → IfErr result (λ fault. fault ≡ Memory) }
+{
+    let Ok(path) = network_path(rt.alloc(), dir, network) else {
+        return Err(Fault::Memory);
+    };
+    match (read_network(rt, path.as_str()), network) {
+        (Ok(net), _) => Ok(Some(net)),
+        (Err(fault), Some(_)) => Err(Fault::Network(fault)),
+        (Err(fault), None) => {
+            say_none_kept(rt, dir, path.as_str(), Fault::Network(fault));
+            Ok(None)
+        }
+    }
+}
+
+/// Says that the nodes of a folder kept no network in this file, or that there is no folder.
+fn say_none_kept<R: Files + Eprint>(rt: &R, dir: &str, path: &str, fault: Fault) {
+    if is_folder(rt, dir) {
+        let line = NoneKeptLine { path, fault };
+        let _ = eprintln!(rt; "tokentree: {line}");
+    } else {
+        say_no_folder(rt, dir);
+    }
+}
+
+/// Says that there is no such folder.
+fn say_no_folder<R: Eprint>(rt: &R, dir: &str) {
+    let _ = eprintln!(rt; "tokentree: there is no folder {dir}");
 }
 
 /// Whether there is such a folder.
@@ -72,23 +117,24 @@ fn is_folder<F: Files>(files: &F, dir: &str) -> bool {
 }
 
 /// Prints the events that the records of a folder become.
-fn print_events<R: Files + Print + AllocGlobal>(
+///
+/// # Errors
+/// If memory runs out for the printing, or standard output fails.
+fn print_events<R: Files + Print + Eprint + AllocGlobal>(
     rt: &R,
     dir: &str,
     net: &Net,
     stretch: Stretch,
-) -> Result<Gathered, GatherFault> {
+) -> Result<Result<Gathered, GatherFault>, Fault> {
     let Ok(output) = BufWriter::new(rt.alloc(), writer(rt)) else {
-        return Err(GatherFault::Memory);
+        return Err(Fault::Memory);
     };
     let mut records = FolderRecords::new(rt, dir);
-    gather_text(
-        rt.alloc(),
-        net,
-        &mut records,
-        stretch,
-        &mut EventText::new(output),
-    )
+    let mut text = EventText::new(output);
+    match gather_text(rt.alloc(), net, &mut records, stretch, &mut text) {
+        Err(GatherFault::Output) => Err(text.fault(rt, Fault::Output)),
+        gathered => Ok(gathered),
+    }
 }
 
 /// Weaves a stretch of the records of all nodes of a network into one list of events, and writes its

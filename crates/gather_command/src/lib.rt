@@ -9,7 +9,7 @@
 //! let gathered = gather(alloc, &net, &mut FolderRecords::new(rt, "run"), &mut sink)?;
 //! println!("{}", StretchLine(gathered.summary));      // nodes 3, events 1200, time 5000000 microseconds
 //! let all = Stretch::Whole;
-//! let status = command::run(rt, "run", "ring.toml", all)?; // prints the events; 1 if a record is damaged
+//! let status = command::run(rt, "run", None, all)?;       // prints the events; 1 if a record is damaged
 //! ```
 //!
 //! [`gather_stretch`] gathers a [`Stretch`] of the records alone: what comes so many seconds after the
@@ -38,6 +38,7 @@ mod folder;
 mod gathered;
 pub mod laws;
 mod lines;
+mod network;
 mod node_record;
 mod part;
 mod records;

@@ -45,7 +45,7 @@ numbers-read n h =
     rw (no-leading n h, digits-decimal n h, same, small) refl
 
 -- and from nothing else
-are-digits : (word : Word) → are_digits word ≡ true → (0 < length word) × AreDigits word
+pub are-digits : (word : Word) → are_digits word ≡ true → (0 < length word) × AreDigits word
 are-digits [] d = absurd (cc)
 are-digits (x ∷ word) d = (omega arith, d)
 

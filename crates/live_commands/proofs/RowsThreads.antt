@@ -15,7 +15,7 @@ use Rattle.command_parts.specs.world.StateText.{state_text}
 use Rattle.thread_net.specs.ThreadRun.{IsThreadRun}
 use Rattle.thread_net.specs.declared.run.Woven.{Woven}
 use Rattle.thread_net.specs.declared.run.RunFault.TheVariants as run
-use Rattle.command_parts.specs.declared.fault.Fault.TheVariants.{Memory, Threads, Output}
+use Rattle.command_parts.specs.declared.fault.Fault.TheVariants.{Memory, Threads, Output, Closed}
 use Rattle.live_commands.specs.Threads.{AllRan, IsStateWritten, IsUnwritten, refused}
 
 -- two nodes, which one edge joins
@@ -84,13 +84,17 @@ refused_not-memory : (woven : Woven Global) → refused (run.Spawn woven) ≢ Me
 refused_not-memory woven e = grind (arith, e)
 
 unwritten-output : IsUnwritten Output
-unwritten-output = inr (inr refl)
+unwritten-output = inr (inr (inl refl))
+
+unwritten-closed : IsUnwritten Closed
+unwritten-closed = inr (inr (inr refl))
 
 -- a thread that is refused ends a run before anything is written
 unwritten_not-threads : ¬ IsUnwritten Threads
 unwritten_not-threads (inl e) = grind (arith, e)
 unwritten_not-threads (inr (inl e)) = grind (arith, e)
-unwritten_not-threads (inr (inr e)) = grind (arith, e)
+unwritten_not-threads (inr (inr (inl e))) = grind (arith, e)
+unwritten_not-threads (inr (inr (inr e))) = grind (arith, e)
 
 -- ---- what nodes did
 

@@ -13,7 +13,8 @@ use Rattle.thread_net.specs.declared.run.Woven.{Woven}
 use Rattle.thread_net.specs.declared.run.RunFault.{RunFault}
 use Rattle.thread_net.specs.declared.run.RunFault.TheVariants.{Memory as MemoryRefused, Spawn}
 use Rattle.command_parts.specs.declared.fault.Fault.{Fault}
-use Rattle.command_parts.specs.declared.fault.Fault.TheVariants.{Memory, Threads, Output, EventsUnwritable}
+use Rattle.command_parts.specs.declared.fault.Fault.TheVariants.{Memory, Threads, EventsUnwritable}
+use Rattle.command_parts.specs.Output.{IsUntaken}
 use Rattle.thread_net.specs.ThreadRun.{IsThreadRun}
 
 -- each node did `turns` turns, starting from fresh nodes and empty links
@@ -33,6 +34,6 @@ refused (MemoryRefused _) = Memory
 refused (Spawn _) = Threads
 
 -- what they did, or what it led to, is not written: memory ran out, or the file or standard output
--- failed
+-- failed, or nobody reads on there
 abbrev pub IsUnwritten : Fault → Type 0
-IsUnwritten fault = (fault ≡ Memory) ⊎ ((fault ≡ EventsUnwritable) ⊎ (fault ≡ Output))
+IsUnwritten fault = (fault ≡ Memory) ⊎ ((fault ≡ EventsUnwritable) ⊎ IsUntaken fault)

@@ -72,7 +72,7 @@ fn run_watched<R: Clock + Eprint + Threads + Wait + Sync + AllocGlobal>(
 
 /// Writes what the nodes did from the start to the file `events`, if one is named, and prints the
 /// state that it led to.
-fn show<R: Files + Print + AllocGlobal>(
+fn show<R: Files + Print + Eprint + AllocGlobal>(
     rt: &R,
     start: World,
     woven: &Woven,
@@ -175,13 +175,21 @@ fn give_events<S: EventSink>(events: &[Event], sink: &mut S) -> Result<(), Faile
 /// Prints the state that the nodes have led to from a start.
 ///
 /// What is unproved: that the text stands in standard output, which says nothing of its bytes.
-fn print_state<R: Print + AllocGlobal>(rt: &R, start: World, woven: &Woven) -> Result<(), Fault>
+fn print_state<R: Print + Eprint + AllocGlobal>(
+    rt: &R,
+    start: World,
+    woven: &Woven,
+) -> Result<(), Fault>
     ensures { IfErr result IsUnwritten }
 {
     let Ok(output) = BufWriter::new(rt.alloc(), writer(rt)) else {
         return Err(Fault::Memory);
     };
-    write_state(start, woven, &mut WriteSink::new(output))
+    let mut sink = WriteSink::new(output);
+    match write_state(start, woven, &mut sink) {
+        Ok(()) => Ok(()),
+        Err(fault) => Err(sink.fault(rt, fault)),
+    }
 }
 
 /// Judges what nodes did from a start on, and writes the whole state that it led to, with the

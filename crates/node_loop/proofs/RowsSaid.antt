@@ -16,7 +16,7 @@ use Rattle.socket_links.specs.Pipes.{GoesOn}
 use Rattle.node_loop.specs.declared.clients.Client.{Client}
 use Rattle.node_loop.specs.declared.clients.Clients.{Clients}
 use Rattle.node_loop.specs.Answers.{answer_text, lock_answer}
-use Rattle.node_loop.specs.Clients.{answers_of, is_connected, IsTold, Tells}
+use Rattle.node_loop.specs.Clients.{answers_of, is_connected, IsReported, Reports}
 use Rattle.node_loop.specs.Said.{answers_to, AreAnswered, HasAnswered, IsSaid, NothingSaid, said, SaidAt, SaidTo, TurnSays}
 use Rattle.node_loop.proofs.Lives.{admits-none}
 use Rattle.node_loop.proofs.Saying.{is-said-join, nothing-same, reported-said}
@@ -57,14 +57,14 @@ plain-said took a b more waits before after f =
 
 module _ {P A : Type 0} (old new : Clients P A) where
   -- the text waits, and of no other client anything changes
-  reports-lost : answers_of old 3 ≡ [] → answers_of new 3 ≡ codes "lost\n" → new.table ≡ old.table → ((t : ℕ) → t ≢ 3 → answers_of new t ≡ answers_of old t) → Tells (codes "lost\n") 3 old new
+  reports-lost : answers_of old 3 ≡ [] → answers_of new 3 ≡ codes "lost\n" → new.table ≡ old.table → ((t : ℕ) → t ≢ 3 → answers_of new t ≡ answers_of old t) → Reports (codes "lost\n") 3 old new
   reports-lost before after table others = (inl (rw (before, after) refl, ap (λ x. get x 3) table), λ t o. (others t o, ap (λ x. get x t) table))
 
-  reports_not-silent : answers_of old 3 ≡ [] → answers_of new 3 ≡ [] → is_connected new 3 ≡ true → ¬ Tells (codes "lost\n") 3 old new
+  reports_not-silent : answers_of old 3 ≡ [] → answers_of new 3 ≡ [] → is_connected new 3 ≡ true → ¬ Reports (codes "lost\n") 3 old new
   reports_not-silent before after there (inl reported, others) = grind (arith, common_steps, before, after, reported.0)
   reports_not-silent before after there (inr closed, others) = grind (arith, there, closed.1)
 
-  reports_not-elsewhere : get old.table 4 ≡ None → is_connected new 4 ≡ true → ¬ Tells (codes "lost\n") 3 old new
+  reports_not-elsewhere : get old.table 4 ≡ None → is_connected new 4 ≡ true → ¬ Reports (codes "lost\n") 3 old new
   reports_not-elsewhere before after (_, others) = grind (arith, common_steps, before, after, (others 4 (λ e. omega (arith, e))).1)
 
 abbrev first-of : List ℕ → ℕ
@@ -107,7 +107,7 @@ module _ {P A : Type 0} (took : P → Option (List ℕ)) (site : Site) (old new 
   has-answered : HasAnswered took site old old
   has-answered = record { came = old; admits = admits-none old; answers = answered-still }
 
-  said-to-reported : Tells (codes "full\n") 3 old new → SaidTo took (codes "full\n") 3 old new
+  said-to-reported : Reports (codes "full\n") 3 old new → SaidTo took (codes "full\n") 3 old new
   said-to-reported reports = reported-said took (codes "full\n") 3 old new reports
 
   -- a turn in which nothing is said
@@ -115,7 +115,7 @@ module _ {P A : Type 0} (took : P → Option (List ℕ)) (site : Site) (old new 
   turn-quiet = record { heard = old; acted = old; answers = has-answered; reported = refl; goes_out = nothing-still }
 
   -- and one in which a client hears that it lost the lock
-  turn-lost : Tells (codes "lost\n") 3 old new → TurnSays took site (Lost 3) old new
+  turn-lost : Reports (codes "lost\n") 3 old new → TurnSays took site (Lost 3) old new
   turn-lost reports = record { heard = old; acted = new; answers = has-answered; reported = reports; goes_out = nothing-same took new new refl refl }
 
   module _ (was : get old.table 3 ≡ Some a) (is : get new.table 3 ≡ Some b) (before : took a.pipe ≡ Some []) (after : took b.pipe ≡ Some []) (waits : answers_of old 3 ≡ []) where
@@ -127,7 +127,7 @@ module _ {P A : Type 0} (took : P → Option (List ℕ)) (site : Site) (old new 
         let h = subst (λ xs. SaidAt took more (Some a) xs (Some b) (answers_of new 3)) waits g in plain-said took a b more (answers_of new 3) before after h
 
     -- what was said in a turn
-    said-in : (act : DeskAct) (text : List ℕ) → ((x y : Clients P A) → IsTold act x y → IsSaid took text 3 x y) → (x : TurnSays took site act old new)
+    said-in : (act : DeskAct) (text : List ℕ) → ((x y : Clients P A) → IsReported act x y → IsSaid took text 3 x y) → (x : TurnSays took site act old new)
         → answers_of new 3 ≡ answers_to site 3 (x.answers.answers 3).0 ++ text
     said-in act text reports x =
         let lines = (x.answers.answers 3).0 in

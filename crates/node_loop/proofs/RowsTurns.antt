@@ -24,7 +24,7 @@ use Rattle.node_loop.specs.declared.lobby.Arrival.TheVariants as arrival
 use Rattle.node_loop.specs.declared.port.NodePort.{NodePort}
 use Rattle.node_loop.specs.Answers.{after_line, answer_text}
 use Rattle.node_loop.specs.Arrivals.{IsArrival}
-use Rattle.node_loop.specs.Clients.{answers_of, GivesWithin, is_connected, IsTold, room_of}
+use Rattle.node_loop.specs.Clients.{answers_of, GivesWithin, is_connected, IsReported, room_of}
 use Rattle.node_loop.specs.Deeds.{Acts, Became, Deed, IsLeave, IsOfClient, IsTake, Leads, ticks_in}
 use Rattle.node_loop.specs.Deeds.{Takes, Asks, Leaves, Ticks, Sends}
 use Rattle.node_loop.specs.Doors.{Opens}
@@ -277,17 +277,17 @@ lines_not-unknown = grind arith
 
 module _ {P A : Type 0} (old new : Clients P A) where
   -- the client of a loan that ended hears so, unless there is no room or it is closed
-  reported_not-silent : answers_of old 3 ≡ [] → answers_of new 3 ≡ [] → is_connected new 3 ≡ true → ¬ IsTold (Lost 3) old new
+  reported_not-silent : answers_of old 3 ≡ [] → answers_of new 3 ≡ [] → is_connected new 3 ≡ true → ¬ IsReported (Lost 3) old new
   reported_not-silent before after there (inl reported, others) = grind (arith, common_steps, before, after, reported.0)
   reported_not-silent before after there (inr closed, others) = grind (arith, there, closed.1)
 
   -- nor is it closed if there is room
-  reported_not-closed : room_of old 3 ≡ 256 → is_connected old 3 ≡ true → is_connected new 3 ≡ false → ¬ IsTold (Granted 3) old new
+  reported_not-closed : room_of old 3 ≡ 256 → is_connected old 3 ≡ true → is_connected new 3 ≡ false → ¬ IsReported (Granted 3) old new
   reported_not-closed room was closed (inl reported, others) = grind (arith, was, closed, reported.1)
   reported_not-closed room was closed (inr full, others) = grind (arith, room, full.0 (omega arith))
 
   -- and no other client hears anything
-  reported_not-other : answers_of old 4 ≡ [] → answers_of new 4 ≡ codes "lost\n" → ¬ IsTold (Lost 3) old new
+  reported_not-other : answers_of old 4 ≡ [] → answers_of new 4 ≡ codes "lost\n" → ¬ IsReported (Lost 3) old new
   reported_not-other before after (_, others) = grind (arith, before, after, (others 4 (λ e. omega (arith, e))).0)
 
 gives : GivesWithin (read.Got 64) 64

@@ -13,7 +13,7 @@ use Rattle.socket_links.specs.declared.pipe.ReadAnswer.{ReadAnswer}
 use Rattle.node_loop.specs.declared.clients.Client.{Client}
 use Rattle.node_loop.specs.declared.clients.Clients.{Clients}
 use Rattle.node_loop.specs.Answers.{answer_text}
-use Rattle.node_loop.specs.Clients.{answers_of, is_connected, Tells}
+use Rattle.node_loop.specs.Clients.{answers_of, is_connected, Reports}
 use Rattle.node_loop.specs.Lives.{OthersStay, ReadsAt}
 use Rattle.node_loop.specs.Said.{answers_to, said, SaidAt, IsSaid, NothingSaid, SaidTo, AreAnswered, HasAnswered}
 use Rattle.node_loop.proofs.Lives.{nobody, tested}
@@ -128,7 +128,7 @@ module _ {P A : Type 0} (took : P → Option (List ℕ)) where
       (others-nothing k old new others (λ t o. answers-same old new answers t))
 
   -- a client that heard of it, or was closed for lack of room
-  pub reported-said : (text : List ℕ) (k : ℕ) (old new : Clients P A) → Tells text k old new → SaidTo took text k old new
+  pub reported-said : (text : List ℕ) (k : ℕ) (old new : Clients P A) → Reports text k old new → SaidTo took text k old new
   reported-said text k old new (inl reported, others) =
       (said-text took text (get old.table k) (get new.table k) (answers_of old k) (answers_of new k) reported.1 reported.0, others-nothing k old new (λ t o. (others t o).1) (λ t o. (others t o).0))
   reported-said text k old new (inr closed, others) =

@@ -43,15 +43,15 @@ module _ {P A : Type 0} where
 
   -- The answer waits after what waited for the client; or there was no room for it, and the client
   -- is closed. Nothing else has changed.
-  abbrev pub Tells : List ℕ → ℕ → Clients P A → Clients P A → Type 0
-  Tells text t old new =
+  abbrev pub Reports : List ℕ → ℕ → Clients P A → Clients P A → Type 0
+  Reports text t old new =
       (((answers_of new t ≡ answers_of old t ++ text) × (get new.table t ≡ get old.table t))
       ⊎ ((t < 128 → room_of old t < length text) × (is_connected new t ≡ false)))
       × ((u : ℕ) → u ≢ t
       → (answers_of new u ≡ answers_of old u) × (get new.table u ≡ get old.table u))
 
   -- what a tick says to clients: to one whose loan it began, or to one whose loan it ended
-  abbrev pub IsTold : DeskAct → Clients P A → Clients P A → Type 0
-  IsTold act.Quiet old new = new ≡ old
-  IsTold (act.Granted t) old new = Tells (codes "granted\n") t old new
-  IsTold (act.Lost t) old new = Tells (codes "lost\n") t old new
+  abbrev pub IsReported : DeskAct → Clients P A → Clients P A → Type 0
+  IsReported act.Quiet old new = new ≡ old
+  IsReported (act.Granted t) old new = Reports (codes "granted\n") t old new
+  IsReported (act.Lost t) old new = Reports (codes "lost\n") t old new

@@ -9,7 +9,7 @@ use Rattle.socket_links.specs.Pipes.{GoesOn}
 use Rattle.node_loop.specs.declared.clients.Client.{Client}
 use Rattle.node_loop.specs.declared.clients.Clients.{Clients}
 use Rattle.node_loop.specs.Answers.{answer_text}
-use Rattle.node_loop.specs.Clients.{answers_of, IsTold}
+use Rattle.node_loop.specs.Clients.{answers_of, IsReported}
 use Rattle.node_loop.specs.Lives.{Admits}
 
 -- the answers to these lines of the client with ticket t, one after the other; each with the state in
@@ -61,5 +61,5 @@ module _ {P A : Type 0} (took : P → Option (List ℕ)) where
     pub heard : Clients P A
     pub acted : Clients P A
     pub answers : HasAnswered site old heard
-    pub reported : IsTold act heard acted
+    pub reported : IsReported act heard acted
     pub goes_out : NothingSaid acted new

@@ -4,7 +4,7 @@ ghost use Rattle.lock_desk.specs.Desk.{after_leave, is_ticket};
 ghost use Rattle.node_core.specs.Step.{ticked};
 ghost use Rattle.node_core.specs.View.{site_in, state_of};
 ghost use Rattle.node_loop.specs.Answers.{answer_text};
-ghost use Rattle.node_loop.specs.Clients.{AreConnected, is_connected, IsTold, Tells};
+ghost use Rattle.node_loop.specs.Clients.{AreConnected, is_connected, IsReported, Reports};
 ghost use Rattle.node_loop.specs.Deeds.{IsLeave, IsOfClient, Leaves};
 ghost use Rattle.node_loop.specs.Lives.{LiveOn, OthersStay};
 ghost use Rattle.node_loop.specs.Noting.{after_all, Did, DidAct};
@@ -60,7 +60,7 @@ fn reply<P: Pipe, A: Allocator + Copy>(
 )
     ensures node { Did IsLeave node.old node.new notes.old notes.new }
     ensures connected { AreConnected clients.old node.old → AreConnected clients.new node.new }
-    ensures reported { Tells text.now ticket clients.old clients.new }
+    ensures reported { Reports text.now ticket clients.old clients.new }
     ensures lives { LiveOn P.gave P.took P.counts clients.old clients.new }
 {
     if !clients.say(ticket, text) {
@@ -224,7 +224,7 @@ pub(crate) fn tick<P: Pipe, A: Allocator + Copy>(
 ) -> Ticked
     // One tick, and then nothing but leaves.
     ensures node { DidAct result node.old node.new notes.old notes.new }
-    ensures reported { IsTold result.act clients.old clients.new }
+    ensures reported { IsReported result.act clients.old clients.new }
     ensures lives { LiveOn P.gave P.took P.counts clients.old clients.new }
     ensures connected { AreConnected clients.old node.old → AreConnected clients.new node.new }
 {

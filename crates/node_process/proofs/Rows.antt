@@ -15,6 +15,7 @@ use Rattle.node_process.specs.Rights.{folder_mode, own_mode, clients_mode}
 use Rattle.node_process.specs.Ends.{end_fault, ends_by}
 use Rattle.node_recorder.specs.flight_recorder.declared.recorder.Side.TheVariants.{First, Second}
 use Rattle.node_process.specs.Tapes.{file_bytes, side_to_begin}
+use Rattle.node_process.specs.Kept.{draft_name, not_kept_line}
 use Rattle.node_process.specs.Places.{same_id, is_in_place}
 use Rattle.topology.specs.Network.{Network}
 use Rattle.node_process.specs.Texts.{last_end, left_line, gone_line, refusal_text, blocked_line}
@@ -207,3 +208,15 @@ place_not-node = refl
 
 same_not-none : same_id (Some 1) None ≡ false
 same_not-none = refl
+
+-- each node writes the network's text under a name of its own first
+names-draft : draft_name (codes "run") 2 ≡ codes "run/record.toml.2"
+unfolding digits
+names-draft = refl
+
+names_not-draft : draft_name (codes "run") 2 ≢ codes "run/record.toml"
+names_not-draft e = absurd cc
+
+says-not_kept : not_kept_line (codes "run")
+    ≡ codes "tokentree: run/record.toml: the network is not kept, so give it to gather by --network; the node runs on"
+says-not_kept = refl

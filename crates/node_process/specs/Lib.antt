@@ -5,3 +5,4 @@ pub mod Ends
 pub mod Rights
 pub mod Places
 pub mod Tapes
+pub mod Kept

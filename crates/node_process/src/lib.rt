@@ -12,7 +12,8 @@
 //! (its state), `node-U.sock` (nodes with greater ids connect to it), `desk-U.sock` (clients do),
 //! `look-U.sock` (lookers do), `stop-U` (making it ends the node) and `lock-U` (held while the
 //! node runs, so that no second process is node U there). If it keeps a record, it writes that to
-//! `record-U.0` and `record-U.1` in turn.
+//! `record-U.0` and `record-U.1` in turn, and its network's text to `record.toml`, at its start and when it
+//! has other neighbours, under the name `record.toml.U` first.
 //!
 //! The crate `node_loop` has the turn of a node, over doors; `unix_doors` has those over Unix
 //! sockets, and `node_texts` the names of files and the lines that are printed. `node_keeping`
@@ -29,6 +30,7 @@ mod asks;
 mod fault;
 mod folder;
 mod journal;
+mod kept_network;
 mod left;
 mod names;
 pub mod node;

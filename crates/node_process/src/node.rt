@@ -285,7 +285,7 @@ fn run_turns<'a, R: Files<File = File> + Sockets + Clock + Input + Eprint + Allo
             observer.attended(run, now);
         } else if take_turn(rt.alloc(), observer, run, now) {
             let next = look(rt, words, names, run);
-            observer.rewired(run);
+            observer.rewired(words, run);
             if ends(next) {
                 observer.ends(now);
                 return next;

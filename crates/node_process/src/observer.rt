@@ -81,11 +81,11 @@ impl<'a, 'w, R: Files<File = File> + Clock + Eprint + AllocGlobal> Observer<'a, 
     }
 
     /// The node may have other neighbours from now on.
-    pub fn rewired<D: Doors, S: Store + Drop>(&mut self, run: &NodeRun<D, S>)
+    pub fn rewired<D: Doors, S: Store + Drop>(&mut self, words: &NodeWords<'_>, run: &NodeRun<D, S>)
         ensures off { self.old.tape ≡ None → self.new ≡ self.old }
     {
         if let Some(tape) = &mut self.tape {
-            tape.rewired(run);
+            tape.rewired(words, run);
         }
     }
 
@@ -116,6 +116,6 @@ fn recording<'a, R: Files<File = File> + Clock + Eprint + AllocGlobal, D: Doors,
     let Some(size) = words.record_size else {
         return Ok((Notes::none(), None));
     };
-    let tape = Tape::open(rt, words.dir, size, run, now)?;
+    let tape = Tape::open(rt, words, size, run, now)?;
     Ok((Notes::with_room(rt.alloc())?, Some(tape)))
 }

@@ -8,6 +8,8 @@ ghost use Rattle.node_process.specs.Tapes.{AreFirstPages, ArePagesAfter};
 
 use crate::fault::NodeFault;
 use crate::folder::{file_up_to, new_file};
+use crate::kept_network::{NotKept, keep_network};
+use crate::node::NodeWords;
 use node_loop::{Doors, NodeRun, Notes};
 use node_recorder::flight_recorder::flight_records::Deed;
 use node_recorder::flight_recorder::{LEAST_SIZE, Recorder, Side, record_name};
@@ -19,6 +21,7 @@ use std::fs::{self, File};
 use std::io::{self, ErrorKind, Write};
 use std::rt::{Clock, Files};
 use std::time::{SystemTime, UNIX_EPOCH};
+use topology::Net;
 
 /// The most bytes of each of the two files of a record.
 #[derive(Clone, Copy, Debug, PartialEq, Eq)]
@@ -85,16 +88,17 @@ pub struct Tape<'a, R> {
 }
 
 impl<'a, R: Files<File = File> + Clock + Eprint + AllocGlobal> Tape<'a, R> {
-    /// The record of this node, which runs in `dir` since its clock stood at 0. `now` is the time of
+    /// The record of the node of these words, which runs since its clock stood at 0. `now` is the time of
     /// that clock, in microseconds. It goes on in the file that was written last, if that is a record of
     /// this node in this network that has room and at most 16 MiB; else in a new file, in place of the other
-    /// one. All memory is reserved here; no file is made or changed yet.
+    /// one. All memory is reserved here. The network's text is kept beside it; no other file is made or
+    /// changed yet.
     ///
     /// # Errors
     /// If memory runs out, or the network has no such node.
     pub fn open<D: Doors, S: Store + Drop>(
         rt: &'a R,
-        dir: &str,
+        words: &NodeWords<'_>,
         size: RecordSize,
         run: &NodeRun<D, S>,
         now: u64,
@@ -105,7 +109,8 @@ impl<'a, R: Files<File = File> + Clock + Eprint + AllocGlobal> Tape<'a, R> {
         if id >= run.net().nodes() {
             return Err(NodeFault::NoNode(run.net().nodes()));
         }
-        let names = RecordNames::new(alloc, dir, id)?;
+        keep(rt, words, run.net());
+        let names = RecordNames::new(alloc, words.dir, id)?;
         let pages = first_pages(rt, &names, size, network_mark(run.net()), id)?;
         Ok(Tape {
             rt,
@@ -174,12 +179,13 @@ impl<'a, R: Files<File = File> + Clock + Eprint + AllocGlobal> Tape<'a, R> {
         self.recorder.turn_ended(run.node(), &[deed], true, instant);
     }
 
-    /// The node may have other neighbours from now on.
-    pub fn rewired<D: Doors, S: Store + Drop>(&mut self, run: &NodeRun<D, S>)
+    /// The node may have other neighbours from now on. If so, the network's text is kept again.
+    pub fn rewired<D: Doors, S: Store + Drop>(&mut self, words: &NodeWords<'_>, run: &NodeRun<D, S>)
         ensures { self.new.recorder.pages ≡ self.old.recorder.pages }
     {
         if !self.recorder.knows_neighbours_of(run.node()) {
             self.recorder.rewire(run.net(), run.node());
+            keep(self.rt, words, run.net());
         }
     }
 
@@ -244,6 +250,14 @@ impl<'a, R: Files<File = File> + Clock + Eprint + AllocGlobal> Tape<'a, R> {
             0 => new_file(self.rt, path),
             written => file_up_to(self.rt, path, written),
         }
+    }
+}
+
+/// Keeps the text of a node's network beside its record. If that fails, a line says so.
+fn keep<R: Files<File = File> + Eprint + AllocGlobal>(rt: &R, words: &NodeWords<'_>, net: &Net) {
+    if let Err(error) = keep_network(rt, words, net) {
+        let line = NotKept { dir: words.dir };
+        let _ = eprintln!(rt; "{line}: {error}");
     }
 }
 

@@ -1,9 +1,10 @@
--- Networks and records that are small enough to see through.
-use Rattle.std.proofs.Common.{◌≡◌, ℕ, [], ◌∷◌, refl, arith}
+-- Networks, names and records that are small enough to see through.
+use Rattle.std.proofs.Common.{◌≡◌, ℕ, [], ◌∷◌, refl, arith, codes}
 use Rattle.topology.specs.Network.{Network}
 use Rattle.flight_recorder.specs.flight_records.declared.entry.Deed.TheVariants.{Ticks}
 use Rattle.flight_recorder.specs.Recorder.{after_failure, at_start}
 use Rattle.flight_recorder.specs.declared.recorder.Side.TheVariants.{First}
+use Rattle.node_recorder.specs.Names.{network_name}
 use Rattle.node_recorder.specs.Turns.{after_deeds, network_mark}
 
 abbrev pair : ℕ → Network
@@ -20,3 +21,10 @@ mark-not e = omega (arith, e)
 -- nothing is noted of deeds once a record has stopped
 stopped : after_deeds 5 (Ticks ∷ Ticks ∷ []) (after_failure (at_start 65536 First)) ≡ after_failure (at_start 65536 First)
 stopped = refl
+
+-- the network's file has no node's number
+kept : network_name (codes "run") ≡ codes "run/record.toml"
+kept = refl
+
+kept-not : network_name (codes "run") ≡ codes "run/record-0.toml" → ⊥
+kept-not e = absurd cc

@@ -20,8 +20,10 @@
 //! see whether they leave one out. The loop of a node notes each one.
 #![tactic(auto)]
 
+mod name;
 mod recorder;
 
 pub use flight_recorder;
+pub use name::network_name;
 pub use node_follower;
 pub use recorder::{NodeRecorder, network_mark};

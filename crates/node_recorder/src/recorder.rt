@@ -138,7 +138,7 @@ impl<A: Allocator + Copy> NodeRecorder<A> {
         self.follower.node().neighbours() == node.neighbours()
     }
 
-    /// The pages that are to be written.
+    /// The pages that must be written.
     pub fn pages(&self) -> &Recorder<A>
         ensures { result.now ≡ self.now.pages }
     {

@@ -1,19 +1,25 @@
 //! The statuses that the program ends with.
-ghost use Rattle.std.specs.Prelude.{◌≡◌, ◌≢◌, ◌≤◌, ◌⊎◌, if◌then◌else◌, IfOk, IfErr};
+ghost use Rattle.std.specs.Prelude.{◌≡◌, ◌≢◌, ◌⊎◌, if◌then◌else◌, MatchResult};
 ghost use Rattle.std.specs.Process.{exit_status};
 ghost use Rattle.clap.specs.Values.{kind_of};
 ghost use Rattle.clap.specs.declared.error.kind.ErrorKind.TheVariants.{DisplayHelp, DisplayVersion};
 ghost use Rattle.clap.specs.declared.error.kind.ErrorKind.TheVariants.{OutOfMemory};
+ghost use Rattle.command_parts.specs.Output.{output_fault};
+ghost use Rattle.program_ends.specs.Ends.{end_status};
 
 use crate::fault_line::FaultLine;
 use clap::error::ErrorKind;
-use command_parts::Fault;
-use fault_hints::{one_line, output_status};
+use command_parts::{Fault, printed};
+use fault_hints::one_line;
 use std::alloc::AllocError;
+use std::io;
 use std::process::ExitCode;
 
 /// The status of a command line that was refused.
 pub const LINE_REFUSED: u8 = 2;
+
+/// The status of a program whose reader is gone, as a shell shows one that SIGPIPE ended.
+const CLOSED_PIPE: u8 = 141;
 
 /// The status of a fault: `lock` has one of its own, since 1 may be that of its command.
 pub fn fault_status(is_lock: bool) -> u8
@@ -35,11 +41,11 @@ pub fn shows<R: Print + Eprint + AllocGlobal>(
     ensures memory { kind_of error.now ≡ OutOfMemory
         → exit_status result ≡ (if is_lock then 125 else 1) }
     ensures help { kind_of error.now ≡ DisplayHelp
-        → (exit_status result ≤ 1) ⊎ (exit_status result ≡ 141) }
+        → (exit_status result ≡ 0) ⊎ ((exit_status result ≡ 1) ⊎ (exit_status result ≡ 141)) }
 {
     match error.kind() {
         ErrorKind::OutOfMemory => fails(rt, Fault::Memory, fault_status(is_lock)),
-        ErrorKind::DisplayHelp | ErrorKind::DisplayVersion => help_status(rt, error.print(rt)),
+        ErrorKind::DisplayHelp | ErrorKind::DisplayVersion => print_status(rt, error.print(rt)),
         _ => {
             say_mistake(rt, error, command);
             ExitCode::from(LINE_REFUSED)
@@ -73,34 +79,27 @@ fn mistake_line<R: AllocGlobal>(
     one_line(rt.alloc(), text.as_str(), command)
 }
 
-/// The status of help that was asked for, by what printing it answered: a fault is shown if it could not
-/// be printed, but for a reader that is gone.
-fn help_status<R: Print + Eprint, E: Drop>(rt: &R, printed: Result<(), E>) -> ExitCode
-    ensures printed { IfOk printed (λ _. exit_status result ≡ 0) }
-    ensures refused { IfErr printed
-        (λ _. (exit_status result ≡ 1) ⊎ (exit_status result ≡ 141)) }
+/// The status of a program that only prints, as its help, by what standard output answered.
+pub fn print_status<R: Eprint>(rt: &R, answer: io::Result<()>) -> ExitCode
+    ensures status { MatchResult answer (λ _. exit_status result ≡ 0)
+        (λ error. exit_status result ≡ end_status (output_fault error) 1) }
+    ensures any { (exit_status result ≡ 0)
+        ⊎ ((exit_status result ≡ 1) ⊎ (exit_status result ≡ 141)) }
 {
-    match printed {
+    match printed(rt, answer) {
         Ok(()) => ExitCode::SUCCESS,
-        Err(_) => output_fails(rt, fault_status(false)),
+        Err(fault) => fails(rt, fault, fault_status(false)),
     }
 }
 
-/// Ends after standard output has refused a write: quietly if its reader is gone, else with its fault and
-/// this status.
-pub fn output_fails<R: Print + Eprint>(rt: &R, status: u8) -> ExitCode
-    ensures { (exit_status result ≡ status) ⊎ (exit_status result ≡ 141) }
-{
-    match output_status(rt) {
-        Some(status) => ExitCode::from(status),
-        None => fails(rt, Fault::Output, status),
-    }
-}
-
-/// Shows a fault, and ends with a status.
+/// Shows a fault, and ends with this status. But if the reader of standard output is gone, it ends
+/// quietly, with the status of that.
 pub fn fails<R: Eprint>(rt: &R, fault: Fault, status: u8) -> ExitCode
-    ensures { exit_status result ≡ status }
+    ensures { exit_status result ≡ end_status fault status }
 {
+    if let Fault::Closed = fault {
+        return ExitCode::from(CLOSED_PIPE);
+    }
     let _ = rt.eprintln(FaultLine(fault));
     ExitCode::from(status)
 }

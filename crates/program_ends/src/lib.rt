@@ -5,6 +5,7 @@
 //! fill_standard_streams(rt);                           // before anything is opened
 //! let status = fails(rt, Fault::NoNode, 1);            // prints `tokentree: id NoNode`
 //! let status = fault_status(true);                     // 125: `lock` keeps 1 for its command
+//! let status = fails(rt, Fault::Closed, 1);            // prints nothing: 141
 //! let status = shows(rt, &error, false, Some("bound")); // 0 for help, 2 for a refused line
 //! ```
 //!
@@ -18,7 +19,7 @@ mod path_fault_line;
 mod streams;
 
 pub use arguments::own_words;
-pub use ends::{LINE_REFUSED, fails, fault_status, output_fails, shows};
+pub use ends::{LINE_REFUSED, fails, fault_status, print_status, shows};
 pub use fault_line::FaultLine;
 pub use path_fault_line::PathFaultLine;
 pub use streams::fill_standard_streams;

@@ -4,16 +4,14 @@ use Rattle.std.specs.Str.Parse.{digits_value}
 use Rattle.std.proofs.lemmas.Bool.Decides.{nat_tests}
 use Rattle.std.proofs.lemmas.Str.Parse.{digits_value_short}
 use Rattle.line_words.specs.Numbers.{are_digits, digits_up_to}
-use Rattle.line_words.proofs.Spelling.{AreDigits, own}
+use Rattle.line_words.proofs.Spelling.{are-digits, own}
 use Rattle.recovery_times.specs.Reading.{thousandths_of}
-
-all-digits : (ds : List ℕ) → are_digits ds ≡ true → AreDigits ds
-all-digits [] d = absurd (cc)
-all-digits (x ∷ ds) d = d
 
 -- three digits spell no more than an hour has milliseconds
 few-digits : (ds : List ℕ) → are_digits ds ≡ true → nat_le (length ds) 3 ≡ true → digits_value 10 ds ≤ 3600000
-few-digits ds d few = omega (arith, digits_value_short own ds 3 (all-digits ds d) (short (length ds) few))
+few-digits ds d few =
+    let (some, all) = are-digits ds d in
+    omega (arith, digits_value_short own ds 3 all (short (length ds) few))
   where
     short : (n : ℕ) → nat_le n 3 ≡ true → n ≤ 3
     short n few = grind (arith, nat_tests)

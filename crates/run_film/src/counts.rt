@@ -10,7 +10,7 @@ use crate::words::words;
 use run_recording::Still;
 use std::alloc::{AllocError, Global};
 use std::fmt::Write;
-use svg_drawing::{Element, Group, Point, Px};
+use svg_drawing::{Element, Fixed, Group, Point, Px};
 
 /// Which nodes a curve counts.
 #[derive(Clone, Copy, Debug, PartialEq, Eq)]
@@ -29,7 +29,32 @@ impl Curve {
             Curve::Lending => still.lending,
         }
     }
+
+    /// How it is drawn.
+    fn looks(self) -> &'static [Fixed] {
+        match self {
+            Curve::Privileged => &PRIVILEGED,
+            Curve::Lending => &LENDING,
+        }
+    }
 }
+
+/// How the curve of the privileged nodes is drawn.
+const PRIVILEGED: [Fixed; 4] = [
+    Fixed("fill", "none"),
+    Fixed("class", "curve-privileged"),
+    Fixed("stroke", "#f2b705"),
+    Fixed("stroke-width", "2"),
+];
+
+/// How the curve of those that lend is drawn.
+const LENDING: [Fixed; 5] = [
+    Fixed("fill", "none"),
+    Fixed("class", "curve-lending"),
+    Fixed("stroke", "#c3263f"),
+    Fixed("stroke-width", "2"),
+    Fixed("stroke-dasharray", "4 2"),
+];
 
 /// Where the curves begin.
 const LEFT: Px = Px(40);
@@ -148,17 +173,6 @@ fn curve_line(
     let steps = curve_steps(alloc, chart, shown, curve)?;
     let line = Element::new(alloc, "path")
         .with(alloc, "d", steps.as_str())?
-        .with(alloc, "fill", "none")?;
-    let drawn = match curve {
-        Curve::Privileged => line
-            .with(alloc, "class", "curve-privileged")?
-            .with(alloc, "stroke", "#f2b705")?
-            .with(alloc, "stroke-width", "2")?,
-        Curve::Lending => line
-            .with(alloc, "class", "curve-lending")?
-            .with(alloc, "stroke", "#c3263f")?
-            .with(alloc, "stroke-width", "2")?
-            .with(alloc, "stroke-dasharray", "4 2")?,
-    };
-    Ok(Group::alone(alloc, drawn))
+        .with_all(alloc, curve.looks())?;
+    Ok(Group::alone(alloc, line))
 }

@@ -189,18 +189,28 @@ const SIGNS: [(&str, u32, &str); 4] = [
 
 /// Draws the legend.
 fn put_legend(alloc: Global, groups: &mut Vec<Group>) -> Result<(), AllocError> {
-    for sign in SIGNS {
-        let (name, x, text) = sign;
-        let mark = Element::new(alloc, "use")
-            .with(alloc, "href", name)?
-            .with_number(alloc, "x", x)?
-            .with_number(alloc, "y", 76)?;
-        groups.push(Group::alone(alloc, mark))?;
-        let at = Point {
-            x: Px(x) + Px(26),
-            y: Px(81),
-        };
-        groups.push(Group::alone(alloc, words(alloc, at, text)?))?;
+    for sign in &SIGNS {
+        let (name, x, text) = *sign;
+        groups.push(sign_mark(alloc, name, x)?)?;
+        groups.push(sign_words(alloc, x, text)?)?;
     }
     Ok(())
+}
+
+/// The symbol of a sign, at a place from the left.
+fn sign_mark(alloc: Global, name: &str, x: u32) -> Result<Group, AllocError> {
+    let mark = Element::new(alloc, "use")
+        .with(alloc, "href", name)?
+        .with_number(alloc, "x", x)?
+        .with_number(alloc, "y", 76)?;
+    Ok(Group::alone(alloc, mark))
+}
+
+/// What a sign means, beside its symbol.
+fn sign_words(alloc: Global, x: u32, text: &str) -> Result<Group, AllocError> {
+    let at = Point {
+        x: Px(x) + Px(26),
+        y: Px(81),
+    };
+    Ok(Group::alone(alloc, words(alloc, at, text)?))
 }

@@ -11,7 +11,7 @@ use run_recording::Still;
 use run_recording::events_text::EventLine;
 use std::alloc::{AllocError, Global};
 use std::fmt::Write;
-use svg_drawing::{Element, Group};
+use svg_drawing::{Element, Fixed, Group};
 
 /// The script of the page. It has no character that a text of a page would escape.
 const SCRIPT: &str = "\
@@ -186,12 +186,16 @@ pub fn controls(alloc: Global, shown: Shown<'_>) -> Result<Vec<Group>, AllocErro
     Ok(groups)
 }
 
+/// What the sentence of the step that is shown has.
+const SAID: [Fixed; 3] = [
+    Fixed("id", "told"),
+    Fixed("role", "status"),
+    Fixed("aria-live", "polite"),
+];
+
 /// What does not change from film to film.
 fn under_steps(alloc: Global) -> Result<Vec<Group>, AllocError> {
-    let said = Element::new(alloc, "p")
-        .with(alloc, "id", "told")?
-        .with(alloc, "role", "status")?
-        .with(alloc, "aria-live", "polite")?;
+    let said = Element::new(alloc, "p").with_all(alloc, &SAID)?;
     let mut groups = Vec::new(alloc);
     groups.push(buttons(alloc)?)?;
     groups.push(Group::alone(alloc, said))?;
@@ -207,17 +211,22 @@ fn button(alloc: Global, name: &str, text: &str) -> Result<Element, AllocError> 
         .saying(text)
 }
 
+/// What the slider has.
+const SLIDER: [Fixed; 5] = [
+    Fixed("id", "slider"),
+    Fixed("type", "range"),
+    Fixed("min", "0"),
+    Fixed("value", "0"),
+    Fixed("aria-label", "Step"),
+];
+
+/// What the element that holds the controls has.
+const BAR: [Fixed; 2] = [Fixed("role", "group"), Fixed("aria-label", "Film")];
+
 /// The controls.
 fn buttons(alloc: Global) -> Result<Group, AllocError> {
-    let slider = Element::new(alloc, "input")
-        .with(alloc, "id", "slider")?
-        .with(alloc, "type", "range")?
-        .with(alloc, "min", "0")?
-        .with(alloc, "value", "0")?
-        .with(alloc, "aria-label", "Step")?;
-    let bar = Element::new(alloc, "div")
-        .with(alloc, "role", "group")?
-        .with(alloc, "aria-label", "Film")?;
+    let slider = Element::new(alloc, "input").with_all(alloc, &SLIDER)?;
+    let bar = Element::new(alloc, "div").with_all(alloc, &BAR)?;
     Group::alone(alloc, bar)
         .holding(button(alloc, "play", "Play")?)?
         .holding(button(alloc, "back", "Step back")?)?

@@ -19,7 +19,7 @@ use crate::track::{is_named, look_of};
 use crate::words::words;
 use run_recording::Still;
 use std::alloc::{AllocError, Global};
-use svg_drawing::{Element, Group, Point, Px};
+use svg_drawing::{Element, Fixed, Group, Point, Px};
 use topology::Net;
 
 /// The most tickets that have a symbol.
@@ -351,15 +351,20 @@ fn edge(
     )
 }
 
+/// What each end of a line has.
+const LINE_END: [Fixed; 5] = [
+    Fixed("viewBox", "-8 -8 16 16"),
+    Fixed("markerWidth", "16"),
+    Fixed("markerHeight", "16"),
+    Fixed("markerUnits", "userSpaceOnUse"),
+    Fixed("orient", "auto"),
+];
+
 /// What stands at the end of a line.
 fn line_end(alloc: Global, name: &str, drawn: Element) -> Result<Group, AllocError> {
     let element = Element::new(alloc, "marker")
         .with(alloc, "id", name)?
-        .with(alloc, "viewBox", "-8 -8 16 16")?
-        .with(alloc, "markerWidth", "16")?
-        .with(alloc, "markerHeight", "16")?
-        .with(alloc, "markerUnits", "userSpaceOnUse")?
-        .with(alloc, "orient", "auto")?;
+        .with_all(alloc, &LINE_END)?;
     Group::alone(alloc, element).holding(drawn)
 }
 
@@ -396,6 +401,13 @@ fn note_tickets(tickets: &mut Vec<u16>, net: &Net, still: &Still) -> Result<(), 
     Ok(())
 }
 
+/// What each ticket has.
+const TICKET: [Fixed; 3] = [
+    Fixed("text-anchor", "middle"),
+    Fixed("class", "ink"),
+    Fixed("fill", "#22262a"),
+];
+
 /// A ticket, whose words stand to both sides of its place.
 fn ticket_text(alloc: Global, stage: &Stage, ticket: u16) -> Result<Element, AllocError> {
     let words = if stage.is_wide() {
@@ -404,9 +416,7 @@ fn ticket_text(alloc: Global, stage: &Stage, ticket: u16) -> Result<Element, All
         format!(in alloc; "to {ticket}")?
     };
     Element::new(alloc, "text")
-        .with(alloc, "text-anchor", "middle")?
-        .with(alloc, "class", "ink")?
-        .with(alloc, "fill", "#22262a")?
+        .with_all(alloc, &TICKET)?
         .saying(words.as_str())
 }
 

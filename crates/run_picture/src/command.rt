@@ -1,8 +1,7 @@
 //! `draw FILE EVENTS`: a picture of the run that a list of events makes on a network.
-ghost use Rattle.std.specs.Prelude.{◌≡◌, ◌⊎◌, IfOk, IfErr, OnOk};
+ghost use Rattle.std.specs.Prelude.{◌≡◌, ◌⊎◌, IfOk, OnOk};
 ghost use Rattle.std.specs.Process.{exit_status};
 ghost use Rattle.std.specs.Io.KnownBytes.{Appends};
-ghost use Rattle.command_parts.specs.declared.fault.Fault.TheVariants.{Output};
 ghost use Rattle.svg_drawing.specs.Xml.{IsContent};
 
 mod watched;
@@ -10,12 +9,13 @@ mod watched;
 use crate::layout::{draw, draw_layered};
 use byte_streams::Source;
 use command_parts::{
-    Fault, ReadSource, Returns, STANDARD_INPUT, events_status, read_network, return_hint, say_hint,
+    Fault, ReadSource, Returns, STANDARD_INPUT, events_status, printed, read_network, return_hint,
+    say_hint,
 };
 use run_recording::{Recording, Window, record, record_layers};
 use std::alloc::{AllocError, Global};
 use std::fs;
-use std::io::{Input, Read, Write, writer};
+use std::io::{self, Input, Read, Write, writer};
 use std::process::ExitCode;
 use std::rt::Files;
 use std::time::Clock;
@@ -117,25 +117,25 @@ fn print_picture<R: Clock + Print + Eprint + AllocGlobal, E: Read + Drop, D: Dra
     let mut source = Watched::start(rt, events, shows);
     let written = write_picture(rt.alloc(), net, &mut source, &mut writer(rt), wanted);
     let events = source.end();
-    let refused = written?;
+    let refused = printed(rt, written?)?;
     say_hint(rt, return_hint(refused, events.were_seen()));
     Ok(refused)
 }
 
 /// Writes the picture of what the events that a source gives lead to. The answer is how many lines were
-/// refused.
+/// refused, or the writer's error.
 ///
 /// # Errors
-/// If memory runs out, the source fails or gives too many bytes, or the writer fails.
+/// If memory runs out, or the source fails or gives too many bytes.
 pub fn write_picture<S: Source, W: Write, D: Draws>(
     alloc: Global,
     net: &Net,
     source: &mut S,
     output: &mut W,
     wanted: D,
-) -> Result<u64, Fault> {
+) -> Result<io::Result<u64>, Fault> {
     let drawn = wanted.drawn(alloc, net, source)?;
-    put(output, drawn.text.as_slice(), drawn.refused)
+    Ok(put(output, drawn.text.as_slice(), drawn.refused))
 }
 
 /// The picture of a recording, as a text: with lanes of what has settled, if it has them.
@@ -152,13 +152,10 @@ fn picture(alloc: Global, net: &Net, recording: &Recording) -> Result<Vec<u8>, A
 }
 
 /// Writes a text whole, and answers this number then.
-fn put<W: Write>(output: &mut W, text: &[u8], refused: u64) -> Result<u64, Fault>
+fn put<W: Write>(output: &mut W, text: &[u8], refused: u64) -> io::Result<u64>
     ensures text { OnOk result (Appends (W.contents output.old) (W.contents output.new) text.now) }
     ensures ok { IfOk result (λ given. given ≡ refused) }
-    ensures err { IfErr result (λ fault. fault ≡ Output) }
 {
-    match output.write_all(text) {
-        Ok(()) => Ok(refused),
-        Err(_) => Err(Fault::Output),
-    }
+    output.write_all(text)?;
+    Ok(refused)
 }

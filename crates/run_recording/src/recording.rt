@@ -124,12 +124,7 @@ pub fn record<A: Allocator + Copy, N: Allocator + Copy, R: Source>(
     ensures window { IfOk result (λ r. r.window ≡ window) }
     ensures columns { IfOk result (λ r. r.strip.limit ≡ columns) }
 {
-    let world = World::with_spares(alloc, net, SPARE_PAIRS)?;
-    let strip = Strip::new(alloc, columns)?;
-    let mut recording = Recording::new(world, strip, None, None, window);
-    recording.read_all(source)?;
-    recording.last_line();
-    Ok(recording)
+    recorded(alloc, net, source, columns, None, None, window)
 }
 
 /// The same, and also what has settled at the last moment of each full column.
@@ -150,13 +145,8 @@ pub fn record_layers<A: Allocator + Copy, N: Allocator + Copy, R: Source>(
     ensures columns { IfOk result (λ r. r.strip.limit ≡ columns) }
     ensures lanes { IfOk result (λ r. limit_of r.lanes ≡ Some columns) }
 {
-    let world = World::with_spares(alloc, net, SPARE_PAIRS)?;
-    let strip = Strip::new(alloc, columns)?;
     let lanes = Lanes::new(alloc, columns)?;
-    let mut recording = Recording::new(world, strip, None, Some(lanes), window);
-    recording.read_all(source)?;
-    recording.last_line();
-    Ok(recording)
+    recorded(alloc, net, source, columns, None, Some(lanes), window)
 }
 
 /// The same for a film: it also keeps at most `stills` stills after the first moment that is
@@ -177,10 +167,34 @@ pub fn record_film<A: Allocator + Copy, N: Allocator + Copy, R: Source>(
     ensures window { IfOk result (λ r. r.window ≡ window) }
     ensures stills { IfOk result (λ r. room_of r.reel ≡ Some stills) }
 {
-    let world = World::with_spares(alloc, net, SPARE_PAIRS)?;
-    let strip = Strip::new(alloc, 1)?;
     let reel = Reel::new(alloc, stills)?;
-    let mut recording = Recording::new(world, strip, Some(reel), None, window);
+    recorded(alloc, net, source, 1, Some(reel), None, window)
+}
+
+/// The same, with this reel and these lanes, which show nothing yet.
+fn recorded<A: Allocator + Copy, N: Allocator + Copy, R: Source>(
+    alloc: A,
+    net: &Net<N>,
+    source: &mut R,
+    columns: usize,
+    reel: Option<Reel<A>>,
+    lanes: Option<Lanes<A>>,
+    window: Window,
+) -> Result<Recording<A>, SimFault>
+    requires columns { 0 < columns }
+    requires reel { IsReeled reel [] }
+    requires lanes { IsLaned lanes [] }
+    requires moments { lane_moments lanes ≡ 0 }
+    ensures recorded { (bytes : List ℕ) → R.rest source.old ≡ Some bytes
+        → IfOk result (IsRecorded (simulated_start net.now) (events_of bytes)) }
+    ensures window { IfOk result (λ r. r.window ≡ window) }
+    ensures columns { IfOk result (λ r. r.strip.limit ≡ columns) }
+    ensures reel { IfOk result (λ r. room_of r.reel ≡ room_of reel) }
+    ensures lanes { IfOk result (λ r. limit_of r.lanes ≡ limit_of lanes) }
+{
+    let world = World::with_spares(alloc, net, SPARE_PAIRS)?;
+    let strip = Strip::new(alloc, columns)?;
+    let mut recording = Recording::new(world, strip, reel, lanes, window);
     recording.read_all(source)?;
     recording.last_line();
     Ok(recording)

@@ -3,7 +3,7 @@ use Rattle.std.proofs.Common.{◌≢◌, ℕ, List, refl, arith, inl, inr}
 use Rattle.std.specs.Borrow.{Bor}
 use Rattle.topology.specs.declared.fault.NetFault.TheVariants.{TooSmall, BadRoot}
 use Rattle.network_file.specs.declared.fault.NetworkFault.TheVariants.{Refused, Unreadable}
-use Rattle.command_parts.specs.declared.fault.Fault.TheVariants.{Network, NoNode, Memory, Output, EventsUnwritable}
+use Rattle.command_parts.specs.declared.fault.Fault.TheVariants.{Network, NoNode, Memory, Output, Closed, EventsUnwritable}
 use Rattle.command_parts.specs.declared.path_fault.PathFault.TheVariants.{Fault, Unwritable}
 use Rattle.subcommands.specs.Faults.{IsUnprinted, IsUnplotted, IsUnsaved, IsUnwritten}
 use Rattle.subcommands.specs.Named.{IsUnnamed}
@@ -29,6 +29,9 @@ unnamed_not-node never = never
 
 unprinted-memory : IsUnprinted Memory
 unprinted-memory = tt
+
+unprinted-closed : IsUnprinted Closed
+unprinted-closed = tt
 
 unprinted_not-node : ¬ IsUnprinted NoNode
 unprinted_not-node never = never

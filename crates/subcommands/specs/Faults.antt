@@ -2,15 +2,16 @@
 use Rattle.std.specs.Prelude.{◌≡◌, ◌⊎◌, ℕ, List}
 use Rattle.std.specs.Borrow.{Bor}
 use Rattle.command_parts.specs.declared.fault.Fault.{Fault}
-use Rattle.command_parts.specs.declared.fault.Fault.TheVariants.{Network, NoNode, Memory, Output, EventsUnwritable}
+use Rattle.command_parts.specs.declared.fault.Fault.TheVariants.{Network, NoNode, Memory, Output, Closed, EventsUnwritable}
 use Rattle.command_parts.specs.declared.path_fault.PathFault.{PathFault}
 use Rattle.command_parts.specs.declared.path_fault.PathFault.TheVariants.{Fault as Said, Unwritable}
 
--- a file gives no network, memory ran out, or standard output failed
+-- a file gives no network, memory ran out, or standard output failed or has no reader
 abbrev pub IsUnprinted : Fault → Type 0
 IsUnprinted (Network fault) = Unit {0}
 IsUnprinted Memory = Unit {0}
 IsUnprinted Output = Unit {0}
+IsUnprinted Closed = Unit {0}
 IsUnprinted fault = ⊥
 
 -- one of these, or the file of this path cannot be written

@@ -1,15 +1,14 @@
 //! `bound FILE`, with `--sharp`, with `--time`, or without: what the lock's guarantee costs on a
 //! network.
-ghost use Rattle.std.specs.Prelude.{◌≡◌, ◌↔◌, ℕ, ◌++◌, IfOk, IfErr, IsOk, OnOk, string_bytes};
+ghost use Rattle.std.specs.Prelude.{◌≡◌, ◌↔◌, ℕ, ◌++◌, Err, IfOk, IfErr, IsOk, OnOk, string_bytes};
 ghost use Rattle.std.specs.Prelude.{codes, decimal};
 ghost use Rattle.std.specs.Process.{exit_status};
 ghost use Rattle.subcommands.specs.Bound.{number_line, nodes_line, parent_word, bound_text};
 ghost use Rattle.subcommands.specs.Bound.{shown_text, timed_text};
 ghost use Rattle.subcommands.specs.Faults.{IsUnprinted};
-ghost use Rattle.command_parts.specs.declared.fault.Fault.TheVariants.{Output};
 ghost use Rattle.topology.specs.Tree.{distance_of, parent_of};
 
-use command_parts::{Fault, read_network};
+use command_parts::{Fault, printed, read_network};
 use recovery_times::{Premises, times_text};
 use std::alloc::{AllocError, Global};
 use std::fmt::Write;
@@ -22,7 +21,7 @@ use topology::Net;
 ///
 /// # Errors
 /// If the file gives no network, memory runs out, or standard output fails.
-pub fn run<R: Files + Print + AllocGlobal>(
+pub fn run<R: Files + Print + Eprint + AllocGlobal>(
     rt: &R,
     path: &str,
     sharp: bool,
@@ -33,19 +32,17 @@ pub fn run<R: Files + Print + AllocGlobal>(
 {
     let net = read_network(rt, path)?;
     let text = timed_text(rt.alloc(), &net, sharp, premises).map_err(|_| Fault::Memory)?;
-    done(rt.print(text.as_str()))
+    done(printed(rt, rt.print(text.as_str())))
 }
 
 /// How the command ends, by the result of printing its text.
-pub(crate) fn done<E: Drop>(printed: Result<(), E>) -> Result<ExitCode, Fault>
+pub(crate) fn done(printed: Result<(), Fault>) -> Result<ExitCode, Fault>
     ensures printed { IsOk printed ↔ IsOk result }
     ensures ok { IfOk result (λ status. exit_status status ≡ 0) }
-    ensures err { IfErr result (λ fault. fault ≡ Output) }
+    ensures err { IfErr result (λ fault. printed ≡ Err fault) }
 {
-    match printed {
-        Ok(()) => Ok(ExitCode::SUCCESS),
-        Err(_) => Err(Fault::Output),
-    }
+    printed?;
+    Ok(ExitCode::SUCCESS)
 }
 
 /// The lines of a network and, if premises are given, those of the times that follow from them.

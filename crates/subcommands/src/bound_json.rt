@@ -9,7 +9,8 @@ ghost use Rattle.subcommands.specs.BoundData.{bound_data, bound_members, shape_m
 ghost use Rattle.subcommands.specs.BoundData.{time_members, or_null, distances_data, parents_data};
 ghost use Rattle.subcommands.specs.Faults.{IsUnprinted};
 
-use command_parts::{Fault, read_network};
+use crate::bound::done;
+use command_parts::{Fault, printed, read_network};
 use recovery_times::{Premises, millis_up};
 use serde_json::{Map, Value, push, put};
 use std::alloc::{AllocError, Global};
@@ -23,7 +24,7 @@ use topology::Net;
 ///
 /// # Errors
 /// If the file gives no network, memory runs out, or standard output fails.
-pub fn run<R: Files + Print + AllocGlobal>(
+pub fn run<R: Files + Print + Eprint + AllocGlobal>(
     rt: &R,
     path: &str,
     sharp: bool,
@@ -34,10 +35,7 @@ pub fn run<R: Files + Print + AllocGlobal>(
 {
     let net = read_network(rt, path)?;
     let text = bound_json(rt.alloc(), &net, sharp, premises).map_err(|_| Fault::Memory)?;
-    match rt.println(text.as_str()) {
-        Ok(()) => Ok(ExitCode::SUCCESS),
-        Err(_) => Err(Fault::Output),
-    }
+    done(printed(rt, rt.println(text.as_str())))
 }
 
 /// The numbers of a network as a JSON object, without a newline.

@@ -3,6 +3,7 @@ ghost use Rattle.std.specs.Prelude.{◌≡◌, ◌+◌, ◌≤◌, ◌⊎◌, If
 ghost use Rattle.byte_streams.specs.Streams.{Rose, Takes};
 ghost use Rattle.command_parts.specs.schedules.damage_tool.Draws.{draw_junk};
 ghost use Rattle.subcommands.specs.Damaged.{junk_text, seeded};
+ghost use Rattle.command_parts.specs.Output.{IsUntaken};
 ghost use Rattle.std.specs.Process.{exit_status};
 ghost use Rattle.command_parts.specs.declared.fault.Fault.TheVariants.{Memory, Output};
 
@@ -18,15 +19,22 @@ use std::process::ExitCode;
 ///
 /// # Errors
 /// If memory runs out, or standard output fails.
-pub fn run<R: Print + AllocGlobal>(rt: &R, seed: u32, lines: u32) -> Result<ExitCode, Fault>
+pub fn run<R: Print + Eprint + AllocGlobal>(
+    rt: &R,
+    seed: u32,
+    lines: u32,
+) -> Result<ExitCode, Fault>
     ensures ok { IfOk result (λ status. exit_status status ≡ 0) }
-    ensures err { IfErr result (λ fault. (fault ≡ Memory) ⊎ (fault ≡ Output)) }
+    ensures err { IfErr result (λ fault. (fault ≡ Memory) ⊎ IsUntaken fault) }
 {
     let Ok(output) = BufWriter::new(rt.alloc(), writer(rt)) else {
         return Err(Fault::Memory);
     };
-    write_junk(seed, lines, &mut WriteSink::new(output))?;
-    Ok(ExitCode::SUCCESS)
+    let mut sink = WriteSink::new(output);
+    match write_junk(seed, lines, &mut sink) {
+        Ok(()) => Ok(ExitCode::SUCCESS),
+        Err(fault) => Err(sink.fault(rt, fault)),
+    }
 }
 
 /// Writes this many lines of junk, all of them.

@@ -1,16 +1,15 @@
 //! `measure FILE`: after how many sweeps scrambled worlds served.
-ghost use Rattle.std.specs.Prelude.{◌≡◌, ◌↔◌, ◌+◌, ◌++◌, ◌⊎◌, OnOk, IfOk, IfErr, IsOk, IsTrue};
+ghost use Rattle.std.specs.Prelude.{◌≡◌, ◌↔◌, ◌+◌, ◌++◌, ◌⊎◌, Err, OnOk, IfOk, IfErr, IsOk, IsTrue};
 ghost use Rattle.std.specs.Prelude.{string_bytes, if◌then◌else◌};
 ghost use Rattle.std.specs.Process.{exit_status};
 ghost use Rattle.subcommands.specs.Measured.{has_served, run_line, served_sweeps, summary_line};
 ghost use Rattle.subcommands.specs.Measured.{shown_line, run_lines, totals, IsMeasured};
 ghost use Rattle.subcommands.specs.Measured.{IsPlanMeasured, HaveServed};
 ghost use Rattle.subcommands.specs.Faults.{IsUnprinted};
-ghost use Rattle.command_parts.specs.declared.fault.Fault.TheVariants.{Output};
 
 use crate::bound::push_number;
 use crate::side_by_side::measured;
-use command_parts::{Fault, read_network};
+use command_parts::{Fault, printed, read_network};
 use experiments::{Recovery, Scheduler, Summary, summary_of};
 use std::alloc::{AllocError, Global};
 use std::fmt::Write;
@@ -50,7 +49,7 @@ pub fn run<R: Files + Print + Eprint + Clock + AllocGlobal + Threads + Sync>(
 {
     let net = read_network(rt, network)?;
     match plan_text(rt, rt.alloc(), &net, plan) {
-        Ok((text, all_served)) => ending(rt.print(text.as_str()), all_served),
+        Ok((text, all_served)) => ending(printed(rt, rt.print(text.as_str())), all_served),
         Err(_) => Err(Fault::Memory),
     }
 }
@@ -74,15 +73,15 @@ fn plan_text<R: Eprint + Clock + Threads + Sync>(
 ///
 /// # Errors
 /// If the text was not printed.
-pub fn ending<E: Drop>(printed: Result<(), E>, all_served: bool) -> Result<ExitCode, Fault>
+pub fn ending(printed: Result<(), Fault>, all_served: bool) -> Result<ExitCode, Fault>
     ensures printed { IsOk printed ↔ IsOk result }
     ensures ok { IfOk result (λ status. exit_status status ≡ (if all_served then 0 else 1)) }
-    ensures err { IfErr result (λ fault. fault ≡ Output) }
+    ensures err { IfErr result (λ fault. printed ≡ Err fault) }
 {
     match printed {
         Ok(()) if all_served => Ok(ExitCode::SUCCESS),
         Ok(()) => Ok(ExitCode::FAILURE),
-        Err(_) => Err(Fault::Output),
+        Err(fault) => Err(fault),
     }
 }
 

@@ -8,7 +8,7 @@ ghost use Rattle.subcommands.specs.Faults.{IsUnprinted};
 
 use crate::measure::{Plan, ending};
 use crate::side_by_side::measured;
-use command_parts::{Fault, read_network};
+use command_parts::{Fault, printed, read_network};
 use experiments::Settling;
 use std::alloc::{AllocError, Global};
 use std::fmt::Write;
@@ -33,7 +33,7 @@ pub fn run<R: Files + Print + Eprint + Clock + AllocGlobal + Threads + Sync>(
 {
     let net = read_network(rt, network)?;
     match plan_csv(rt, rt.alloc(), &net, plan) {
-        Ok((text, all_served)) => ending(rt.print(text.as_str()), all_served),
+        Ok((text, all_served)) => ending(printed(rt, rt.print(text.as_str())), all_served),
         Err(_) => Err(Fault::Memory),
     }
 }

@@ -11,7 +11,7 @@ ghost use Rattle.subcommands.specs.Faults.{IsUnprinted};
 
 use crate::measure::{Plan, ending, has_served, have_served, served_sweeps};
 use crate::side_by_side::measured;
-use command_parts::{Fault, read_network};
+use command_parts::{Fault, printed, read_network};
 use experiments::{Recovery, Summary, summary_of};
 use serde_json::{Map, Value, push, put};
 use std::alloc::{AllocError, Global};
@@ -36,7 +36,7 @@ pub fn run<R: Files + Print + Eprint + Clock + AllocGlobal + Threads + Sync>(
 {
     let net = read_network(rt, network)?;
     match plan_json(rt, rt.alloc(), &net, plan) {
-        Ok((text, all_served)) => ending(rt.println(text.as_str()), all_served),
+        Ok((text, all_served)) => ending(printed(rt, rt.println(text.as_str())), all_served),
         Err(_) => Err(Fault::Memory),
     }
 }

@@ -8,7 +8,7 @@ ghost use Rattle.subcommands.specs.Faults.{IsUnplotted};
 use crate::measure::{Plan, ending};
 use crate::measure_csv::{csv_text, has_settled, have_settled};
 use crate::side_by_side::measured;
-use command_parts::{Fault, PathFault, read_network};
+use command_parts::{Fault, PathFault, printed, read_network};
 use experiments::Settling;
 use settling_plot::{Distribution, Figure, Layer, plotted};
 use std::alloc::{AllocError, Global};
@@ -52,7 +52,10 @@ pub fn run<'a, R: Files + Print + Eprint + Clock + AllocGlobal + Threads + Sync>
     if save(rt, path, report.plot.as_slice()).is_err() {
         return Err(PathFault::Unwritable(path));
     }
-    Ok(ending(rt.print(report.rows.as_str()), report.all_served)?)
+    Ok(ending(
+        printed(rt, rt.print(report.rows.as_str())),
+        report.all_served,
+    )?)
 }
 
 /// Makes the runs of a plan, and what is said of them.

@@ -1,13 +1,14 @@
 //! `network KIND N`: the network file of a usual graph.
 ghost use Rattle.std.specs.Prelude.{◌≡◌, ◌⊎◌, IfOk, IfErr, Ok, string_bytes};
 ghost use Rattle.std.specs.Process.{exit_status};
-ghost use Rattle.command_parts.specs.declared.fault.Fault.TheVariants.{Memory, Output};
+ghost use Rattle.command_parts.specs.Output.{IsUntaken};
+ghost use Rattle.command_parts.specs.declared.fault.Fault.TheVariants.{Memory};
 ghost use Rattle.subcommands.specs.Named.{IsTextOf, IsUnnamed};
 ghost use Rattle.topology.specs.Reading.{read_text};
 ghost use Rattle.topology.specs.Refusal.{values_of};
 
 use crate::bound::done;
-use command_parts::{Fault, NetworkFault};
+use command_parts::{Fault, NetworkFault, printed};
 use network_kinds::{Kind, network_of, network_text};
 use std::alloc::Global;
 use std::process::ExitCode;
@@ -32,12 +33,12 @@ pub struct Wanted {
 ///
 /// # Errors
 /// If there is no such network, memory runs out, or standard output fails.
-pub fn run<R: Print + AllocGlobal>(rt: &R, wanted: Wanted) -> Result<ExitCode, Fault>
+pub fn run<R: Print + Eprint + AllocGlobal>(rt: &R, wanted: Wanted) -> Result<ExitCode, Fault>
     ensures ok { IfOk result (λ status. exit_status status ≡ 0) }
-    ensures err { IfErr result (λ fault. IsUnnamed wanted fault ⊎ (fault ≡ Output)) }
+    ensures err { IfErr result (λ fault. IsUnnamed wanted fault ⊎ IsUntaken fault) }
 {
     let text = named_text(rt.alloc(), wanted)?;
-    done(rt.print(text.as_str()))
+    done(printed(rt, rt.print(text.as_str())))
 }
 
 /// The network file of this network.

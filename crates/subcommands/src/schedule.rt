@@ -85,7 +85,7 @@ fn fault_of(fault: PlanFault) -> Fault
 /// # Errors
 /// If the file gives no network, memory runs out, or standard output fails: the first of these
 /// that happens.
-pub fn run<R: Files + Print + AllocGlobal>(
+pub fn run<R: Files + Print + Eprint + AllocGlobal>(
     rt: &R,
     network: &str,
     scramble: Option<u32>,
@@ -100,8 +100,10 @@ pub fn run<R: Files + Print + AllocGlobal>(
         return Err(Fault::Memory);
     };
     let mut text = EventText::new(output);
-    write_plan(rt.alloc(), &net, scramble, loan, turns, &mut text)?;
-    Ok(ExitCode::SUCCESS)
+    match write_plan(rt.alloc(), &net, scramble, loan, turns, &mut text) {
+        Ok(()) => Ok(ExitCode::SUCCESS),
+        Err(fault) => Err(text.fault(rt, fault)),
+    }
 }
 
 /// Writes the lines of a schedule's events: the damage of a scramble, if a seed is given, and then

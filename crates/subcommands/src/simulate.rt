@@ -7,7 +7,7 @@ use crate::layers_text::layers_text;
 use command_parts::world::World;
 use command_parts::{
     Fault, ReadSource, Returns, STANDARD_INPUT, Simulated, Summary, WriteSink, events_status,
-    read_network, return_hint, say_hint, simulate_between,
+    printed, read_network, return_hint, say_hint, simulate_between,
 };
 use std::fs;
 use std::io::{BufWriter, Input, Read, writer};
@@ -52,7 +52,11 @@ fn print_simulation<R: Print + Eprint + AllocGlobal, E: Read + Drop>(
     };
     let mut source = Returns::new(ReadSource::new(events));
     let mut sink = WriteSink::new(output);
-    let Simulated { summary, world } = simulate_between(rt.alloc(), net, &mut source, &mut sink)?;
+    let simulated = match simulate_between(rt.alloc(), net, &mut source, &mut sink) {
+        Ok(simulated) => simulated,
+        Err(fault) => return Err(sink.fault(rt, fault)),
+    };
+    let Simulated { summary, world } = simulated;
     if layers {
         print_layers(rt, &world)?;
     }
@@ -62,9 +66,9 @@ fn print_simulation<R: Print + Eprint + AllocGlobal, E: Read + Drop>(
 }
 
 /// Prints what has settled of a world.
-fn print_layers<R: Print + AllocGlobal>(rt: &R, world: &World) -> Result<(), Fault> {
+fn print_layers<R: Print + Eprint + AllocGlobal>(rt: &R, world: &World) -> Result<(), Fault> {
     let text = layers_text(rt.alloc(), world).map_err(|_| Fault::Memory)?;
-    rt.print(text.as_str()).map_err(|_| Fault::Output)
+    printed(rt, rt.print(text.as_str()))
 }
 
 /// The hint if there were too few sweeps so far, and a loan that no lease ends holds them up.

@@ -11,7 +11,7 @@ ghost use Rattle.subcommands.specs.Worst.{worst_text, AreAsMany, IsJudged};
 
 use crate::bound::{done, push_number};
 use byte_streams::Failed;
-use command_parts::{EventText, Fault, Progress, read_network};
+use command_parts::{EventText, Fault, Progress, printed, read_network};
 use experiments::schedules::{self, EventSink};
 use experiments::{Search, SlowRun, climb};
 use rayon::prelude::*;
@@ -86,7 +86,7 @@ pub fn run<R: Files + Print + Eprint + Clock + AllocGlobal + Threads + Sync>(
     if let Some(path) = events {
         save_run(rt, path, &found.run)?;
     }
-    done(rt.print(text.as_str()))
+    done(printed(rt, rt.print(text.as_str())))
 }
 
 /// Which of some searches found the latest run, the first of the like.

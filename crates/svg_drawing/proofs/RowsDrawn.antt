@@ -8,11 +8,12 @@ use Rattle.svg_drawing.specs.declared.canvas.Stroke.{Stroke}
 use Rattle.svg_drawing.specs.declared.element.Attribute.{Attribute}
 use Rattle.svg_drawing.specs.declared.element.Drawing.{Drawing}
 use Rattle.svg_drawing.specs.declared.element.Element.{Element as CodeElement}
+use Rattle.svg_drawing.specs.declared.element.Fixed.{Fixed}
 use Rattle.svg_drawing.specs.declared.colours.Colour.TheVariants.{Pale, Red, Ink, Sky, Vermilion}
 use Rattle.svg_drawing.specs.declared.canvas.Anchor.TheVariants.{Start, Middle, End}
 use Rattle.svg_drawing.specs.Colours.{colour_code}
 use Rattle.svg_drawing.specs.Drawn.{anchor_code, circle_shown, drawn, form_shown, given_of, heading_shown, line_shown, note_shown, numbered, path_shown, pen_of, rect_shown, shown_of, whole}
-use Rattle.svg_drawing.specs.Drawn.{Shown, with_given, with_text, words_shown}
+use Rattle.svg_drawing.specs.Drawn.{Shown, with_all, with_given, with_text, words_shown}
 use Rattle.svg_drawing.specs.Lengths.{px}
 use Rattle.svg_drawing.specs.Spelling.{attribute_text, drawing_text, element_text, end_tag, escaped, escaped_byte, start_tag}
 use Rattle.svg_drawing.specs.Xml.{IsContent}
@@ -96,6 +97,15 @@ heading = refl
 given : with_given (with_given (note_shown (codes "title") []) (numbered (codes "x") 1)) (numbered (codes "y") 2)
     ≡ record { name = codes "title"; attributes = numbered (codes "x") 1 ∷ numbered (codes "y") 2 ∷ []; text = [] }
 given = refl
+
+module _ (first second : Fixed) (least : first.0.now ≡ codes "min") (zero : first.1.now ≡ codes "0") (most : second.0.now ≡ codes "max") (nine : second.1.now ≡ codes "9") where
+  all : with_all (note_shown (codes "input") []) (first ∷ second ∷ [])
+      ≡ record { name = codes "input"; attributes = record { name = codes "min"; value = codes "0" } ∷ record { name = codes "max"; value = codes "9" } ∷ []; text = [] }
+  all = rw (least, zero, most, nine) refl
+
+  all_not-turned : with_all (note_shown (codes "input") []) (first ∷ second ∷ [])
+      ≢ record { name = codes "input"; attributes = record { name = codes "max"; value = codes "9" } ∷ record { name = codes "min"; value = codes "0" } ∷ []; text = [] }
+  all_not-turned = grind (arith, common_steps, least, most)
 
 text : with_text (note_shown (codes "title") (codes "A ")) (codes "run") ≡ note_shown (codes "title") (codes "A run")
 text = refl

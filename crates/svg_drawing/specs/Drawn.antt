@@ -2,6 +2,7 @@
 use Rattle.std.specs.Prelude.{ℕ, List, [], ◌∷◌, ◌++◌, codes, decimal, map, string_bytes}
 use Rattle.svg_drawing.specs.declared.element.Attribute.{Attribute}
 use Rattle.svg_drawing.specs.declared.element.Element.{Element}
+use Rattle.svg_drawing.specs.declared.element.Fixed.{Fixed}
 use Rattle.svg_drawing.specs.declared.canvas.Anchor.{Anchor}
 use Rattle.svg_drawing.specs.declared.canvas.Anchor.TheVariants.{Start, Middle, End}
 use Rattle.svg_drawing.specs.declared.canvas.Stroke.{Stroke}
@@ -39,6 +40,14 @@ drawn canvas = map shown_of canvas.elements.items
 -- an element with one attribute more
 abbrev pub with_given : Shown → Given → Shown
 with_given e given = record { name = e.name; attributes = e.attributes ++ given ∷ []; text = e.text }
+
+-- an attribute that the code knows
+abbrev pub fixed_of : Fixed → Given
+fixed_of f = record { name = f.0.now; value = f.1.now }
+
+-- an element with such attributes after its own
+abbrev pub with_all : Shown → List Fixed → Shown
+with_all e fixed = record { name = e.name; attributes = e.attributes ++ map fixed_of fixed; text = e.text }
 
 -- an element with a text after its own
 abbrev pub with_text : Shown → List ℕ → Shown

@@ -1,6 +1,7 @@
 //! What a drawing is made of.
-ghost use Rattle.std.specs.Prelude.{◌≡◌, ◌++◌, [], IfOk, decimal};
-ghost use Rattle.svg_drawing.specs.Drawn.{shown_of, with_given, with_text, numbered, note_shown};
+ghost use Rattle.std.specs.Prelude.{◌≡◌, ◌++◌, ◌∷◌, [], IfOk, OnOk, decimal, map};
+ghost use Rattle.svg_drawing.specs.Drawn.{fixed_of, given_of, note_shown, numbered, shown_of};
+ghost use Rattle.svg_drawing.specs.Drawn.{with_all, with_given, with_text};
 ghost use Rattle.svg_drawing.specs.Grouped.{grouped_of, with_inside};
 
 use std::alloc::{AllocError, Global};
@@ -12,6 +13,39 @@ pub struct Attribute {
     pub name: &'static str,
     /// Its value, as it is meant: what writes it escapes it.
     pub value: String,
+}
+
+/// An attribute that the code knows: its name and its value.
+pub struct Fixed(pub &'static str, pub &'static str);
+
+/// Adds an attribute.
+fn push_attribute(
+    alloc: Global,
+    attributes: &mut Vec<Attribute>,
+    name: &'static str,
+    value: &str,
+) -> Result<(), AllocError>
+    ensures { OnOk result (map given_of attributes.new.items
+        ≡ map given_of attributes.old.items ++ record { name = name.now; value = value.now } ∷ []) }
+{
+    let value = format!(in alloc; "{value}")?;
+    attributes.push(Attribute { name, value })?;
+    Ok(())
+}
+
+/// Adds these attributes.
+fn push_all(
+    alloc: Global,
+    attributes: &mut Vec<Attribute>,
+    fixed: &[Fixed],
+) -> Result<(), AllocError>
+    ensures { OnOk result (map given_of attributes.new.items
+        ≡ map given_of attributes.old.items ++ map fixed_of fixed.now) }
+{
+    for attribute in fixed {
+        push_attribute(alloc, attributes, attribute.0, attribute.1)?;
+    }
+    Ok(())
 }
 
 /// An element that holds a text alone.
@@ -47,8 +81,15 @@ impl Element {
         ensures { IfOk result (λ element. shown_of element
             ≡ with_given (shown_of self) (record { name = name.now; value = value.now })) }
     {
-        let value = format!(in alloc; "{value}")?;
-        self.attributes.push(Attribute { name, value })?;
+        push_attribute(alloc, &mut self.attributes, name, value)?;
+        Ok(self)
+    }
+
+    /// The element with these attributes more.
+    pub fn with_all(mut self, alloc: Global, fixed: &[Fixed]) -> Result<Element, AllocError>
+        ensures { IfOk result (λ element. shown_of element ≡ with_all (shown_of self) fixed.now) }
+    {
+        push_all(alloc, &mut self.attributes, fixed)?;
         Ok(self)
     }
 

@@ -1,7 +1,6 @@
 //! Pictures of two nodes: from texts with refused lines, from texts that cannot be read, and
 //! without room.
 use crate::nets::two_nodes;
-use crate::shelf::Shelf;
 use byte_streams::MemorySource;
 use run_picture::Window;
 use run_picture::command::{Wanted, write_picture};
@@ -11,7 +10,7 @@ use std::alloc::Global;
 use std::io::{Error, ErrorKind};
 use std::str;
 use std::test::Fail;
-use test_parts::{as_expected, is_expected};
+use test_parts::{Shelf, as_expected, is_expected};
 use topology::NetFault;
 
 /// Fails when it is read.
@@ -34,6 +33,15 @@ const WANTED: Wanted = Wanted {
 /// How a drawing ended: the number of refused lines, or the fault.
 type Ended = Result<u64, Fault>;
 
+/// How a drawing ended: a shelf without room answers as a pipe without a reader.
+fn ended(written: Result<std::io::Result<u64>, Fault>) -> Ended {
+    match written? {
+        Ok(refused) => Ok(refused),
+        Err(error) if error.kind() == ErrorKind::BrokenPipe => Err(Fault::Closed),
+        Err(_) => Err(Fault::Output),
+    }
+}
+
 /// Draws what a source's events do on two nodes, onto a shelf.
 fn draw_to<S: Source + Drop>(
     alloc: Global,
@@ -41,7 +49,8 @@ fn draw_to<S: Source + Drop>(
     shelf: &mut Shelf<'_>,
 ) -> Result<Ended, NetFault> {
     let net = two_nodes(alloc)?;
-    Ok(write_picture(alloc, &net, &mut source, shelf, WANTED))
+    let written = write_picture(alloc, &net, &mut source, shelf, WANTED);
+    Ok(ended(written))
 }
 
 /// How the drawing of a source's events ended, and the picture, if there is room for `room`
@@ -118,7 +127,7 @@ const TICK: &[u8] = b"tick 0\n";
 fn is_cut_off(alloc: Global, whole: &[u8], room: usize) -> Result<bool, NetFault> {
     let (ended, picture) = drawn_text(alloc, TICK, room)?;
     Ok(
-        ended == Err(Fault::Output)
+        ended == Err(Fault::Closed)
             && picture.len() == room
             && whole.starts_with(picture.as_slice()),
     )

@@ -1,12 +1,11 @@
 //! Lines of junk, also if the writer has too little room. The expected text is that of another
 //! program, written from the definitions of the draws and of the generator.
-use crate::shelf::Shelf;
 use run_picture::command_parts::{Fault, WriteSink};
 use std::alloc::Global;
 use std::io::{BufWriter, Error};
 use std::test::Fail;
 use subcommands::junk::write_junk;
-use test_parts::is_expected;
+use test_parts::{Shelf, is_expected};
 
 /// Four lines of seed 7.
 const LINES: &[u8] = b"+(==lkMfO]!#B{X}whq}R*SbyZPz$`#?5I3\n\

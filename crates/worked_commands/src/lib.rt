@@ -21,6 +21,8 @@ mod nets;
 #[cfg(test)]
 mod network;
 #[cfg(test)]
+mod output;
+#[cfg(test)]
 mod plot;
 #[cfg(test)]
 mod schedule;
@@ -28,7 +30,5 @@ mod schedule;
 mod scramble;
 #[cfg(test)]
 mod settled;
-#[cfg(test)]
-mod shelf;
 #[cfg(test)]
 mod simulate;

@@ -114,14 +114,16 @@ fn shows_what_sums_runs_up(rt: HostRuntime) -> Result<(), Fail> {
 }
 
 /// The answer of standard output, whether each run has served, and how the command ends.
-type Ending = (Result<(), ()>, bool, Result<ExitCode, Fault>);
+type Ending = (Result<(), Fault>, bool, Result<ExitCode, Fault>);
 
 /// The answer of standard output decides the status, and then whether each run has served.
-const ENDINGS: [Ending; 4] = [
+const ENDINGS: [Ending; 6] = [
     (Ok(()), true, Ok(ExitCode::SUCCESS)),
     (Ok(()), false, Ok(ExitCode::FAILURE)),
-    (Err(()), true, Err(Fault::Output)),
-    (Err(()), false, Err(Fault::Output)),
+    (Err(Fault::Output), true, Err(Fault::Output)),
+    (Err(Fault::Output), false, Err(Fault::Output)),
+    (Err(Fault::Closed), true, Err(Fault::Closed)),
+    (Err(Fault::Closed), false, Err(Fault::Closed)),
 ];
 
 /// The place of the first row that ends otherwise.

@@ -1,6 +1,5 @@
 //! Schedules as texts: by hand, and for a writer with too little room.
 use crate::nets::two_nodes;
-use crate::shelf::Shelf;
 use experiments::schedules::Chances;
 use run_picture::command_parts::{EventText, Fault};
 use std::alloc::Global;
@@ -8,7 +7,7 @@ use std::io::{BufWriter, Error, Write};
 use std::str;
 use std::test::Fail;
 use subcommands::schedule::{Turns, write_plan};
-use test_parts::as_expected;
+use test_parts::{Shelf, as_expected};
 use topology::Net;
 
 /// One round of two nodes whose links hold one item.

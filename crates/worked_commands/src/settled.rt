@@ -5,69 +5,62 @@ use crate::nets::two_nodes;
 use byte_streams::{MemorySink, MemorySource};
 use run_picture::command_parts::world::World;
 use run_picture::command_parts::world::simulation::{SimFault, simulate_to};
-use std::alloc::Global;
+use std::alloc::{AllocError, Global};
 use std::test::Fail;
 use subcommands::layers_text::layers_text;
 use test_parts::as_expected;
 use topology::Net;
 
-/// Events, and the lines of what has settled after them.
-const ROWS: [(&[u8], &str); 9] = [
+/// What has settled: how many links are stable, and up to which stage distances are right; and whether
+/// there is a tree, whether the ring and the loans are as they should be, and whether all is.
+type Settled<'a> = ([u8; 2], [&'a str; 4]);
+
+/// Harms after which all that is said of the root is right.
+const ROOT: &str = "harm own 0 0 none\nharm staged 0 1 0 none 0\nharm copy 1 0 0 none 0\n";
+
+/// Harms after which all that is said of the other node is right, but for its copy at the root.
+const OTHER: &str = "harm own 1 1 0\nharm staged 1 0 1 0 0\n";
+
+/// A frame of node 0 comes under the number before.
+const BEFORE: &str = "harm counters 1 0 0 4\nharm frame 0 1 4 0 2 none 3\n";
+
+/// Pieces of a text of events, and what has settled after them.
+const ROWS: [(&[&str], Settled<'_>); 9] = [
     // Nodes start with the greatest distance, 2, and with equal numbers and tokens everywhere.
-    (
-        b"",
-        "links 2 of 2 stable\ndistances right up to stage 0 of 2\n\
-        tree no\nring yes\nloans yes\nlegitimate no\n",
-    ),
+    (&[], ([2, 0], ["no", "yes", "yes", "no"])),
     // All that is said of the root is right.
-    (
-        b"harm own 0 0 none\nharm staged 0 1 0 none 0\nharm copy 1 0 0 none 0\n",
-        "links 2 of 2 stable\ndistances right up to stage 1 of 2\n\
-        tree no\nring yes\nloans yes\nlegitimate no\n",
-    ),
+    (&[ROOT], ([2, 1], ["no", "yes", "yes", "no"])),
     // And all that is said of the other node.
     (
-        b"harm own 0 0 none\nharm staged 0 1 0 none 0\nharm copy 1 0 0 none 0\n\
-        harm own 1 1 0\nharm staged 1 0 1 0 0\nharm copy 0 1 1 0 0\n",
-        "links 2 of 2 stable\ndistances right up to stage 2 of 2\n\
-        tree yes\nring yes\nloans yes\nlegitimate yes\n",
+        &[ROOT, OTHER, "harm copy 0 1 1 0 0\n"],
+        ([2, 2], ["yes", "yes", "yes", "yes"]),
     ),
     // The same, but one copied parent is another.
     (
-        b"harm own 0 0 none\nharm staged 0 1 0 none 0\nharm copy 1 0 0 none 0\n\
-        harm own 1 1 0\nharm staged 1 0 1 0 0\nharm copy 0 1 1 1 0\n",
-        "links 1 of 2 stable\ndistances right up to stage 2 of 2\n\
-        tree no\nring yes\nloans yes\nlegitimate no\n",
+        &[ROOT, OTHER, "harm copy 0 1 1 1 0\n"],
+        ([1, 2], ["no", "yes", "yes", "no"]),
     ),
     // A frame under 3, with an acknowledgement of 2: neither is one less than 0.
     (
-        b"harm frame 0 1 3 2 2 none 0\n",
-        "links 0 of 2 stable\ndistances right up to stage 0 of 2\n\
-        tree no\nring yes\nloans yes\nlegitimate no\n",
+        &["harm frame 0 1 3 2 2 none 0\n"],
+        ([0, 0], ["no", "yes", "yes", "no"]),
     ),
     // The frame comes under the number before, as the copy did, but not with its payload.
-    (
-        b"harm counters 1 0 0 4\nharm frame 0 1 4 0 2 none 3\n",
-        "links 1 of 2 stable\ndistances right up to stage 0 of 2\n\
-        tree no\nring yes\nloans yes\nlegitimate no\n",
-    ),
+    (&[BEFORE], ([1, 0], ["no", "yes", "yes", "no"])),
     // With its payload, which leaves the tokens 0, 0, 3 and 0, 0, 0: not good.
     (
-        b"harm counters 1 0 0 4\nharm frame 0 1 4 0 2 none 3\nharm copy 1 0 2 none 3\n",
-        "links 2 of 2 stable\ndistances right up to stage 0 of 2\n\
-        tree no\nring no\nloans yes\nlegitimate no\n",
+        &[BEFORE, "harm copy 1 0 2 none 3\n"],
+        ([2, 0], ["no", "no", "yes", "no"]),
     ),
     // The tokens 0, 0, 0 and 6, 6, 6: first zeros, and then those that are one less.
     (
-        b"harm value 1 0 6\nharm staged 1 0 2 none 6\nharm copy 0 1 2 none 6\n",
-        "links 2 of 2 stable\ndistances right up to stage 0 of 2\n\
-        tree no\nring yes\nloans yes\nlegitimate no\n",
+        &["harm value 1 0 6\nharm staged 1 0 2 none 6\nharm copy 0 1 2 none 6\n"],
+        ([2, 0], ["no", "yes", "yes", "no"]),
     ),
     // Node 1 lends and knows of no neighbour on the tree.
     (
-        b"harm desk 1 7 0 no\n",
-        "links 2 of 2 stable\ndistances right up to stage 0 of 2\n\
-        tree no\nring yes\nloans no\nlegitimate no\n",
+        &["harm desk 1 7 0 no\n"],
+        ([2, 0], ["no", "yes", "no", "no"]),
     ),
 ];
 
@@ -79,11 +72,36 @@ fn world_after(alloc: Global, net: &Net, events: &[u8]) -> Result<World, SimFaul
     Ok(simulated.world)
 }
 
-/// Whether these are the lines of what has settled after events on two nodes.
-fn shows(alloc: Global, events: &[u8], want: &str) -> Result<bool, Fail> {
+/// The lines of what has settled.
+fn lines_of(alloc: Global, settled: &Settled<'_>) -> Result<String, AllocError> {
+    let ([links, stage], [tree, ring, loans, all]) = *settled;
+    format!(in alloc;
+        "links {links} of 2 stable\ndistances right up to stage {stage} of 2\n\
+        tree {tree}\nring {ring}\nloans {loans}\nlegitimate {all}\n"
+    )
+}
+
+/// What has settled after events on two nodes, as lines.
+fn lines_after(alloc: Global, events: &str) -> Result<String, Fail> {
     let net = two_nodes(alloc)?;
-    let world = world_after(alloc, &net, events)?;
-    Ok(layers_text(alloc, &world)?.as_str() == want)
+    let world = world_after(alloc, &net, events.as_bytes())?;
+    Ok(layers_text(alloc, &world)?)
+}
+
+/// The events of some pieces.
+fn events_of(alloc: Global, pieces: &[&str]) -> Result<String, AllocError> {
+    let mut events = String::new(alloc);
+    for piece in pieces {
+        events.push_str(piece)?;
+    }
+    Ok(events)
+}
+
+/// Whether this has settled after events on two nodes.
+fn shows(alloc: Global, events: &[&str], want: &Settled<'_>) -> Result<bool, Fail> {
+    let events = events_of(alloc, events)?;
+    let lines = lines_after(alloc, &events)?;
+    Ok(lines.as_str() == lines_of(alloc, want)?.as_str())
 }
 
 /// The place of the first row of which something else has settled.

@@ -1,12 +1,11 @@
 //! Readers that are interrupted or fail, and writers that have too little room.
 use crate::nets::two_nodes;
-use crate::shelf::Shelf;
 use run_picture::command_parts::world::simulation::Summary;
 use run_picture::command_parts::{Fault, ReadSource, WriteSink, simulate_between};
 use std::alloc::Global;
 use std::io::{BufWriter, Error, ErrorKind, Read, Write};
 use std::test::Fail;
-use test_parts::as_expected;
+use test_parts::{Shelf, as_expected};
 use topology::Net;
 
 /// Lines; the first, the second and the last are refused.

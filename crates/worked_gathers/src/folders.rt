@@ -1,6 +1,5 @@
 //! The records of two nodes in a folder, gathered, and folders that give no events.
 use crate::rows::{FILE, FRAME, IN_ORDER, Kept, MARK, one, sender, taker};
-use crate::shelf::Shelf;
 use command_parts::{EventText, Fault, NetworkFault};
 use gather_command::command::{gather_text, run};
 use gather_command::{FolderRecords, GatherFault, MemoryRecords, Stretch, gather};
@@ -10,7 +9,7 @@ use std::fs;
 use std::io::BufWriter;
 use std::process::ExitCode;
 use std::test::Fail;
-use test_parts::as_expected;
+use test_parts::{Shelf, as_expected};
 use topology::Net;
 
 /// The file of the two nodes' network.
@@ -79,46 +78,60 @@ fn a_folder_in_the_place_of_a_record(rt: HostRuntime) -> Result<(), Fail> {
     as_expected(folded(&rt), &(Some(GatherFault::Unreadable(FILE)), true))
 }
 
-/// How the command ends in a folder with both records, of which so many bytes are missing at the end of
-/// node 1's.
-fn end_of(rt: &HostRuntime, dir: &str, missing: usize) -> Result<Result<ExitCode, Fault>, Fail> {
+/// How the command ends with this network, or the one that is kept, in a folder with both records, of which
+/// so many bytes are missing at the end of node 1's.
+fn end_of(
+    rt: &HostRuntime,
+    dir: &str,
+    network: Option<&str>,
+    missing: usize,
+) -> Result<Result<ExitCode, Fault>, Fail> {
     make_folder(rt, dir)?;
+    write(rt, dir, "record.toml", TWO_NODES.as_bytes())?;
     let second = taker(rt.alloc(), MARK, 1, FRAME)?;
     let left = second.len().saturating_sub(missing);
     write(rt, dir, "record-1.0", &second[..left])?;
-    let network = format!(in rt.alloc(); "{dir}/two.toml")?;
-    Ok(run(rt, dir, network.as_str(), Stretch::Whole))
+    Ok(run(rt, dir, network, Stretch::Whole))
 }
 
 #[test]
 fn whole_records_have_status_0(rt: HostRuntime) -> Result<(), Fail> {
-    as_expected(end_of(&rt, "whole", 0), &Ok(ExitCode::SUCCESS))
+    let network = Some("whole/two.toml");
+    as_expected(end_of(&rt, "whole", network, 0), &Ok(ExitCode::SUCCESS))
+}
+
+#[test]
+fn the_kept_network_has_status_0(rt: HostRuntime) -> Result<(), Fail> {
+    as_expected(end_of(&rt, "kept", None, 0), &Ok(ExitCode::SUCCESS))
 }
 
 #[test]
 fn a_torn_record_has_status_1(rt: HostRuntime) -> Result<(), Fail> {
-    as_expected(end_of(&rt, "torn", 1), &Ok(ExitCode::FAILURE))
+    as_expected(end_of(&rt, "torn", None, 1), &Ok(ExitCode::FAILURE))
 }
 
 /// How the command ends: in a folder without a record of node 1, in one that is not there, and without
-/// a network.
-type Ends = [Result<ExitCode, Fault>; 3];
+/// a network in the file that is given, or in the one that is kept.
+type Ends = [Result<ExitCode, Fault>; 4];
 
 /// These ends.
 fn ends(rt: &HostRuntime) -> Result<Ends, Fail> {
     make_folder(rt, "ends")?;
     Ok([
-        run(rt, "ends", "ends/two.toml", Stretch::Whole),
-        run(rt, "absent", "ends/two.toml", Stretch::Whole),
-        run(rt, "ends", "ends/absent.toml", Stretch::Whole),
+        run(rt, "ends", Some("ends/two.toml"), Stretch::Whole),
+        run(rt, "absent", Some("ends/two.toml"), Stretch::Whole),
+        run(rt, "ends", Some("ends/absent.toml"), Stretch::Whole),
+        run(rt, "ends", None, Stretch::Whole),
     ])
 }
 
-/// A record's fault has its line and the status 1; a network's is passed on.
+/// A record's fault and that of the kept network have their lines and the status 1; another network's is
+/// passed on.
 const ENDS: Ends = [
     Ok(ExitCode::FAILURE),
     Ok(ExitCode::FAILURE),
     Err(Fault::Network(NetworkFault::Unreadable)),
+    Ok(ExitCode::FAILURE),
 ];
 
 #[test]

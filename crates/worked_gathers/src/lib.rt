@@ -9,6 +9,4 @@ mod folders;
 #[cfg(test)]
 mod rows;
 #[cfg(test)]
-mod shelf;
-#[cfg(test)]
 mod stretches;

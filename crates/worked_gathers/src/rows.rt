@@ -3,7 +3,7 @@ ghost use Rattle.std.specs.Prelude.{⊤};
 
 use gather_command::{
     Difference, Field, Flaw, FlawKind, GatherFault, Lasted, MemoryRecord, MemoryRecords,
-    RecordFile, Side, gather,
+    RecordFile, Side, Summary, gather,
 };
 use node_recorder::network_mark;
 use record_gathering::configuration::run_model::{Event, Harm};
@@ -152,6 +152,23 @@ fn time_of(loan: Option<Lasted>) -> u64 {
     }
 }
 
+/// The numbers of what was gathered, in the order of the lines.
+pub fn numbers_in(summary: &Summary) -> [u64; 11] {
+    [
+        u64::from(summary.nodes),
+        summary.stretch,
+        summary.found.events,
+        summary.found.lost,
+        summary.found.harms,
+        summary.found.forged,
+        summary.differences,
+        summary.longest_turn,
+        summary.longest_delay,
+        summary.loans,
+        time_of(summary.longest_loan),
+    ]
+}
+
 /// Gathers the records of two nodes, given in pieces of seven bytes.
 fn gathered(alloc: Global, first: MemoryRecord, second: MemoryRecord) -> Result<Found, Fail> {
     let net = Net::make(alloc, 2, 0, 1, 0, &[(0, 1)])?;
@@ -160,25 +177,8 @@ fn gathered(alloc: Global, first: MemoryRecord, second: MemoryRecord) -> Result<
     let mut kept = Kept::new(alloc);
     match gather(alloc, &net, &mut records, &mut kept) {
         Ok(gathered) => {
-            let numbers = gathered.summary;
-            Ok((
-                kept.events,
-                None,
-                [
-                    u64::from(numbers.nodes),
-                    numbers.stretch,
-                    numbers.found.events,
-                    numbers.found.lost,
-                    numbers.found.harms,
-                    numbers.found.forged,
-                    numbers.differences,
-                    numbers.longest_turn,
-                    numbers.longest_delay,
-                    numbers.loans,
-                    time_of(numbers.longest_loan),
-                ],
-                gathered.flaws.first().copied(),
-            ))
+            let flaw = gathered.flaws.first().copied();
+            Ok((kept.events, None, numbers_in(&gathered.summary), flaw))
         }
         Err(fault) => Ok((kept.events, Some(fault), [0; 11], None)),
     }
@@ -437,67 +437,83 @@ fn loan(lent: Option<u16>) -> Noted {
     })
 }
 
-/// The record of node 1, which has the distance 1 when it begins, and another parent later; then it lends
-/// to ticket 7 for 25 microseconds.
-fn harmed(alloc: Global) -> Result<Vec<u8>, Fail> {
+/// The record of node 1, which has the distance 1 when it begins. At the first of three instants it
+/// has another parent, and from the second to the third it lends to ticket 7.
+pub fn harmed(alloc: Global, begin: u64, instants: [u64; 3]) -> Result<Vec<u8>, Fail> {
+    let [parent, lent, free] = instants;
     record_of(
         alloc,
         &[
-            (900, start(MARK, 1)),
-            (900, own(None)),
-            (900, Noted::State(StatePart::Whole)),
-            (950, own(Some(0))),
-            (960, loan(Some(7))),
-            (985, loan(None)),
+            (begin, start(MARK, 1)),
+            (begin, own(None)),
+            (begin, Noted::State(StatePart::Whole)),
+            (parent, own(Some(0))),
+            (lent, loan(Some(7))),
+            (free, loan(None)),
         ],
     )
 }
 
+/// Node 1 begins with the distance 1.
+pub const NO_PARENT: Event = Event::Damage(Harm::Own {
+    node: 1,
+    distance: 1,
+    parent: None,
+});
+
+/// It has another parent.
+pub const OTHER_PARENT: Event = Event::Damage(Harm::Own {
+    node: 1,
+    distance: 1,
+    parent: Some(0),
+});
+
+/// It lends to ticket 7.
+pub const LENDS: Event = Event::Damage(Harm::Desk {
+    node: 1,
+    lent: Some(7),
+    left: 0,
+    served: false,
+});
+
+/// Its desk is cleared.
+pub const CLEARED: Event = Event::Damage(Harm::Desk {
+    node: 1,
+    lent: None,
+    left: 0,
+    served: false,
+});
+
+/// What of that is damage: the distance is none, since the record begins with it.
+pub fn differences_at(instants: [u64; 3]) -> [Difference; 3] {
+    let [parent, lent, free] = instants;
+    [
+        difference(parent, Field::Parent),
+        difference(lent, Field::Lent),
+        difference(free, Field::Lent),
+    ]
+}
+
+/// A field of node 1 stands otherwise at an instant.
+fn difference(instant: u64, field: Field) -> Difference {
+    Difference {
+        node: 1,
+        instant,
+        field,
+    }
+}
+
+/// When that happens here.
+const INSTANTS: [u64; 3] = [950, 960, 985];
+
 /// The harms of node 1, in the order in which its record shows them, and what node 0 did after them.
 const HARMED: [Event; 6] = [
-    Event::Damage(Harm::Own {
-        node: 1,
-        distance: 1,
-        parent: None,
-    }),
-    Event::Damage(Harm::Own {
-        node: 1,
-        distance: 1,
-        parent: Some(0),
-    }),
-    Event::Damage(Harm::Desk {
-        node: 1,
-        lent: Some(7),
-        left: 0,
-        served: false,
-    }),
-    Event::Damage(Harm::Desk {
-        node: 1,
-        lent: None,
-        left: 0,
-        served: false,
-    }),
+    NO_PARENT,
+    OTHER_PARENT,
+    LENDS,
+    CLEARED,
     Event::Tick { node: 0 },
     Event::Send { from: 0, to: 1 },
-];
-
-/// The distance is no difference: the record begins with it.
-const DIFFERENCES: [Difference; 3] = [
-    Difference {
-        node: 1,
-        instant: 950,
-        field: Field::Parent,
-    },
-    Difference {
-        node: 1,
-        instant: 960,
-        field: Field::Lent,
-    },
-    Difference {
-        node: 1,
-        instant: 985,
-        field: Field::Lent,
-    },
 ];
 
 /// The loan of node 1.
@@ -511,7 +527,7 @@ const LOAN: Lasted = Lasted {
 fn harms_of(alloc: Global) -> Result<(bool, bool, Option<Lasted>, u64), Fail> {
     let net = Net::make(alloc, 2, 0, 1, 0, &[(0, 1)])?;
     let first = sender(alloc)?;
-    let second = harmed(alloc)?;
+    let second = harmed(alloc, 900, INSTANTS)?;
     let both = [one(&first), one(&second)];
     let mut records = MemoryRecords::new(&both, 7);
     let mut kept = Kept::new(alloc);
@@ -520,7 +536,7 @@ fn harms_of(alloc: Global) -> Result<(bool, bool, Option<Lasted>, u64), Fail> {
     };
     Ok((
         kept.events.as_slice() == HARMED.as_slice(),
-        gathered.differences.as_slice() == DIFFERENCES.as_slice(),
+        gathered.differences.as_slice() == differences_at(INSTANTS).as_slice(),
         gathered.summary.longest_loan,
         gathered.summary.loans,
     ))

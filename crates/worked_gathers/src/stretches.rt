@@ -1,15 +1,17 @@
 //! Stretches of the records of three nodes, gathered, and what they lead to.
-use crate::rows::{Kept, one, record_of, start};
+use crate::rows::{
+    CLEARED, Kept, LENDS, NO_PARENT, OTHER_PARENT, differences_at, harmed, numbers_in, one,
+    record_of, start,
+};
 use gather_command::{
-    Difference, Field, GatherFault, Gathered, Lasted, MemoryRecord, MemoryRecords, Stretch,
-    gather_stretch,
+    GatherFault, Gathered, Lasted, MemoryRecord, MemoryRecords, Stretch, gather_stretch,
 };
 use record_gathering::Fact;
 use record_gathering::configuration::Configuration;
 use record_gathering::configuration::link_model::Item;
 use record_gathering::configuration::run_model::{Event, Harm};
 use record_gathering::facts::{add_edges, add_links, add_state};
-use record_pages::flight_records::{Deed, Noted, StatePart};
+use record_pages::flight_records::{Deed, Noted};
 use std::alloc::Global;
 use std::test::Fail;
 use test_parts::as_expected;
@@ -83,26 +85,6 @@ fn second(alloc: Global) -> Result<Vec<u8>, Fail> {
     )
 }
 
-/// All that was done.
-const WHOLE: [Event; 10] = [
-    Event::Tick { node: 0 },
-    Event::Damage(Harm::Join {
-        node: 0,
-        neighbour: 2,
-    }),
-    Event::Ask { node: 1, ticket: 7 },
-    Event::Ask { node: 1, ticket: 9 },
-    Event::Send { from: 0, to: 2 },
-    Event::Damage(Harm::Part {
-        node: 0,
-        neighbour: 1,
-    }),
-    Event::Tick { node: 2 },
-    Event::Leave { node: 1, ticket: 7 },
-    Event::Take { from: 0, to: 2 },
-    Event::Tick { node: 0 },
-];
-
 /// Node 0 is the root: by its tick it has the distance 0.
 const ROOT: Event = Event::Damage(Harm::Own {
     node: 0,
@@ -110,12 +92,16 @@ const ROOT: Event = Event::Damage(Harm::Own {
     parent: None,
 });
 
-/// The desk of node 1 is cleared, as others wait than at its start.
-const CLEARED: Event = Event::Damage(Harm::Desk {
-    node: 1,
-    lent: None,
-    left: 0,
-    served: false,
+/// An edge joins node 0 to node 2.
+const JOINS: Event = Event::Damage(Harm::Join {
+    node: 0,
+    neighbour: 2,
+});
+
+/// The edge between 0 and 1 goes.
+const PARTS: Event = Event::Damage(Harm::Part {
+    node: 0,
+    neighbour: 1,
 });
 
 /// The frame of node 0 is under way.
@@ -125,17 +111,26 @@ const UNDER_WAY: Event = Event::Damage(Harm::Item {
     item: Item::Frame(FRAME),
 });
 
-/// From the second second on. By its tick, node 2 has a parent: of its neighbours 0 and 1, whose
-/// distances it does not know yet, the one of smallest id.
+/// All that was done.
+const WHOLE: [Event; 10] = [
+    Event::Tick { node: 0 },
+    JOINS,
+    Event::Ask { node: 1, ticket: 7 },
+    Event::Ask { node: 1, ticket: 9 },
+    Event::Send { from: 0, to: 2 },
+    PARTS,
+    Event::Tick { node: 2 },
+    Event::Leave { node: 1, ticket: 7 },
+    Event::Take { from: 0, to: 2 },
+    Event::Tick { node: 0 },
+];
+
+/// From the second second on. The desk of node 1 is cleared, as others wait than at its start. By
+/// its tick, node 2 has a parent: of its neighbours 0 and 1, whose distances it does not know yet,
+/// the one of smallest id.
 const LATER: [Event; 11] = [
-    Event::Damage(Harm::Join {
-        node: 0,
-        neighbour: 2,
-    }),
-    Event::Damage(Harm::Part {
-        node: 0,
-        neighbour: 1,
-    }),
+    JOINS,
+    PARTS,
     ROOT,
     CLEARED,
     Event::Ask { node: 1, ticket: 7 },
@@ -153,19 +148,13 @@ const LATER: [Event; 11] = [
 
 /// The last second, from 1.5 on: the edge between 0 and 1 is still there, and node 2 has not ticked.
 const LAST: [Event; 11] = [
-    Event::Damage(Harm::Join {
-        node: 0,
-        neighbour: 2,
-    }),
+    JOINS,
     ROOT,
     CLEARED,
     Event::Ask { node: 1, ticket: 7 },
     Event::Ask { node: 1, ticket: 9 },
     UNDER_WAY,
-    Event::Damage(Harm::Part {
-        node: 0,
-        neighbour: 1,
-    }),
+    PARTS,
     Event::Tick { node: 2 },
     Event::Leave { node: 1, ticket: 7 },
     Event::Take { from: 0, to: 2 },
@@ -278,24 +267,12 @@ fn the_end_alone_is_the_same_end(rt: HostRuntime) -> Result<(), Fail> {
 }
 
 /// The numbers of a stretch, in the order of the lines.
-fn numbers_of(alloc: Global, stretch: Stretch) -> Result<[u64; 10], Fail> {
+fn numbers_of(alloc: Global, stretch: Stretch) -> Result<[u64; 11], Fail> {
     let (_, gathered) = of_three(alloc, stretch)?;
     let Ok(gathered) = gathered else {
-        return Ok([0; 10]);
+        return Ok([0; 11]);
     };
-    let numbers = gathered.summary;
-    Ok([
-        u64::from(numbers.nodes),
-        numbers.stretch,
-        numbers.found.events,
-        numbers.found.lost,
-        numbers.found.harms,
-        numbers.found.forged,
-        numbers.differences,
-        numbers.longest_turn,
-        numbers.longest_delay,
-        numbers.loans,
-    ])
+    Ok(numbers_in(&gathered.summary))
 }
 
 // from 2.1 to 2.5 seconds; six of the events are harms, and the frame under way had been sent at 1.4, and was
@@ -304,42 +281,16 @@ fn numbers_of(alloc: Global, stretch: Stretch) -> Result<[u64; 10], Fail> {
 fn the_numbers_are_those_of_the_list(rt: HostRuntime) -> Result<(), Fail> {
     as_expected(
         numbers_of(rt.alloc(), Stretch::From(1)),
-        &[3, 400_000, 11, 0, 6, 0, 0, 0, 900_000, 0],
+        &[3, 400_000, 11, 0, 6, 0, 0, 0, 900_000, 0, 0],
     )
 }
 
 /// The number of a network of two nodes.
 const TWO: u32 = crate::rows::MARK;
 
-/// Node 1 of two has this distance and this parent.
-fn own(distance: u16, parent: Option<u16>) -> Noted {
-    Noted::State(StatePart::Own { distance, parent })
-}
-
-/// A node lends to this ticket, with no end.
-fn loan(lent: Option<u16>) -> Noted {
-    Noted::State(StatePart::Loan {
-        lent,
-        left: 0,
-        served: false,
-    })
-}
-
-/// The record of node 1 of two, whose whole state is noted in the first second; later its parent is
-/// another one, and it lends for 25 milliseconds.
-fn harmed(alloc: Global) -> Result<Vec<u8>, Fail> {
-    record_of(
-        alloc,
-        &[
-            (900_000, start(TWO, 1)),
-            (900_000, own(1, None)),
-            (900_000, Noted::State(StatePart::Whole)),
-            (2_950_000, own(1, Some(0))),
-            (2_960_000, loan(Some(7))),
-            (2_985_000, loan(None)),
-        ],
-    )
-}
+/// When the parent of node 1 of two is another one, and then it lends for 25 milliseconds; its whole
+/// state is noted in the first second.
+const INSTANTS: [u64; 3] = [2_950_000, 2_960_000, 2_985_000];
 
 /// The record of node 0 of two, which ticks.
 fn ticker(alloc: Global) -> Result<Vec<u8>, Fail> {
@@ -356,48 +307,11 @@ fn ticker(alloc: Global) -> Result<Vec<u8>, Fail> {
 /// The set-up, the second tick of node 0, and the harms of node 1.
 const HARMED: [Event; 6] = [
     ROOT,
-    Event::Damage(Harm::Own {
-        node: 1,
-        distance: 1,
-        parent: None,
-    }),
+    NO_PARENT,
     Event::Tick { node: 0 },
-    Event::Damage(Harm::Own {
-        node: 1,
-        distance: 1,
-        parent: Some(0),
-    }),
-    Event::Damage(Harm::Desk {
-        node: 1,
-        lent: Some(7),
-        left: 0,
-        served: false,
-    }),
-    Event::Damage(Harm::Desk {
-        node: 1,
-        lent: None,
-        left: 0,
-        served: false,
-    }),
-];
-
-/// What of them is damage: the node's state was known before.
-const DIFFERENCES: [Difference; 3] = [
-    Difference {
-        node: 1,
-        instant: 2_950_000,
-        field: Field::Parent,
-    },
-    Difference {
-        node: 1,
-        instant: 2_960_000,
-        field: Field::Lent,
-    },
-    Difference {
-        node: 1,
-        instant: 2_985_000,
-        field: Field::Lent,
-    },
+    OTHER_PARENT,
+    LENDS,
+    CLEARED,
 ];
 
 /// The loan of node 1.
@@ -407,10 +321,11 @@ const LOAN: Lasted = Lasted {
     time: 25_000,
 };
 
-/// Whether the events are as above, and the differences; and the longest loan.
+/// Whether the events are as above, and the differences, as the node's state was known before; and the
+/// longest loan.
 fn harms_later(alloc: Global) -> Result<(bool, bool, Option<Lasted>), Fail> {
     let net = Net::make(alloc, 2, 0, 1, 0, &[(0, 1)])?;
-    let files = [ticker(alloc)?, harmed(alloc)?];
+    let files = [ticker(alloc)?, harmed(alloc, 900_000, INSTANTS)?];
     let records = [one(&files[0]), one(&files[1])];
     let (events, gathered) = stretch_of(alloc, &net, &records, Stretch::From(1))?;
     let Ok(gathered) = gathered else {
@@ -418,7 +333,7 @@ fn harms_later(alloc: Global) -> Result<(bool, bool, Option<Lasted>), Fail> {
     };
     Ok((
         events.as_slice() == HARMED.as_slice(),
-        gathered.differences.as_slice() == DIFFERENCES.as_slice(),
+        gathered.differences.as_slice() == differences_at(INSTANTS).as_slice(),
         gathered.summary.longest_loan,
     ))
 }

@@ -275,6 +275,18 @@ const SHELL: Asked = Asked {
     ..PLAIN
 };
 
+/// A command that ends at once, with status 0.
+const EXIT: Asked = Asked {
+    script: "exit 0",
+    ..SHELL
+};
+
+/// A command that runs for long.
+const SLEEP: Asked = Asked {
+    script: "exec sleep 30",
+    ..SHELL
+};
+
 /// Clients that end as their commands do.
 const ENDS: [Row; 6] = [
     Row {
@@ -315,10 +327,7 @@ const ENDS: [Row; 6] = [
     },
     // There is no room at first, and the client asks again.
     Row {
-        asked: Asked {
-            script: "exit 0",
-            ..SHELL
-        },
+        asked: EXIT,
         steps: &[LOCK, Step::Says(b"full\n"), LOCK, GRANTED, UNLOCK, RELEASED],
         status: "status 0\n",
         reported: "",
@@ -361,30 +370,21 @@ const NOT_HELD: [Row; 8] = [
         reported: "tokentree: node 0 did not lend the lock within 1 s\n",
     },
     Row {
-        asked: Asked {
-            script: "exec sleep 30",
-            ..SHELL
-        },
+        asked: SLEEP,
         steps: &[LOCK, GRANTED, LOST, Step::SeesOff],
         status: "status 122\n",
         reported: "tokentree: the lock is lost, since node 0 ended the loan: \
                    the command is ended\n",
     },
     Row {
-        asked: Asked {
-            script: "exec sleep 30",
-            ..SHELL
-        },
+        asked: SLEEP,
         steps: &[LOCK, GRANTED],
         status: "status 122\n",
         reported: "tokentree: the lock is lost, since node 0 went away: the command is ended\n",
     },
     // The loan ended before the release, and the command did not know.
     Row {
-        asked: Asked {
-            script: "exit 0",
-            ..SHELL
-        },
+        asked: EXIT,
         steps: &[
             LOCK,
             GRANTED,
@@ -431,10 +431,7 @@ const NOT_HELD: [Row; 8] = [
         reported: "",
     },
     Row {
-        asked: Asked {
-            script: "exit 0",
-            ..SHELL
-        },
+        asked: EXIT,
         steps: &[LOCK, Step::Says(b"unknown\n"), Step::SeesOff],
         status: "status 125\n",
         reported: "tokentree: what answers for node 0 is no lock service\n",
@@ -463,11 +460,7 @@ fn serves_nobody(rt: &HostRuntime, folder: &str) -> Result<(), Fail> {
 
 /// A client of a folder where nobody serves ends with status 125, and says this.
 fn no_service(rt: &HostRuntime, folder: &str, reported: &str) -> Result<(), Fail> {
-    let asked = Asked {
-        script: "exit 0",
-        ..SHELL
-    };
-    let client = client(rt, folder, asked, Stdio::null())?;
+    let client = client(rt, folder, EXIT, Stdio::null())?;
     hold(
         prints_and_reports(rt, client, "status 125\n", reported)?,
         "a client finds a service where there is none, or says something else",

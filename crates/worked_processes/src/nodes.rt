@@ -18,7 +18,7 @@ use std::test::Fail;
 use std::time::Duration;
 use std::{env, fs, io, process, thread};
 use subcommands::scramble;
-use test_parts::{as_expected, is_expected};
+use test_parts::{as_expected, is_expected, read_line};
 
 /// Three nodes in a line, with fewer frames under way than the capacity.
 pub const LINE: &str = "nodes = 3\nroot = 0\ncapacity = 64\nlease = 0\nedges = [[0, 1], [1, 2]]\n";
@@ -34,7 +34,7 @@ const RING: &str =
 const ASKS: u32 = 100_000;
 
 /// The network file of a folder.
-fn network_file(alloc: Global, dir: &str) -> Result<String, AllocError> {
+pub fn network_file(alloc: Global, dir: &str) -> Result<String, AllocError> {
     format!(in alloc; "{dir}.toml")
 }
 
@@ -161,20 +161,6 @@ pub fn start(rt: &HostRuntime, dir: &str, id: u16, lines: [&str; 2]) -> Result<C
     let mut child = spawn(rt, dir, id)?;
     begins(rt, &mut child, lines)?;
     Ok(child)
-}
-
-/// The next line, without its newline.
-fn read_line<R: Read>(alloc: Global, reader: &mut R) -> Result<String, Fail> {
-    let mut line = String::new(alloc);
-    for _ in 0..200u32 {
-        let mut byte = [0u8; 1];
-        reader.read_exact(&mut byte)?;
-        if byte[0] == b'\n' {
-            break;
-        }
-        line.push(char::from(byte[0]))?;
-    }
-    Ok(line)
 }
 
 /// Whether any of these files is there.

@@ -1,10 +1,12 @@
 //! The record of a node that runs as a process.
 use crate::hold::hold;
 use crate::nodes::{
-    ABSENT, LINE, LOADED, begins, comes_to, in_folder, spawn_recorded, stops, stops_with,
+    ABSENT, LINE, LOADED, begins, comes_to, in_folder, network_file, spawn_recorded, stops,
+    stops_with,
 };
 use node_recorder::flight_recorder::flight_records::{Deed, Entry, EntryReader, Noted, StatePart};
 use node_recorder::flight_recorder::{Side, record_name};
+use node_recorder::network_name;
 use std::os::unix::fs::symlink;
 use std::process::Child;
 use std::test::Fail;
@@ -168,7 +170,7 @@ fn has_record(rt: &HostRuntime, dir: &str, starts: u32) -> Result<bool, Fail> {
     }
 }
 
-/// Whether this is all that the folder has: two records or one, the state and the lock.
+/// Whether this is all that the folder has: two records or one, the network, the state and the lock.
 fn has_only(rt: &HostRuntime, dir: &str, files: u32) -> Result<bool, Fail> {
     let mut count: u32 = 0;
     for entry in fs::read_dir(rt, dir)? {
@@ -176,6 +178,14 @@ fn has_only(rt: &HostRuntime, dir: &str, files: u32) -> Result<bool, Fail> {
         count = count.saturating_add(1);
     }
     Ok(count == files)
+}
+
+/// Whether the node kept its network file's text.
+fn has_network(rt: &HostRuntime, dir: &str) -> Result<bool, Fail> {
+    let name = network_name(rt.alloc(), dir)?;
+    let file = network_file(rt.alloc(), dir)?;
+    let (kept, text) = (fs::read(rt, name.as_str())?, fs::read(rt, file.as_str())?);
+    Ok(kept.as_slice() == text.as_slice())
 }
 
 /// Node 0 ran alone, and runs once more: its record goes on in the same file, after what was there.
@@ -187,14 +197,15 @@ fn run_on(rt: &HostRuntime, dir: &str, was: &[u8]) -> Result<(), Fail> {
         "what was in the file has changed",
     )?;
     hold(has_record(rt, dir, 2)?, "the file is no whole record")?;
-    hold(has_only(rt, dir, 3)?, "there are other files too")
+    hold(has_only(rt, dir, 4)?, "there are other files too")
 }
 
 /// Node 0 runs alone. Returns its record.
 fn record_once(rt: &HostRuntime, dir: &str) -> Result<Vec<u8>, Fail> {
     run_alone(rt, dir, ABSENT)?;
     hold(has_record(rt, dir, 1)?, "the file is no whole record")?;
-    hold(has_only(rt, dir, 3)?, "there are other files already")?;
+    hold(has_network(rt, dir)?, "the network is not kept")?;
+    hold(has_only(rt, dir, 4)?, "there are other files already")?;
     Ok(record_of(rt, dir, 0, Side::First)?.unwrap_or(Vec::new(rt.alloc())))
 }
 
@@ -308,9 +319,14 @@ fn run_unrecorded(rt: &HostRuntime, dir: &str) -> Result<(), Fail> {
     let reported = format!(in rt.alloc();
         "tokentree: {dir}/record-0.0: the record ends, and the node runs on: it is no plain file\n"
     )?;
+    run_and_report(rt, dir, reported.as_str())
+}
+
+/// Node 0 runs and stops, and has said exactly this.
+fn run_and_report(rt: &HostRuntime, dir: &str, reported: &str) -> Result<(), Fail> {
     let mut node = start_recorded(rt, dir, "0")?;
     hold(
-        stops_with(rt, dir, 0, &mut node, reported.as_str())?,
+        stops_with(rt, dir, 0, &mut node, reported)?,
         "the node does not stop, or says something else",
     )
 }
@@ -330,4 +346,24 @@ fn follow_no_link(rt: &HostRuntime, dir: &str) -> Result<(), Fail> {
 #[test]
 fn a_record_follows_no_symbolic_link(rt: HostRuntime) -> Result<(), Fail> {
     in_folder(&rt, "linked", LINE, |dir| follow_no_link(&rt, dir))
+}
+
+/// If its network cannot be kept, since a folder is in its place, node 0 says so, records, and leaves nothing
+/// else.
+fn record_without_network(rt: &HostRuntime, dir: &str) -> Result<(), Fail> {
+    let name = network_name(rt.alloc(), dir)?;
+    fs::create_dir(rt, dir)?;
+    fs::create_dir(rt, name.as_str())?;
+    let reported = format!(in rt.alloc();
+        "tokentree: {name}: the network is not kept, so give it to gather by --network; the node runs on: \
+        Is a directory (os error 21)\n"
+    )?;
+    run_and_report(rt, dir, reported.as_str())?;
+    hold(has_record(rt, dir, 1)?, "the file is no whole record")?;
+    hold(has_only(rt, dir, 4)?, "there are other files too")
+}
+
+#[test]
+fn a_network_that_is_not_kept_is_named(rt: HostRuntime) -> Result<(), Fail> {
+    in_folder(&rt, "unkept", LINE, |dir| record_without_network(&rt, dir))
 }

@@ -1,14 +1,14 @@
 //! Copies of this test program on networks of three processes: the lock as its users take it.
 use command_line::{fill_standard_streams, run_words};
 use std::alloc::{AllocError, Global};
-use std::io::{Read, Write};
+use std::io::Write;
 use std::os::unix::net::UnixStream;
 use std::path::AsPath;
 use std::process::{Abort, Child, Command, ExitCode, Stdio};
 use std::test::Fail;
 use std::time::Duration;
 use std::{env, fs, str, thread};
-use test_parts::{as_expected, is_expected};
+use test_parts::{as_expected, is_expected, read_line};
 
 /// Three nodes in a ring, whose loans have no end.
 pub const RING: &str =
@@ -210,20 +210,6 @@ fn all_stop(rt: &HostRuntime, nodes: Nodes, reported: &str) -> Result<bool, Fail
     let third = stops(rt, dir, 2, two, reported)?;
     clean(rt, dir)?;
     Ok(first && second && third)
-}
-
-/// The next line, without its newline.
-fn read_line<R: Read>(alloc: Global, reader: &mut R) -> Result<String, Fail> {
-    let mut line = String::new(alloc);
-    for _ in 0..500u32 {
-        let mut byte = [0u8; 1];
-        reader.read_exact(&mut byte)?;
-        if byte[0] == b'\n' {
-            break;
-        }
-        line.push(char::from(byte[0]))?;
-    }
-    Ok(line)
 }
 
 /// A client of node `id`.

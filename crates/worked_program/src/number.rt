@@ -6,122 +6,68 @@ use std::alloc::AllocError;
 use std::test::Fail;
 use test_parts::is_expected;
 
+/// The greatest allowed number, and one more.
+type Edge = [&'static str; 2];
+
+/// Of 16 bits.
+const SHORT: Edge = ["65535", "65536"];
+
+/// Of 32 bits.
+const WORD: Edge = ["4294967295", "4294967296"];
+
+/// Of 64 bits.
+const LONG: Edge = ["18446744073709551615", "18446744073709551616"];
+
+/// A million.
+const MILLION: Edge = ["1000000", "1000001"];
+
 /// The words in front of a number and after it; the greatest allowed number, and one more; and the
 /// status of the line with the greatest.
-type Row = (&'static str, &'static str, &'static str, &'static str, u8);
+type Row = (&'static str, &'static str, Edge, u8);
 
 /// The files of these lines do not exist: so the status of an accepted number is 1, or 0 if the
 /// line prints no junk.
 const NUMBERS: [Row; 25] = [
-    ("draw absent.toml - --columns ", "", "1200", "1201", 1),
-    (
-        "draw absent.toml - --from ",
-        "",
-        "18446744073709551615",
-        "18446744073709551616",
-        1,
-    ),
-    (
-        "draw absent.toml - --to ",
-        "",
-        "18446744073709551615",
-        "18446744073709551616",
-        1,
-    ),
-    (
-        "gather . --network absent.toml --from ",
-        "",
-        "4294967295",
-        "4294967296",
-        1,
-    ),
-    (
-        "gather . --network absent.toml --last ",
-        "",
-        "4294967295",
-        "4294967296",
-        1,
-    ),
-    ("junk ", " 0", "4294967295", "4294967296", 0),
-    ("cut absent ", "", "1000000", "1000001", 1),
-    ("scramble absent.toml ", " absent 0", "65535", "65536", 1),
-    (
-        "scramble absent.toml 0 absent ",
-        "",
-        "4294967295",
-        "4294967296",
-        1,
-    ),
-    ("measure absent.toml --runs ", "", "1000000", "1000001", 1),
-    ("worst absent.toml --searches ", "", "1000000", "1000001", 1),
-    ("worst absent.toml --minutes ", "", "10080", "10081", 1),
+    ("draw absent.toml - --columns ", "", ["1200", "1201"], 1),
+    ("draw absent.toml - --from ", "", LONG, 1),
+    ("draw absent.toml - --to ", "", LONG, 1),
+    ("gather . --network absent.toml --from ", "", WORD, 1),
+    ("gather . --network absent.toml --last ", "", WORD, 1),
+    ("junk ", " 0", WORD, 0),
+    ("cut absent ", "", MILLION, 1),
+    ("scramble absent.toml ", " absent 0", SHORT, 1),
+    ("scramble absent.toml 0 absent ", "", WORD, 1),
+    ("measure absent.toml --runs ", "", MILLION, 1),
+    ("worst absent.toml --searches ", "", MILLION, 1),
+    ("worst absent.toml --minutes ", "", ["10080", "10081"], 1),
     (
         "worst absent.toml --steps ",
         "",
-        "1000000000",
-        "1000000001",
+        ["1000000000", "1000000001"],
         1,
     ),
-    (
-        "worst absent.toml --seed ",
-        "",
-        "4294967295",
-        "4294967296",
-        1,
-    ),
-    (
-        "measure absent.toml --seed ",
-        "",
-        "4294967295",
-        "4294967296",
-        1,
-    ),
-    ("node --hold ", " absent.toml 0 run", "2000", "2001", 1),
+    ("worst absent.toml --seed ", "", WORD, 1),
+    ("measure absent.toml --seed ", "", WORD, 1),
+    ("node --hold ", " absent.toml 0 run", ["2000", "2001"], 1),
     (
         "node --repeat ",
         " absent.toml 0 run",
-        "100000",
-        "100001",
+        ["100000", "100001"],
         1,
     ),
-    ("node absent.toml ", " run", "65535", "65536", 1),
-    (
-        "schedule absent.toml --rounds ",
-        "",
-        "4294967295",
-        "4294967296",
-        1,
-    ),
-    (
-        "schedule absent.toml --rounds 1 --scramble ",
-        "",
-        "4294967295",
-        "4294967296",
-        1,
-    ),
-    (
-        "schedule absent.toml --seed 1 --random ",
-        "",
-        "4294967295",
-        "4294967296",
-        1,
-    ),
-    (
-        "schedule absent.toml --random 1 --seed ",
-        "",
-        "4294967295",
-        "4294967296",
-        1,
-    ),
+    ("node absent.toml ", " run", SHORT, 1),
+    ("schedule absent.toml --rounds ", "", WORD, 1),
+    ("schedule absent.toml --rounds 1 --scramble ", "", WORD, 1),
+    ("schedule absent.toml --seed 1 --random ", "", WORD, 1),
+    ("schedule absent.toml --random 1 --seed ", "", WORD, 1),
     (
         "schedule absent.toml --random 1 --seed 1 --loss ",
         "",
-        "100",
-        "101",
+        ["100", "101"],
         1,
     ),
-    ("status absent ", "", "65535", "65536", 1),
-    ("threads absent.toml ", "", "1000000", "1000001", 1),
+    ("status absent ", "", SHORT, 1),
+    ("threads absent.toml ", "", MILLION, 1),
 ];
 
 /// Spellings that are no numbers.
@@ -145,7 +91,7 @@ fn first_taken<R: Runtime>(rt: &R, row: &Row) -> Result<Option<&'static str>, Al
 
 /// The first number with which a row's command line has a wrong status.
 fn first_other_number<R: Runtime>(rt: &R, row: &Row) -> Result<Option<&'static str>, AllocError> {
-    let (_, _, most, above, status) = *row;
+    let (_, _, [most, above], status) = *row;
     let taken = first_taken(rt, row)?;
     if taken.is_some() {
         return Ok(taken);

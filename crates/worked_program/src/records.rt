@@ -87,10 +87,10 @@ fn all_stop(rt: &HostRuntime, dir: &str, trio: Trio) -> Result<bool, Fail> {
     Ok(zero && one && two)
 }
 
-/// What `gather` says of the records in a folder, and whether `simulate` finds the nodes at rest after the
-/// events that it printed.
-fn gathered(rt: &HostRuntime, dir: &str) -> Result<(Vec<u8>, bool), Fail> {
-    let words = format!(in rt.alloc(); "tokentree\ngather\n{dir}\n--network\n{dir}.toml")?;
+/// What `gather` with this option says of the records in a folder, and whether `simulate` finds the nodes at
+/// rest after the events that it printed.
+fn gathered(rt: &HostRuntime, dir: &str, option: &str) -> Result<(Vec<u8>, bool), Fail> {
+    let words = format!(in rt.alloc(); "tokentree\ngather\n{dir}{option}")?;
     let (printed, said) = written(rt, words.as_str())?;
     let Some((events, _)) = str::from_utf8(printed.as_slice())?.split_once("status 0\n") else {
         return Ok((said, false));
@@ -108,12 +108,13 @@ fn rests_after(rt: &HostRuntime, dir: &str, events: &str) -> Result<bool, Fail> 
 }
 
 /// Nodes of whom nobody is killed: whether they serve, rest, and stop; whether the replay rests; and whether
-/// it differs nowhere from what was recorded, and each frame that was taken was sent.
+/// it differs nowhere from what was recorded, and each frame that was taken was sent. `gather` takes the network
+/// that they kept.
 fn undisturbed(rt: &HostRuntime, dir: &str) -> Result<[bool; 6], Fail> {
     let (trio, serve) = start(rt, dir)?;
     let at_rest = rest(rt, dir)?;
     let stopped = all_stop(rt, dir, trio)?;
-    let (said, replayed) = gathered(rt, dir)?;
+    let (said, replayed) = gathered(rt, dir, "")?;
     let same = has_line(said.as_slice(), "tokentree: differences 0", "")?;
     let sent = has_line(
         said.as_slice(),
@@ -156,7 +157,8 @@ fn disturbed(rt: &HostRuntime, dir: &str) -> Result<[bool; 6], Fail> {
     let serve_again = all_serve(rt, dir)?;
     let at_rest = rest(rt, dir)?;
     let stopped = all_stop(rt, dir, trio)?;
-    let (said, replayed) = gathered(rt, dir)?;
+    let option = format!(in rt.alloc(); "\n--network\n{dir}.toml")?;
+    let (said, replayed) = gathered(rt, dir, option.as_str())?;
     let begin = "tokentree: node 0 differs at microsecond ";
     let named = has_line(said.as_slice(), begin, ": a frame that node 2 did not send")?;
     Ok([serve, serve_again, at_rest, stopped, replayed, named])

@@ -10,7 +10,7 @@ use std::test::Fail;
 use test_parts::{as_expected, is_expected};
 
 /// A command line, and its status.
-const ROWS: [(&str, u8); 114] = [
+const ROWS: [(&str, u8); 116] = [
     ("tokentree bound two.toml", 0),
     ("tokentree bound -- two.toml", 0),
     ("tokentree bound --sharp two.toml", 0),
@@ -162,7 +162,9 @@ const ROWS: [(&str, u8); 114] = [
     ("tokentree gather --network two.toml absent", 1),
     ("tokentree gather . --network bad.toml", 1),
     ("tokentree gather . --network absent.toml", 1),
-    ("tokentree gather .", 2),
+    ("tokentree gather .", 1),
+    ("tokentree gather absent", 1),
+    ("tokentree gather", 2),
     ("tokentree gather --network two.toml", 2),
     ("tokentree gather . more --network two.toml", 2),
     ("tokentree gather . --network two.toml --from 1 --last 1", 2),
@@ -229,7 +231,10 @@ const REFUSED: [(&str, &str); 12] = [
 ];
 
 /// The fault line of `bound` on a file; empty if there is none.
-fn fault_line<R: Files + Print + AllocGlobal>(rt: &R, path: &str) -> Result<String, AllocError> {
+fn fault_line<R: Files + Print + Eprint + AllocGlobal>(
+    rt: &R,
+    path: &str,
+) -> Result<String, AllocError> {
     match bound::run(rt, path, false, None) {
         Ok(_) => Ok(String::new(rt.alloc())),
         Err(fault) => format!(in rt.alloc(); "{}", FaultLine(fault)),
@@ -237,7 +242,7 @@ fn fault_line<R: Files + Print + AllocGlobal>(rt: &R, path: &str) -> Result<Stri
 }
 
 /// Whether this is the fault line of `bound` on a file.
-fn is_refused_so<R: Files + Print + AllocGlobal>(
+fn is_refused_so<R: Files + Print + Eprint + AllocGlobal>(
     rt: &R,
     path: &str,
     want: &str,

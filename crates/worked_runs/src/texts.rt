@@ -19,6 +19,14 @@ harm desk 0 5 0 no
 harm desk 1 6 0 no
 ";
 
+/// How the nodes of the square start.
+pub const SQUARE_AT_START: &str = "\
+node 0 distance 4 parent none token no lent none waiting 0
+node 1 distance 4 parent none token no lent none waiting 0
+node 2 distance 4 parent none token no lent none waiting 0
+node 3 distance 4 parent none token no lent none waiting 0
+";
+
 /// One round of a network: each node ticks, and then each sends to each neighbour, which takes, so
 /// often that one more item goes over than the link holds.
 pub fn round_of(alloc: Global, net: &Net) -> Result<String, AllocError> {

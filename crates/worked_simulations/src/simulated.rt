@@ -24,29 +24,36 @@ const PIECES: [usize; 3] = [1, 7, 4096];
 /// Room for every output.
 const ROOM: usize = 8192;
 
-/// What no events lead to.
-const AT_START: &str = "\
-node 0 distance 2 parent none token no lent none waiting 0
-node 1 distance 2 parent none token no lent none waiting 0
-link 0 1 items 0
-link 1 0 items 0
-privileged 0 lending 0
-sweeps 0 of 69
-";
+/// What a node's line says after its number. Both of two nodes start like this.
+const START: &str = "distance 2 parent none token no lent none waiting 0";
 
-/// A text for two nodes over links of one place, and what it leads to.
-#[derive(Clone, Copy)]
-struct Row<'a> {
-    /// The most ticks of a loan; 0 is no limit.
-    lease: i64,
-    /// Pieces of the text, each with how often it comes.
-    text: &'a [(&'a str, usize)],
-    /// The refusal lines.
-    refusals: &'a str,
-    /// The state after them.
-    state: &'a str,
-    sweeps: u64,
-}
+/// The root has its distance.
+const ROOT: &str = "distance 0 parent none token no lent none waiting 0";
+
+/// The root also has the token.
+const ROOT_TOKEN: &str = "distance 0 parent none token yes lent none waiting 0";
+
+/// The other node has its parent, but not its distance.
+const FAR: &str = "distance 2 parent 0 token no lent none waiting 0";
+
+/// The other node has both.
+const NEAR: &str = "distance 1 parent 0 token no lent none waiting 0";
+
+/// The other node also has the token.
+const NEAR_TOKEN: &str = "distance 1 parent 0 token yes lent none waiting 0";
+
+/// A state of two nodes: how each stands; how many items are on the link from node 0, and on the
+/// one back; and how many nodes are privileged, how many lend, and how many sweeps there were.
+type State<'a> = ([&'a str; 2], [usize; 2], [usize; 3]);
+
+/// What no events lead to.
+const AT_START: State<'_> = ([START, START], [0, 0], [0, 0, 0]);
+
+/// Pieces of a text, each with how often it comes.
+type Pieces<'a> = &'a [(&'a str, usize)];
+
+/// A text for two nodes over links of one place, the refusal lines, and the state after them.
+type Row<'a> = (Pieces<'a>, &'a str, State<'a>);
 
 /// Two nodes, over links of one place.
 fn two_nodes(alloc: Global, lease: i64) -> Result<Net, Fail> {
@@ -54,7 +61,7 @@ fn two_nodes(alloc: Global, lease: i64) -> Result<Net, Fail> {
 }
 
 /// The pieces, each as often as it comes.
-fn joined(alloc: Global, pieces: &[(&str, usize)]) -> Result<String, AllocError> {
+fn joined(alloc: Global, pieces: Pieces<'_>) -> Result<String, AllocError> {
     let mut whole = String::new(alloc);
     for (piece, times) in pieces {
         for _ in 0..*times {
@@ -106,66 +113,82 @@ fn simulated<F: FnOnce(&str) -> bool>(
     Ok((summary, deed(std::str::from_utf8(sink.taken())?)))
 }
 
-/// Whether an output is that of a row.
-fn is_output(output: &str, row: &Row<'_>) -> bool {
-    output.strip_prefix(row.refusals) == Some(row.state)
+/// The refusal lines, and the text of a state.
+fn output_of(alloc: Global, refusals: &str, state: &State<'_>) -> Result<String, AllocError> {
+    let ([zero, one], [there, back], [privileged, lending, sweeps]) = *state;
+    format!(in alloc;
+        "{refusals}node 0 {zero}\nnode 1 {one}\nlink 0 1 items {there}\nlink 1 0 items {back}\n\
+        privileged {privileged} lending {lending}\nsweeps {sweeps} of 69\n"
+    )
 }
 
-/// How many nodes lend in a state of two nodes.
-fn lending_in(state: &str) -> usize {
-    if state.contains(" lending 2\n") {
-        2
-    } else if state.contains(" lending 1\n") {
-        1
-    } else {
-        0
-    }
-}
-
-/// The report of a row: its number of refused lines, and the number of nodes that lend in its
-/// state.
-fn summary_of(row: &Row<'_>) -> Summary {
+/// The report of these refusal lines, and of a state of so many nodes that lend and so many sweeps.
+fn report_of(refusals: &str, lending: usize, sweeps: usize) -> Summary {
     Summary {
-        refused: row.refusals.lines().count() as u64,
-        sweeps: row.sweeps,
-        lending: lending_in(row.state),
+        refused: refusals.lines().count() as u64,
+        sweeps: sweeps as u64,
+        lending,
     }
 }
 
-/// The first size of pieces in which a text does not lead to a row's output, if any.
+/// Whether a text is this output.
+fn is_output(found: &str, output: &str) -> bool {
+    found == output
+}
+
+/// The first size of pieces in which a text does not lead to this report and this output, if any.
 fn first_wrong_piece(
     alloc: Global,
     net: &Net,
     text: &str,
-    row: &Row<'_>,
+    report: Summary,
+    output: &str,
 ) -> Result<Option<usize>, Fail> {
-    let want = (summary_of(row), true);
     for piece in PIECES {
-        if simulated(alloc, net, text, piece, |output| is_output(output, row))? != want {
+        if simulated(alloc, net, text, piece, |found| is_output(found, output))? != (report, true) {
             return Ok(Some(piece));
         }
     }
     Ok(None)
 }
 
-/// The first size of pieces in which a row's text does not lead to its output on a network, if
-/// any.
-fn row_fails_on(alloc: Global, net: &Net, row: &Row<'_>) -> Result<Option<usize>, Fail> {
-    let text = joined(alloc, row.text)?;
-    first_wrong_piece(alloc, net, &text, row)
+/// The same for a text in pieces.
+fn pieces_fail(
+    alloc: Global,
+    net: &Net,
+    text: Pieces<'_>,
+    report: Summary,
+    output: &str,
+) -> Result<Option<usize>, Fail> {
+    let text = joined(alloc, text)?;
+    first_wrong_piece(alloc, net, &text, report, output)
 }
 
-/// The same for two nodes.
-fn row_fails(alloc: Global, row: &Row<'_>) -> Result<Option<usize>, Fail> {
-    let net = two_nodes(alloc, row.lease)?;
-    row_fails_on(alloc, &net, row)
+/// The first size of pieces in which a row's text does not lead to its report and its output, if
+/// any.
+fn row_fails(alloc: Global, net: &Net, row: &Row<'_>) -> Result<Option<usize>, Fail> {
+    let (text, refusals, state) = *row;
+    let [_, lending, sweeps] = state.2;
+    let output = output_of(alloc, refusals, &state)?;
+    pieces_fail(
+        alloc,
+        net,
+        text,
+        report_of(refusals, lending, sweeps),
+        &output,
+    )
 }
 
-/// The place of the first row whose text does not lead to its output, and the size of pieces, if
-/// any.
-fn first_wrong(alloc: Global, rows: &[Row<'_>]) -> Result<Option<(usize, usize)>, Fail> {
+/// The place of the first row whose text does not lead to its report and its output, and the size of
+/// pieces, if any. A loan has at most `lease` ticks; 0 is no limit.
+fn first_wrong(
+    alloc: Global,
+    lease: i64,
+    rows: &[Row<'_>],
+) -> Result<Option<(usize, usize)>, Fail> {
+    let net = two_nodes(alloc, lease)?;
     for (at, row) in rows.iter().enumerate() {
-        if let Some(piece) = row_fails(alloc, row)? {
+        if let Some(piece) = row_fails(alloc, &net, row)? {
             return Ok(Some((at, piece)));
         }
     }

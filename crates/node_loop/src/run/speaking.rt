@@ -22,7 +22,7 @@ use std::alloc::Allocator;
 use topology::Frame;
 
 impl<D: Doors, S: Store + Drop, A: Allocator + Copy> NodeRun<D, S, A> {
-    ghost use Rattle.node_loop.specs.Clients.{AreConnected, IsTold};
+    ghost use Rattle.node_loop.specs.Clients.{AreConnected, IsReported};
     ghost use Rattle.node_loop.specs.Noting.{after_all, sends_if, DidAct, DidSpeak};
     ghost use Rattle.node_loop.specs.Lives.{LiveOn};
     ghost use Rattle.node_loop.specs.Remembering.{Remembers};
@@ -33,7 +33,7 @@ impl<D: Doors, S: Store + Drop, A: Allocator + Copy> NodeRun<D, S, A> {
     pub(super) fn tick(&mut self, now: u64, notes: &mut Notes<A>) -> Ticked
         ensures node { DidAct result self.old.node self.new.node notes.old notes.new }
         // The client whose loan it began or ended hears of it.
-        ensures reported { IsTold result.act self.old.clients self.new.clients }
+        ensures reported { IsReported result.act self.old.clients self.new.clients }
         ensures ports { (self.new.ports ≡ self.old.ports) × (self.new.let_go ≡ self.old.let_go) }
         ensures connected { AreConnected self.old.clients self.old.node
             → AreConnected self.new.clients self.new.node }

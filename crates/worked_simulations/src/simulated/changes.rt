@@ -4,7 +4,7 @@ use super::*;
 use run_model::EventFault;
 use std::test::Fail;
 use test_parts::as_expected;
-use worked_runs::texts::round_of;
+use worked_runs::texts::{SQUARE_AT_START, round_of};
 use worked_runs::worlds::{self, simulated_start, square};
 
 /// The edge between 1 and 3 goes. Then it cannot go again, nor can the last edge of node 3; and no
@@ -18,28 +18,30 @@ harm join 0 1
 harm join 0 4
 ";
 
-/// The state of the square after that.
+/// Its refusal lines.
+const REFUSALS: &str = "\
+line 2: NoLink
+line 3: Apart
+line 4: OutOfRange
+line 5: OutOfRange
+line 6: NoNode
+";
+
+/// The links of the square after that.
 const PARTED: &str = "\
-node 0 distance 4 parent none token no lent none waiting 0
-node 1 distance 4 parent none token no lent none waiting 0
-node 2 distance 4 parent none token no lent none waiting 0
-node 3 distance 4 parent none token no lent none waiting 0
 link 0 1 items 0
 link 0 2 items 0
 link 1 0 items 0
 link 2 0 items 0
 link 2 3 items 0
 link 3 2 items 0
-privileged 0 lending 0
-sweeps 0 of 461
 ";
 
-/// The state of the square if an item goes with its edge, and the edge comes back.
+/// An item goes with its edge, and the edge comes back.
+const COMING_BACK: &str = "send 1 3\nsend 2 3\nharm part 3 1\nharm join 3 1\n";
+
+/// The links of the square after that.
 const BACK: &str = "\
-node 0 distance 4 parent none token no lent none waiting 0
-node 1 distance 4 parent none token no lent none waiting 0
-node 2 distance 4 parent none token no lent none waiting 0
-node 3 distance 4 parent none token no lent none waiting 0
 link 0 1 items 0
 link 0 2 items 0
 link 1 0 items 0
@@ -48,40 +50,37 @@ link 2 0 items 0
 link 2 3 items 1
 link 3 1 items 0
 link 3 2 items 0
-privileged 0 lending 0
-sweeps 0 of 461
 ";
 
-/// Texts for the square: edges go and one comes back.
-const ON_THE_SQUARE: [Row<'_>; 2] = [
-    Row {
-        lease: 0,
-        text: &[(REFUSED, 1)],
-        refusals: "\
-line 2: NoLink
-line 3: Apart
-line 4: OutOfRange
-line 5: OutOfRange
-line 6: NoNode
-",
-        state: PARTED,
-        sweeps: 0,
-    },
-    Row {
-        lease: 0,
-        text: &[("send 1 3\nsend 2 3\nharm part 3 1\nharm join 3 1\n", 1)],
-        refusals: "",
-        state: BACK,
-        sweeps: 0,
-    },
-];
+/// A text for the square, its refusal lines, and the links after them.
+type SquareRow<'a> = (&'a str, &'a str, &'a str);
+
+/// Edges of the square go, and one comes back.
+const ON_THE_SQUARE: [SquareRow<'_>; 2] = [(REFUSED, REFUSALS, PARTED), (COMING_BACK, "", BACK)];
+
+/// The first size of pieces in which a row's text does not lead to its refusal lines, and to the
+/// start of the square with its links, if any.
+fn square_fails(alloc: Global, net: &Net, row: &SquareRow<'_>) -> Result<Option<usize>, Fail> {
+    let (text, refusals, links) = *row;
+    let lines = [
+        (refusals, 1),
+        (SQUARE_AT_START, 1),
+        (links, 1),
+        ("privileged 0 lending 0\nsweeps 0 of 461\n", 1),
+    ];
+    let output = joined(alloc, &lines)?;
+    first_wrong_piece(alloc, net, text, report_of(refusals, 0, 0), &output)
+}
 
 /// The place of the first row whose text does not lead to its output on the square, and the size
 /// of pieces, if any.
-fn first_wrong_on_square(alloc: Global, rows: &[Row<'_>]) -> Result<Option<(usize, usize)>, Fail> {
+fn first_wrong_on_square(
+    alloc: Global,
+    rows: &[SquareRow<'_>],
+) -> Result<Option<(usize, usize)>, Fail> {
     let net = square(alloc)?;
     for (at, row) in rows.iter().enumerate() {
-        if let Some(piece) = row_fails_on(alloc, &net, row)? {
+        if let Some(piece) = square_fails(alloc, &net, row)? {
             return Ok(Some((at, piece)));
         }
     }

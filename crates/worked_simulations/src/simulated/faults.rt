@@ -6,7 +6,7 @@ use test_parts::{as_expected, fill};
 use world::streams::{Failed, Fused};
 
 /// Lines; all except one are refused.
-const LINES: &str =
+pub const LINES: &str =
     "tick 2\nsend 0 0\nlose 0 1 0\nharm own 0 3 none\nask 1 7\nask 1 7\nleave 0 4\nTick 0\n";
 
 /// The refusal lines, each with the number of bytes at the end of its line.
@@ -21,7 +21,7 @@ const REFUSALS: [(usize, &str); 7] = [
 ];
 
 /// What the lines lead to.
-const OUTPUT: &str = "\
+pub const OUTPUT: &str = "\
 line 1: NoNode
 line 2: NoLink
 line 3: NoItem
@@ -49,7 +49,7 @@ fn refusals_within(alloc: Global, bytes: usize) -> Result<String, AllocError> {
 }
 
 /// The report of all lines.
-const ALL: Summary = Summary {
+pub const ALL: Summary = Summary {
     refused: 7,
     sweeps: 0,
     lending: 0,
@@ -326,40 +326,28 @@ fn with_long_text(
     Ok((answer, sink.taken() == want.as_bytes()))
 }
 
-/// By how many bytes a text is longer than a gibibyte, the answer, and the output.
-const LENGTHS: [(usize, Result<Summary, SimFault>, &str); 2] = [
-    (
-        0,
-        Ok(Summary {
-            refused: 1,
-            sweeps: 0,
-            lending: 0,
-        }),
-        "\
-line 1: Unread
-node 0 distance 2 parent none token no lent none waiting 0
-node 1 distance 2 parent none token no lent none waiting 0
-link 0 1 items 0
-link 1 0 items 0
-privileged 0 lending 0
-sweeps 0 of 69
-",
-    ),
-    (1, Err(SimFault::Long), "line 1: Unread\n"),
-];
+/// The refusal line of a text whose first line is no event.
+pub const UNREAD: &str = "line 1: Unread\n";
 
-/// The place of the first length for which that is wrong, if any.
-fn first_wrong_length(alloc: Global) -> Result<Option<usize>, Fail> {
+/// Whether a text of a gibibyte leads to the state at the start, after its refusal line; and whether
+/// a text with one byte more is refused, after the same line.
+fn is_limited(alloc: Global, net: &Net) -> Result<(bool, bool), AllocError> {
+    let output = output_of(alloc, UNREAD, &AT_START)?;
+    let whole = with_long_text(alloc, net, 1_073_741_824, &output)?;
+    let long = with_long_text(alloc, net, 1_073_741_825, UNREAD)?;
+    Ok((
+        whole == (Ok(report_of(UNREAD, 0, 0)), true),
+        long == (Err(SimFault::Long), true),
+    ))
+}
+
+/// The same for two nodes.
+fn is_limited_for_two(alloc: Global) -> Result<(bool, bool), Fail> {
     let net = two_nodes(alloc, 0)?;
-    for (at, (more, want, output)) in LENGTHS.iter().enumerate() {
-        if with_long_text(alloc, &net, 1_073_741_824 + *more, output)? != (*want, true) {
-            return Ok(Some(at));
-        }
-    }
-    Ok(None)
+    Ok(is_limited(alloc, &net)?)
 }
 
 #[test]
 fn a_text_may_have_a_gibibyte_and_no_more(rt: HostRuntime) -> Result<(), Fail> {
-    as_expected(first_wrong_length(rt.alloc()), &None)
+    as_expected(is_limited_for_two(rt.alloc()), &(true, true))
 }

@@ -1,72 +1,32 @@
 //! Which lines are skipped, which are refused, and how they are numbered.
+use super::faults::{ALL, LINES, OUTPUT, UNREAD};
 use super::*;
 use std::test::Fail;
 use test_parts::as_expected;
 
-/// Pieces of a text, each with how often it comes, and the refusal lines.
-type Refused<'a> = (&'a [(&'a str, usize)], &'a str);
-
-/// The row of such a text, after which nothing has happened.
-fn row_of<'a>(text: &'a [(&'a str, usize)], refusals: &'a str) -> Row<'a> {
-    Row {
-        lease: 0,
-        text,
-        refusals,
-        state: AT_START,
-        sweeps: 0,
-    }
+/// The first size of pieces in which lines, of which each except one is refused for its own reason,
+/// do not lead to their output, if any.
+fn order_fails(alloc: Global) -> Result<Option<usize>, Fail> {
+    let net = two_nodes(alloc, 0)?;
+    first_wrong_piece(alloc, &net, LINES, ALL, OUTPUT)
 }
-
-/// The place of the first text with other refusals, or after which something has happened, and the
-/// size of pieces, if any.
-fn first_not_refused(alloc: Global, rows: &[Refused<'_>]) -> Result<Option<(usize, usize)>, Fail> {
-    for (at, (text, refusals)) in rows.iter().enumerate() {
-        if let Some(piece) = row_fails(alloc, &row_of(text, refusals))? {
-            return Ok(Some((at, piece)));
-        }
-    }
-    Ok(None)
-}
-
-/// Lines; each except one is refused for its own reason.
-const ORDER: [Row<'_>; 1] = [Row {
-    lease: 0,
-    text: &[(
-        "tick 2\nsend 0 0\nlose 0 1 0\nharm own 0 3 none\nask 1 7\nask 1 7\nleave 0 4\nTick 0\n",
-        1,
-    )],
-    refusals: "\
-line 1: NoNode
-line 2: NoLink
-line 3: NoItem
-line 4: OutOfRange
-line 6: Twice
-line 7: Stranger
-line 8: Unread
-",
-    state: "\
-node 0 distance 2 parent none token no lent none waiting 0
-node 1 distance 2 parent none token no lent none waiting 1
-link 0 1 items 0
-link 1 0 items 0
-privileged 0 lending 0
-sweeps 0 of 69
-",
-    sweeps: 0,
-}];
 
 #[test]
 fn refusals_are_named_in_their_order(rt: HostRuntime) -> Result<(), Fail> {
-    as_expected(first_wrong(rt.alloc(), &ORDER), &None)
+    as_expected(order_fails(rt.alloc()), &None)
 }
 
 /// Texts with lines that are skipped.
-const COUNTED: [Refused<'_>; 10] = [
-    (&[("\n", 1)], ""),
-    (&[("#", 1)], ""),
-    (&[("\n\n\ntick 2\n", 1)], "line 4: NoNode\n"),
-    (&[("# tick 2\n\n#\ntick 2\n", 1)], "line 4: NoNode\n"),
-    (&[(" # no comment\n", 1)], "line 1: Unread\n"),
+const COUNTED: [Row<'_>; 10] = [
+    (&[("\n", 1)], "", AT_START),
+    (&[("#", 1)], "", AT_START),
+    (&[("\n\n\ntick 2\n", 1)], "line 4: NoNode\n", AT_START),
+    (
+        &[("# tick 2\n\n#\ntick 2\n", 1)],
+        "line 4: NoNode\n",
+        AT_START,
+    ),
+    (&[(" # no comment\n", 1)], UNREAD, AT_START),
     (
         &[
             ("# as long as it likes ", 1000),
@@ -74,23 +34,25 @@ const COUNTED: [Refused<'_>; 10] = [
             ("# as long as it likes ", 1000),
         ],
         "line 2: NoNode\n",
+        AT_START,
     ),
-    (&[("tick 2", 1)], "line 1: NoNode\n"),
-    (&[("tick 2\n", 1)], "line 1: NoNode\n"),
+    (&[("tick 2", 1)], "line 1: NoNode\n", AT_START),
+    (&[("tick 2\n", 1)], "line 1: NoNode\n", AT_START),
     (
         &[("\n\ntick 3\ntick 2", 1)],
         "line 3: NoNode\nline 4: NoNode\n",
+        AT_START,
     ),
-    (&[("tick 3\n# the end", 1)], "line 1: NoNode\n"),
+    (&[("tick 3\n# the end", 1)], "line 1: NoNode\n", AT_START),
 ];
 
 #[test]
 fn lines_are_counted_and_a_last_one_needs_no_newline(rt: HostRuntime) -> Result<(), Fail> {
-    as_expected(first_not_refused(rt.alloc(), &COUNTED), &None)
+    as_expected(first_wrong(rt.alloc(), 0, &COUNTED), &None)
 }
 
 /// Texts with lines that are longer than any event.
-const LONG: [Refused<'_>; 3] = [
+const LONG: [Row<'_>; 3] = [
     // No event has 64 bytes: the longest line that is read is refused, and so is the shortest that
     // is too long.
     (
@@ -101,6 +63,7 @@ const LONG: [Refused<'_>; 3] = [
             (" \ntick 2\n", 1),
         ],
         "line 1: Unread\nline 2: Unread\nline 3: NoNode\n",
+        AT_START,
     ),
     // After 64 bytes comes another line.
     (
@@ -111,6 +74,7 @@ const LONG: [Refused<'_>; 3] = [
             ("tick 0", 1),
         ],
         "line 1: Unread\nline 2: Unread\n",
+        AT_START,
     ),
     (
         &[
@@ -121,12 +85,13 @@ const LONG: [Refused<'_>; 3] = [
             ("tick 0\ntick 2\n", 1),
         ],
         "line 3: NoNode\n",
+        AT_START,
     ),
 ];
 
 #[test]
 fn a_long_line_is_refused_once(rt: HostRuntime) -> Result<(), Fail> {
-    as_expected(first_not_refused(rt.alloc(), &LONG), &None)
+    as_expected(first_wrong(rt.alloc(), 0, &LONG), &None)
 }
 
 /// Lines that are almost events.
@@ -148,9 +113,10 @@ const ALMOST: [&str; 13] = [
 
 /// The place of the first line that is read as an event, and the size of pieces, if any.
 fn first_read(alloc: Global, lines: &[&str]) -> Result<Option<(usize, usize)>, Fail> {
+    let net = two_nodes(alloc, 0)?;
     for (at, line) in lines.iter().enumerate() {
         let text = [(*line, 1), ("\n", 1)];
-        if let Some(piece) = row_fails(alloc, &row_of(&text, "line 1: Unread\n"))? {
+        if let Some(piece) = row_fails(alloc, &net, &(&text, UNREAD, AT_START))? {
             return Ok(Some((at, piece)));
         }
     }
@@ -173,18 +139,17 @@ fn busy(alloc: Global) -> Result<String, AllocError> {
     Ok(text)
 }
 
+/// The root has the token, and as many tickets wait as have room.
+const FULL: &str = "distance 0 parent none token yes lent none waiting 64";
+
+/// Node 1 has its parent, and a ticket waits.
+const ASKED: &str = "distance 2 parent 0 token no lent none waiting 1";
+
 /// What that text leads to.
-const BUSY: &str = "\
-node 0 distance 0 parent none token yes lent none waiting 64
-node 1 distance 2 parent 0 token no lent none waiting 1
-link 0 1 items 1
-link 1 0 items 0
-privileged 1 lending 0
-sweeps 1 of 69
-";
+const BUSY: State<'_> = ([FULL, ASKED], [1, 0], [1, 0, 1]);
 
 /// Lines after that text, and how they are refused.
-const BEHIND_BUSY: [(&str, &str); 12] = [
+const AFTER_BUSY: [(&str, &str); 12] = [
     ("", ""),
     ("tick 2\n", "line 77: NoNode\n"),
     ("take 1 1\n", "line 77: NoLink\n"),
@@ -206,16 +171,10 @@ fn first_changing(
     text: &str,
     rows: &[(&str, &str)],
 ) -> Result<Option<(usize, usize)>, Fail> {
+    let net = two_nodes(alloc, 0)?;
     for (at, (line, refusals)) in rows.iter().enumerate() {
         let texts = [(text, 1), (*line, 1)];
-        let row = Row {
-            lease: 0,
-            text: &texts,
-            refusals: *refusals,
-            state: BUSY,
-            sweeps: 1,
-        };
-        if let Some(piece) = row_fails(alloc, &row)? {
+        if let Some(piece) = row_fails(alloc, &net, &(&texts, *refusals, BUSY))? {
             return Ok(Some((at, piece)));
         }
     }
@@ -225,7 +184,7 @@ fn first_changing(
 /// The same for the text after which node 0 has no room for another ticket.
 fn first_changing_busy(alloc: Global) -> Result<Option<(usize, usize)>, Fail> {
     let text = busy(alloc)?;
-    first_changing(alloc, &text, &BEHIND_BUSY)
+    first_changing(alloc, &text, &AFTER_BUSY)
 }
 
 #[test]

@@ -1,5 +1,5 @@
 use Rattle.world.specs.SimulatedText.{simulated_start}
-use Rattle.run_recording.proofs.recording.record.Goals as goal
+use Rattle.run_recording.proofs.recording.recorded.Goals as goal
 
 pub returns-clause-recorded : goal.returns-clause-recorded
 returns-clause-recorded g c =
