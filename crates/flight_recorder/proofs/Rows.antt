@@ -1,5 +1,5 @@
 -- Recorders that are small enough to see through.
-use Rattle.std.proofs.Common.{◌≡◌, ℕ, Bool, true, false, List, [], ◌∷◌, Result, Ok, refl, arith, length}
+use Rattle.std.proofs.Common.{◌≡◌, ℕ, Bool, true, false, List, [], ◌∷◌, Result, Ok, refl, arith, length, replicate}
 use Rattle.std.proofs.lemmas.Grind.{common_steps}
 use Rattle.flight_records.specs.declared.entry.Entry.{Entry}
 use Rattle.flight_records.specs.declared.entry.Noted.{Noted}
@@ -33,8 +33,24 @@ start_first = refl
 stopped : after_note 5 tick (after_failure (at_start 65536 First)) ≡ after_failure (at_start 65536 First)
 stopped = refl
 
-not-due : is_due (after_failure (at_start 65536 First)) ≡ false
+not-due : is_due true (after_failure (at_start 65536 First)) ≡ false
 not-due = refl
+
+-- a page of 4096 bytes is due only after a quiet turn, one of 8192 after any
+abbrev long : ℕ → RecorderView
+long count = record (at_start 65536 First) { page = replicate count 0 }
+
+due-quiet : is_due true (long 4096) ≡ true
+due-quiet = refl
+
+not-due_quiet : is_due true (long 4095) ≡ false
+not-due_quiet = refl
+
+not-due_busy : is_due false (long 8191) ≡ false
+not-due_busy = refl
+
+due-busy : is_due false (long 8192) ≡ true
+due-busy = refl
 
 -- a file of 65536 bytes of which 32766 are written has room for a page more after one of 2 bytes, and
 -- none after one of 3

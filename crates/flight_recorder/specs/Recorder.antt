@@ -73,9 +73,10 @@ after_note instant n r =
       is_begun = true;
     }
 
--- the page must be written
-abbrev pub is_due : RecorderView → Bool
-is_due r = not r.is_stopped && nat_le 4096 (length r.page)
+-- the page must be written: from 4096 bytes on after a turn in which nothing came, and from 8192 on after
+-- any turn
+abbrev pub is_due : Bool → RecorderView → Bool
+is_due is_quiet r = not r.is_stopped && nat_le (if is_quiet then 4096 else 8192) (length r.page)
 
 -- with the page, the file has no room for one more
 abbrev pub fills : RecorderView → Bool

@@ -12,8 +12,11 @@ use std::marker::Model;
 /// How many bytes of entries a recorder keeps at most.
 pub const ROOM: usize = 32768;
 
-/// From how many bytes on the page is due.
+/// From how many bytes on the page is due after a turn in which nothing came.
 const PAGE: usize = 4096;
+
+/// From how many bytes on it is due after any turn.
+const LARGE_PAGE: usize = 8192;
 
 /// The most bytes of an entry.
 const LONGEST: usize = 121;
@@ -173,11 +176,13 @@ impl<A: Allocator> Recorder<A> {
         self.written
     }
 
-    /// Whether the page must be written.
-    pub fn is_due(&self) -> bool
-        ensures { result ≡ is_due self.now }
+    /// Whether the page must be written now. `is_quiet` says whether nothing came in the turn that has
+    /// ended: a node that had nothing to do may write, one that is busy does better to wait.
+    pub fn is_due(&self, is_quiet: bool) -> bool
+        ensures { result ≡ is_due is_quiet self.now }
     {
-        !self.is_stopped && self.page.len() >= PAGE
+        let least = if is_quiet { PAGE } else { LARGE_PAGE };
+        !self.is_stopped && self.page.len() >= least
     }
 
     /// The page.

@@ -1,7 +1,8 @@
 //! A node's record, in two files of its folder.
-ghost use Rattle.std.specs.Prelude.{◌≡◌, ◌≤◌, ◌⊎◌, IfOk, true, string_bytes};
-ghost use Rattle.node_recorder.specs.flight_recorder.Recorder.{after_failure, after_write};
+ghost use Rattle.std.specs.Prelude.{◌≡◌, ◌≤◌, ◌⊎◌, IfOk, true, false, string_bytes};
+ghost use Rattle.node_recorder.specs.flight_recorder.Recorder.{after_failure, after_write, is_due};
 ghost use Rattle.node_recorder.specs.flight_recorder.Names.{record_name};
+ghost use Rattle.node_recorder.specs.Quiet.{is_quiet};
 ghost use Rattle.node_recorder.specs.flight_recorder.declared.recorder.Side.TheVariants.{First, Second};
 ghost use Rattle.node_process.specs.Tapes.{file_bytes, of_side, side_to_begin};
 ghost use Rattle.node_process.specs.Tapes.{AreFirstPages, ArePagesAfter};
@@ -13,7 +14,7 @@ use crate::node::NodeWords;
 use node_loop::{Doors, NodeRun, Notes};
 use node_recorder::flight_recorder::flight_records::Deed;
 use node_recorder::flight_recorder::{LEAST_SIZE, Recorder, Side, record_name};
-use node_recorder::{NodeRecorder, network_mark};
+use node_recorder::{NodeRecorder, is_quiet, network_mark};
 use node_state_file::Store;
 use std::alloc::{AllocError, Global};
 use std::fmt::Display;
@@ -131,6 +132,8 @@ impl<'a, R: Files<File = File> + Clock + Eprint + AllocGlobal> Tape<'a, R> {
         now: u64,
     )
         ensures stopped { self.old.recorder.pages.is_stopped ≡ true → self.new ≡ self.old }
+        // A page that is due is written, or the record stops.
+        ensures written { is_due (is_quiet notes.now.deeds) self.new.recorder.pages ≡ false }
     {
         if self.recorder.pages().is_stopped() {
             return;
@@ -141,7 +144,7 @@ impl<'a, R: Files<File = File> + Clock + Eprint + AllocGlobal> Tape<'a, R> {
         self.note_links(run, instant);
         if self.recorder.pages().is_stopped() {
             self.stop(&"a turn has no room in a page");
-        } else if self.recorder.pages().is_due() {
+        } else if self.recorder.pages().is_due(is_quiet(notes.deeds())) {
             self.write();
         }
     }

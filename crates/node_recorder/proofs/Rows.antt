@@ -1,10 +1,11 @@
 -- Networks, names and records that are small enough to see through.
-use Rattle.std.proofs.Common.{◌≡◌, ℕ, [], ◌∷◌, refl, arith, codes}
+use Rattle.std.proofs.Common.{◌≡◌, ℕ, [], ◌∷◌, true, false, refl, arith, codes}
 use Rattle.topology.specs.Network.{Network}
-use Rattle.flight_recorder.specs.flight_records.declared.entry.Deed.TheVariants.{Ticks}
+use Rattle.flight_recorder.specs.flight_records.declared.entry.Deed.TheVariants.{Ticks, TakesAgain, SendsAgain}
 use Rattle.flight_recorder.specs.Recorder.{after_failure, at_start}
 use Rattle.flight_recorder.specs.declared.recorder.Side.TheVariants.{First}
 use Rattle.node_recorder.specs.Names.{network_name}
+use Rattle.node_recorder.specs.Quiet.{is_quiet}
 use Rattle.node_recorder.specs.Turns.{after_deeds, network_mark}
 
 abbrev pair : ℕ → Network
@@ -28,3 +29,10 @@ kept = refl
 
 kept-not : network_name (codes "run") ≡ codes "run/record-0.toml" → ⊥
 kept-not e = absurd cc
+
+-- a node that ticks and sends has a quiet turn; one that takes a frame, even the last one again, has none
+quiet : is_quiet (Ticks ∷ SendsAgain 1 ∷ []) ≡ true
+quiet = refl
+
+quiet-not : is_quiet (Ticks ∷ TakesAgain 1 ∷ []) ≡ false
+quiet-not = refl

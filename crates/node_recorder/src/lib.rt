@@ -10,7 +10,7 @@
 //!
 //! ```
 //! recorder.turn_ended(run.node(), notes.deeds(), notes.has_all(), now);
-//! if recorder.pages().is_due() { /* write it, as flight_recorder says */ }
+//! if recorder.pages().is_due(is_quiet(notes.deeds())) { /* write it, as flight_recorder says */ }
 //! ```
 //!
 //! A second node with other neighbours than the node's cannot take its state over; then the whole state
@@ -21,9 +21,11 @@
 #![tactic(auto)]
 
 mod name;
+mod quiet;
 mod recorder;
 
 pub use flight_recorder;
 pub use name::network_name;
 pub use node_follower;
+pub use quiet::is_quiet;
 pub use recorder::{NodeRecorder, network_mark};

@@ -21,6 +21,9 @@ const LEASED: &str =
 /// How often a node is asked how it stands, at most.
 const ASKS: u32 = 100_000;
 
+/// How often the root lends before a network counts as recovered from its start.
+const LOANS: u32 = 10;
+
 /// A command that has the lock to itself if it makes a new folder; it ends with status 9 if
 /// somebody else has made the folder.
 const WITNESS: &str =
@@ -238,9 +241,26 @@ fn serves(rt: &HostRuntime, dir: &str, id: u16, distance: u16) -> Result<bool, F
     Ok(false)
 }
 
-/// Whether each of the three nodes serves at last.
+/// Whether the root lends so often that the network has recovered. A node that starts may lend beside
+/// another one, since nothing holds of a network before that. After each loan the root's machine
+/// moves, and before the next one the value of that move has gone once around the ring. As soon as no
+/// other machine has the value of a move, the token is the only one (Dijkstra 1974); there are fewer
+/// other values than these loans.
+fn recovers(rt: &HostRuntime, dir: &str) -> Result<bool, Fail> {
+    let mut client = client(rt, dir, 0)?;
+    for _ in 0..LOANS {
+        let is_lent = ask(rt, &mut client, "lock\n")?.as_str() == "granted";
+        if !is_lent || ask(rt, &mut client, "unlock\n")?.as_str() != "released" {
+            return Ok(false);
+        }
+    }
+    Ok(true)
+}
+
+/// Whether each of the three nodes serves at last, and their network recovers.
 pub fn all_serve(rt: &HostRuntime, dir: &str) -> Result<bool, Fail> {
-    Ok(serves(rt, dir, 0, 0)? && serves(rt, dir, 1, 1)? && serves(rt, dir, 2, 1)?)
+    let serve = serves(rt, dir, 0, 0)? && serves(rt, dir, 1, 1)? && serves(rt, dir, 2, 1)?;
+    Ok(serve && recovers(rt, dir)?)
 }
 
 /// Waits for a file, at most a minute.
