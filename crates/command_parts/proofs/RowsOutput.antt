@@ -1,10 +1,10 @@
 -- Small examples of the fault of a command whose text standard output does not take, and some that are none.
-use Rattle.std.proofs.Common.{◌≡◌, ◌≢◌, None, Some, codes, refl, inl, inr, arith}
+use Rattle.std.proofs.Common.{◌≡◌, ◌≢◌, ℕ, None, Some, Result, Ok, Err, codes, refl, inl, inr, arith}
 use Rattle.std.specs.declared.io.Error.{Error}
 use Rattle.std.specs.declared.io.ErrorKind.TheVariants.{BrokenPipe, StorageFull}
 use Rattle.command_parts.specs.declared.fault.Fault.TheVariants.{Closed, EventsUnwritable, Memory, Output}
 use Rattle.command_parts.specs.FaultText.{fault_text}
-use Rattle.command_parts.specs.Output.{first_error, kept_fault, refused_for, IsKeptAs, IsUntaken}
+use Rattle.command_parts.specs.Output.{first_error, kept_fault, refused_for, IsKeptAs, IsUntaken, KeepsFirst}
 
 -- a pipe without a reader, and a full disk
 knows-closed : refused_for BrokenPipe ≡ Closed
@@ -27,6 +27,12 @@ untaken_not-file : ¬ IsUntaken EventsUnwritable
 untaken_not-file (inl e) = grind (arith, e)
 untaken_not-file (inr e) = grind (arith, e)
 
+abbrev done : Result ℕ ℕ
+done = Ok 0
+
+abbrev failed : Result ℕ ℕ
+failed = Err 0
+
 module _ (first next : Error) where
   -- what the system says of a later write is not asked for
   keeps-first : first_error (Some first) next ≡ Some first
@@ -37,6 +43,16 @@ module _ (first next : Error) where
 
   keeps_not-none : first_error None next ≢ None
   keeps_not-none e = grind (arith, e)
+
+  -- a call that failed again leaves the first error, and one that succeeded loses none
+  keeps-failed : KeepsFirst failed (Some first) (Some first)
+  keeps-failed = (next, refl)
+
+  keeps_not-lost : ¬ KeepsFirst failed (Some first) None
+  keeps_not-lost h = grind (arith, h.1)
+
+  keeps_not-made_up : ¬ KeepsFirst done None (Some first)
+  keeps_not-made_up h = grind (arith, h)
 
   -- memory that ran out stays that, whatever was written
   kept-memory : kept_fault Memory (Some first) ≡ Memory

@@ -1,5 +1,5 @@
 -- The fault of a command whose text standard output does not take.
-use Rattle.std.specs.Prelude.{◌≡◌, ◌⊎◌, Option, Some, None}
+use Rattle.std.specs.Prelude.{◌≡◌, ◌⊎◌, Option, Some, None, Result, Ok, Err}
 use Rattle.std.specs.IoError.{error_kind}
 use Rattle.std.specs.declared.io.Error.{Error}
 use Rattle.std.specs.declared.io.ErrorKind.{ErrorKind}
@@ -24,6 +24,12 @@ IsUntaken fault = (fault ≡ Output) ⊎ (fault ≡ Closed)
 abbrev pub first_error : Option Error → Error → Option Error
 first_error None error = Some error
 first_error (Some first) error = Some first
+
+-- After a call that succeeded the error that was kept is the same; after one that failed with an error it is
+-- the first one.
+abbrev pub KeepsFirst : {A E : Type 0} → Result A E → Option Error → Option Error → Type 0
+KeepsFirst (Ok x) before after = after ≡ before
+KeepsFirst (Err e) before after = (error : Error) × (after ≡ first_error before error)
 
 -- a fault of the output is that of the first error that was kept; any other is as it is
 abbrev pub kept_fault : Fault → Option Error → Fault

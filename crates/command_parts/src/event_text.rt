@@ -1,9 +1,9 @@
 //! The events text as a sink of events.
-ghost use Rattle.std.specs.Prelude.{◌≡◌, OnErr, OnOk, IsSome, None, []};
+ghost use Rattle.std.specs.Prelude.{◌≡◌, OnOk, None, []};
 ghost use Rattle.std.specs.Io.Buffered.{writer_buffer, writer_contents};
 ghost use Rattle.std.specs.Io.KnownBytes.{Keeps};
 ghost use Rattle.byte_streams.specs.Streams.{CountsFailures};
-ghost use Rattle.command_parts.specs.Output.{kept_fault, IsKeptAs};
+ghost use Rattle.command_parts.specs.Output.{kept_fault, IsKeptAs, KeepsFirst};
 
 use crate::fault::Fault;
 use crate::output::kept_fault;
@@ -55,7 +55,8 @@ impl<W: Write + Drop> EventText<W> {
         ensures bytes { Keeps (writer_contents W.contents self.old.writer)
             (writer_contents W.contents self.new.writer) }
         ensures cause { CountsFailures result self.old.failures self.new.failures }
-        ensures kept { OnErr result (IsSome self.new.first) }
+        // The error of the first failure is kept.
+        ensures kept { KeepsFirst result self.old.first self.new.first }
     {
         match self.writer.flush() {
             Ok(()) => Ok(()),
@@ -74,7 +75,9 @@ impl<W: Write + Drop> EventSink for EventText<W> {
 
     ghost failures = { λ t. t.failures };
 
-    fn take(&mut self, event: &Event) -> Result<(), Failed> {
+    fn take(&mut self, event: &Event) -> Result<(), Failed>
+        ensures kept { KeepsFirst result self.old.first self.new.first }
+    {
         match writeln!(self.writer, "{}", EventLine(*event)) {
             Ok(()) => Ok(()),
             Err(error) => Err(note_failure(&mut self.failures, &mut self.first, error)),

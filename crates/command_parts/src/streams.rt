@@ -3,11 +3,11 @@
 //! Std's readers and writers may show their bytes to contracts (`remaining`, `contents`). A file
 //! does not, so neither do these ends; but each of their calls says what it read from a reader
 //! that does, or wrote to such a writer.
-ghost use Rattle.std.specs.Prelude.{◌≡◌, ◌≤◌, ℕ, List, [], None, OnErr, OnOk, IsSome, length};
+ghost use Rattle.std.specs.Prelude.{◌≡◌, ◌≤◌, ℕ, List, [], None, OnOk, length};
 ghost use Rattle.std.specs.Io.Buffered.{writer_buffer, writer_contents};
 ghost use Rattle.std.specs.Io.KnownBytes.{Appends, Keeps, ReadConsumes};
 ghost use Rattle.byte_streams.specs.Streams.{CountsFailures, Reads, Rose, Writes};
-ghost use Rattle.command_parts.specs.Output.{first_error, kept_fault, IsKeptAs};
+ghost use Rattle.command_parts.specs.Output.{first_error, kept_fault, IsKeptAs, KeepsFirst};
 
 use crate::fault::Fault;
 use crate::output::kept_fault;
@@ -116,7 +116,8 @@ impl<W: Write + Drop> Flush for WriteSink<W> {
         ensures bytes { Keeps (writer_contents W.contents self.old.writer)
             (writer_contents W.contents self.new.writer) }
         ensures cause { CountsFailures result self.old.failures self.new.failures }
-        ensures kept { OnErr result (IsSome self.new.first) }
+        // The error of the first failure is kept.
+        ensures kept { KeepsFirst result self.old.first self.new.first }
     {
         match self.writer.flush() {
             Ok(()) => Ok(()),
@@ -136,7 +137,8 @@ impl<W: Write + Drop> Sink for WriteSink<W> {
         ensures all { OnOk result
             (Appends (writer_contents W.contents self.old.writer)
             (writer_contents W.contents self.new.writer) bytes.now) }
-        ensures kept { OnErr result (IsSome self.new.first) }
+        // The error of the first failure is kept.
+        ensures kept { KeepsFirst result self.old.first self.new.first }
     {
         match self.writer.write_all(bytes) {
             Ok(()) => Ok(bytes.len()),
