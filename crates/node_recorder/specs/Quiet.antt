@@ -1,23 +1,23 @@
 -- Turns in which nothing came.
-use Rattle.std.specs.List.{list_any}
-use Rattle.std.specs.Prelude.{Bool, true, false, not, List}
+use Rattle.std.specs.List.{list_all}
+use Rattle.std.specs.Prelude.{Bool, true, false, List}
 use Rattle.flight_recorder.specs.flight_records.declared.entry.Deed.{Deed}
 use Rattle.flight_recorder.specs.flight_records.declared.entry.Deed.TheVariants as deed
 
--- a frame was taken, or a client asked for the lock or left
-abbrev pub came : Deed → Bool
-came deed.Ticks = false
-came (deed.Takes from frame) = true
-came (deed.TakesAgain from) = true
-came (deed.Sends to frame) = false
-came (deed.SendsAgain to) = false
-came (deed.Asks ticket) = true
-came (deed.Leaves ticket) = true
-came (deed.Joins neighbour) = false
-came (deed.Parts neighbour) = false
-came (deed.Connects neighbour) = false
-came (deed.Disconnects neighbour) = false
+-- what a node does by itself: not because a frame was taken, or a client asked for the lock or left
+abbrev pub is_own : Deed → Bool
+is_own deed.Ticks = true
+is_own (deed.Takes from frame) = false
+is_own (deed.TakesAgain from) = false
+is_own (deed.Sends to frame) = true
+is_own (deed.SendsAgain to) = true
+is_own (deed.Asks ticket) = false
+is_own (deed.Leaves ticket) = false
+is_own (deed.Joins neighbour) = true
+is_own (deed.Parts neighbour) = true
+is_own (deed.Connects neighbour) = true
+is_own (deed.Disconnects neighbour) = true
 
 -- a turn with these deeds, in which nothing came
 abbrev pub is_quiet : List Deed → Bool
-is_quiet ds = not (list_any came ds)
+is_quiet ds = list_all is_own ds

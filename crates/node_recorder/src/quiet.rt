@@ -1,6 +1,6 @@
 //! Turns in which nothing came.
 ghost use Rattle.std.specs.Prelude.{◌≡◌};
-ghost use Rattle.node_recorder.specs.Quiet.{came, is_quiet};
+ghost use Rattle.node_recorder.specs.Quiet.{is_own, is_quiet};
 
 use flight_recorder::flight_records::Deed;
 
@@ -9,22 +9,22 @@ use flight_recorder::flight_records::Deed;
 pub fn is_quiet(deeds: &[Deed]) -> bool
     ensures { result ≡ is_quiet deeds.now }
 {
-    !deeds.iter().any(|deed| came(deed))
+    deeds.iter().all(|deed| is_own(deed))
 }
 
-/// Whether something came with this deed.
-fn came(deed: &Deed) -> bool
-    ensures { result ≡ came deed.now }
+/// Whether a node does this by itself, and not because a frame or a client came.
+fn is_own(deed: &Deed) -> bool
+    ensures { result ≡ is_own deed.now }
 {
     match deed {
         Deed::Takes { .. } | Deed::TakesAgain { .. } | Deed::Asks { .. } | Deed::Leaves { .. } =>
-            true,
+            false,
         Deed::Ticks
         | Deed::Sends { .. }
         | Deed::SendsAgain { .. }
         | Deed::Joins { .. }
         | Deed::Parts { .. }
         | Deed::Connects { .. }
-        | Deed::Disconnects { .. } => false,
+        | Deed::Disconnects { .. } => true,
     }
 }
