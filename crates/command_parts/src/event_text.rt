@@ -1,5 +1,5 @@
 //! The events text as a sink of events.
-ghost use Rattle.std.specs.Prelude.{◌≡◌, OnOk, None, []};
+ghost use Rattle.std.specs.Prelude.{◌≡◌, ◌∷◌, OnOk, None, []};
 ghost use Rattle.std.specs.Io.Buffered.{writer_buffer, writer_contents};
 ghost use Rattle.std.specs.Io.KnownBytes.{Keeps};
 ghost use Rattle.byte_streams.specs.Streams.{CountsFailures};
@@ -76,6 +76,10 @@ impl<W: Write + Drop> EventSink for EventText<W> {
     ghost failures = { λ t. t.failures };
 
     fn take(&mut self, event: &Event) -> Result<(), Failed>
+        ensures taken { OnOk result (GrowsByText (writer_contents W.contents self.old.writer)
+            (event.now ∷ []) (writer_contents W.contents self.new.writer)) }
+        ensures cause { CountsFailures result self.old.failures self.new.failures }
+        // The error of the first failure is kept.
         ensures kept { KeepsFirst result self.old.first self.new.first }
     {
         match writeln!(self.writer, "{}", EventLine(*event)) {
