@@ -257,10 +257,14 @@ fn recovers(rt: &HostRuntime, dir: &str) -> Result<bool, Fail> {
     Ok(true)
 }
 
-/// Whether each of the three nodes serves at last, and their network recovers.
+/// Whether each of the three nodes serves at last.
 pub fn all_serve(rt: &HostRuntime, dir: &str) -> Result<bool, Fail> {
-    let serve = serves(rt, dir, 0, 0)? && serves(rt, dir, 1, 1)? && serves(rt, dir, 2, 1)?;
-    Ok(serve && recovers(rt, dir)?)
+    Ok(serves(rt, dir, 0, 0)? && serves(rt, dir, 1, 1)? && serves(rt, dir, 2, 1)?)
+}
+
+/// The same, and whether their network recovers.
+fn all_recover(rt: &HostRuntime, dir: &str) -> Result<bool, Fail> {
+    Ok(all_serve(rt, dir)? && recovers(rt, dir)?)
 }
 
 /// Waits for a file, at most a minute.
@@ -308,7 +312,7 @@ fn ends_as_its_command(rt: &HostRuntime, dir: &str) -> Result<bool, Fail> {
     ends(rt, locker(rt, dir, 0, "exit 7", "1")?, "status 7", "")
 }
 
-/// What is known of lockers at running nodes: whether the nodes serve, how often each of two
+/// What is known of lockers at running nodes: whether the nodes recover, how often each of two
 /// lockers ended well, how often the lock was taken then, and whether `lock` ends as its command
 /// does, and without a command as its input does.
 type Locked = (bool, (usize, usize), usize, [bool; 2]);
@@ -316,7 +320,7 @@ type Locked = (bool, (usize, usize), usize, [bool; 2]);
 /// Has lockers take the lock.
 fn locked(rt: &HostRuntime, dir: &str) -> Result<Locked, Fail> {
     Ok((
-        all_serve(rt, dir)?,
+        all_recover(rt, dir)?,
         compete(rt, dir)?,
         taken(rt, dir)?,
         [
@@ -399,7 +403,7 @@ fn is_not_there(rt: &HostRuntime, dir: &str) -> Result<bool, Fail> {
 /// What is known while node 1 is there, when it is killed, and once it is gone.
 fn lost(rt: &HostRuntime, dir: &str, one: &mut Child) -> Result<[bool; 6], Fail> {
     Ok([
-        all_serve(rt, dir)?,
+        all_recover(rt, dir)?,
         is_there_once(rt, dir)?,
         is_waited_for_in_vain(rt, dir)?,
         is_lost_with_its_node(rt, dir, one)?,
