@@ -64,17 +64,20 @@ pub(crate) fn trees<A: Allocator>(node: &Node<A>, net: &Net) -> [bool; NODES]
 }
 
 /// By id, the values of the machines that come in from the neighbours; 0 for all others.
-pub(crate) fn values<A: Allocator>(node: &Node<A>) -> [u16; NODES]
+pub(crate) fn values<A: Allocator>(node: &Node<A>, net: &Net) -> [u16; NODES]
+    requires id { (site_in node.now).id < net.now.nodes }
+    requires site { site_in node.now ≡ site_of net.now (site_in node.now).id }
     ensures neighbours { (w : ℕ) → w < 64 → Contains (site_in node.now).neighbours w
         → slice_index_or result w 0 ≡ (state_of node.now).value w }
     ensures others { (w : ℕ) → ¬ Contains (site_in node.now).neighbours w
         → slice_index_or result w 0 ≡ 0 }
 {
+    topology::laws::neighbours();
+    topology::laws::limits();
+    let _known = net.nodes();
     let mut values = [0; NODES];
-    for id in 0..NODES {
-        if node.is_neighbour(id as u16) {
-            values[id] = node.value(id as u16);
-        }
+    for w in node.neighbours() {
+        values[*w as usize] = node.value(*w);
     }
     values
 }
@@ -91,15 +94,16 @@ pub(crate) fn sights<P: Pipe, A: Allocator>(
     ensures { (w : ℕ) → w < 64 → Contains (site_in node.now).neighbours w
         → sight_of result w ≡ sight_at node.now ports.now w }
 {
+    topology::laws::neighbours();
+    topology::laws::limits();
+    let _known = net.nodes();
     let mut sights = [no_sight(); NODES];
-    for id in 0..NODES as u16 {
-        if node.is_neighbour(id) {
-            sights[id as usize] = PortSight {
-                takes_frames: ports[id as usize].takes_frames(),
-                frame: node.frame_for(id),
-                present: node.payload_for(id),
-            };
-        }
+    for w in node.neighbours() {
+        sights[*w as usize] = PortSight {
+            takes_frames: ports[*w as usize].takes_frames(),
+            frame: node.frame_for(*w),
+            present: node.payload_for(*w),
+        };
     }
     sights
 }

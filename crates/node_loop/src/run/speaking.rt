@@ -42,9 +42,9 @@ impl<D: Doors, S: Store + Drop, A: Allocator + Copy> NodeRun<D, S, A> {
         ensures rest { (self.new.net ≡ self.old.net) × (self.new.turns ≡ self.old.turns)
             × (self.new.store ≡ self.old.store) }
     {
-        let before = sight::values(&self.node);
+        let before = sight::values(&self.node, &self.net);
         let ticked = service::tick(&mut self.node, notes, &mut self.clients);
-        let moved = sight::values(&self.node) != before;
+        let moved = sight::values(&self.node, &self.net) != before;
         let outlook = sight::outlook(&self.node, self.let_go);
         let trees = sight::trees(&self.node, &self.net);
         self.pace.ticked(&outlook, moved, &trees, now);

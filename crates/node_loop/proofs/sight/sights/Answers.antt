@@ -1,46 +1,66 @@
-use Rattle.std.proofs.Common.{◌≡◌, ◌<◌, Bool, true, false, ap, length, refl, arith}
+use Rattle.std.proofs.Common.{◌≡◌, ◌<◌, ap, length, take, refl, slice_index_or, slice_set, subst, sym, Contains, rules, arith}
+use Rattle.std.proofs.lemmas.List.{take_all}
 use Rattle.std.proofs.lemmas.Option.{slice_get_read}
 use Rattle.node_core.specs.View.{site_in}
+use Rattle.pace.specs.Plans.{no_sight}
+use Rattle.pace.specs.declared.port.PortSight.{PortSight}
 use Rattle.node_loop.specs.Speaking.{sight_at}
-use Rattle.node_loop.proofs.Sights.{seen-as, seen-start, seen-next, seen-on}
-use Rattle.node_loop.proofs.sight.sights.Goals.{then-is_neighbour, else-is_neighbour}
+use Rattle.node_loop.proofs.Sights.{AreSeen, is-few-at, is-node-at, seen-as, seen-next, seen-start, take-next}
 use Rattle.node_loop.proofs.sight.sights.Goals as goal
 
-pub loop-id-init : goal.loop-id-init
-loop-id-init g c = seen-start (site_in c.args.node.now).neighbours (sight_at c.args.node.now c.args.ports.now) _ refl
-
-pub loop-id-preserved : goal.loop-id-preserved
-loop-id-preserved g c =
-    let node = c.args.node.now in
-    let ports = c.args.ports.now in
-    let id = c.loop-id.id in
-    elim c.if-is_neighbour.branch [
-      | then-is_neighbour w ↦ (
-          let nodes : node.registers.ranges.nodes ≡ c.args.net.now.nodes = ap (λ s. s.ranges.nodes) c.requires.site in
-          let within : id < length ports = let below = w.if-is_neighbour.ensures.node refl in let long = c.requires.ports.0 in omega arith in
-          rw w.sights-is (seen-next (site_in node).neighbours (sight_at node ports) c.loop-id.sights id _ c.loop-id-test.true
-          (seen-as node ports id w.index-ports-id.result _ _ _ (slice_get_read ports (length ports) id w.index-ports-id.result refl within w.index-ports-id.is)
-          w.takes_frames.ensures w.frame_for.ensures.frame w.payload_for.ensures.payload)
-          c.loop-id.invariant))
-      | else-is_neighbour w ↦ rw w.sights-is (seen-on (site_in node).neighbours (sight_at node ports) c.loop-id.sights id
-          (λ has. let no : ◌≡◌ {A = Bool} false true = w.if-is_neighbour.ensures.neighbour.1 has in grind (arith, no)) c.loop-id.invariant)
-    ]
+pub loop-w-init : goal.loop-w-init
+loop-w-init g c = seen-start (sight_at c.args.node.now c.args.ports.now) no_sight _ refl
 
 pub payload_for-requires : goal.payload_for-requires
-payload_for-requires g c = c.if-is_neighbour.ensures.node refl
-
-pub returns : goal.returns
-returns g c w here has = c.loop-id.invariant.below w (let end = c.loop-id-test.false in omega arith) has
+payload_for-requires g c =
+    let site = site_in c.args.node.now in
+    is-node-at c.neighbours.ensures.joined c.args.net.now site.id site c.requires.site c.neighbours-w-items.result.now c.neighbours-w-items.ensures c.loop-w.w-index c.loop-w-test.true
 
 pub frame_for-requires : goal.frame_for-requires
-frame_for-requires g c = c.if-is_neighbour.ensures.node refl
+frame_for-requires g c =
+    let site = site_in c.args.node.now in
+    is-node-at c.neighbours.ensures.joined c.args.net.now site.id site c.requires.site c.neighbours-w-items.result.now c.neighbours-w-items.ensures c.loop-w.w-index c.loop-w-test.true
 
-pub bounds-ports-id : goal.bounds-ports-id
-bounds-ports-id g c =
-    let nodes : c.args.node.now.registers.ranges.nodes ≡ c.args.net.now.nodes = ap (λ s. s.ranges.nodes) c.requires.site in
-    let below = c.if-is_neighbour.ensures.node refl in let long = c.requires.ports.0 in omega arith
+pub bounds-sights-w : goal.bounds-sights-w
+bounds-sights-w g c =
+    let site = site_in c.args.node.now in
+    is-few-at c.limits.ensures c.neighbours.ensures.joined c.args.net.now site.id site c.nodes-known.ensures.network c.requires.site
+    c.neighbours-w-items.result.now c.neighbours-w-items.ensures c.loop-w.w-index c.loop-w-test.true
 
-pub offset_bounds-ports-id : goal.offset_bounds-ports-id
-offset_bounds-ports-id g c =
-    let nodes : c.args.node.now.registers.ranges.nodes ≡ c.args.net.now.nodes = ap (λ s. s.ranges.nodes) c.requires.site in
-    let below = c.if-is_neighbour.ensures.node refl in let long = c.requires.ports.0 in omega arith
+pub bounds-ports-w : goal.bounds-ports-w
+bounds-ports-w g c =
+    let site = site_in c.args.node.now in
+    let nodes : site.ranges.nodes ≡ c.args.net.now.nodes = ap (λ s. s.ranges.nodes) c.requires.site in
+    let below =
+    is-node-at c.neighbours.ensures.joined c.args.net.now site.id site c.requires.site c.neighbours-w-items.result.now c.neighbours-w-items.ensures c.loop-w.w-index c.loop-w-test.true in
+    let long = c.requires.ports.0 in
+    omega arith
+
+pub offset_bounds-ports-w : goal.offset_bounds-ports-w
+offset_bounds-ports-w g c = let within = bounds-ports-w g c in omega arith
+
+pub loop-w-preserved : goal.loop-w-preserved
+loop-w-preserved g c =
+    let node = c.args.node.now in
+    let ports = c.args.ports.now in
+    let site = site_in node in
+    let items = c.neighbours-w-items.result.now in
+    let i = c.loop-w.w-index in
+    let w = slice_index_or items i 0 in
+    let there : i < length site.neighbours = search rules in
+    let nodes : site.ranges.nodes ≡ c.args.net.now.nodes = ap (λ s. s.ranges.nodes) c.requires.site in
+    let below : w < site.ranges.nodes =
+    is-node-at c.neighbours.ensures.joined c.args.net.now site.id site c.requires.site items c.neighbours-w-items.ensures i c.loop-w-test.true in
+    let few : w < 64 =
+    is-few-at c.limits.ensures c.neighbours.ensures.joined c.args.net.now site.id site c.nodes-known.ensures.network c.requires.site items c.neighbours-w-items.ensures i c.loop-w-test.true in
+    let within : w < length ports = let long = c.requires.ports.0 in omega arith in
+    let sight : PortSight = record { takes_frames = c.takes_frames.result; frame = c.frame_for.result; present = c.payload_for.result } in
+    subst (λ vs. AreSeen (sight_at node ports) no_sight vs (slice_set c.loop-w.sights w sight)) (sym (take-next items site.neighbours c.neighbours-w-items.ensures i there))
+    (seen-next (sight_at node ports) no_sight (take i site.neighbours) c.loop-w.sights w sight few
+    (seen-as node ports w c.index-ports-w.result _ _ _ (slice_get_read ports (length ports) w c.index-ports-w.result refl within c.index-ports-w.is)
+    c.takes_frames.ensures c.frame_for.ensures.frame c.payload_for.ensures.payload)
+    c.loop-w.invariant)
+
+pub returns : goal.returns
+returns g c w below has =
+    c.loop-w.invariant.seen w (subst (λ vs. Contains vs w) (sym (take_all c.loop-w.w-index (site_in c.args.node.now).neighbours (search rules))) has)

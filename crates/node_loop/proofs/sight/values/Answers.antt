@@ -1,26 +1,31 @@
-use Rattle.std.proofs.Common.{◌≡◌, Bool, true, false, refl, arith}
+use Rattle.std.proofs.Common.{◌<◌, length, take, refl, slice_set, slice_index_or, subst, sym, rules}
 use Rattle.node_core.specs.View.{site_in, state_of}
-use Rattle.node_loop.proofs.Sights.{shown-start, shown-next, shown-on}
-use Rattle.node_loop.proofs.sight.values.Goals.{then-is_neighbour, else-is_neighbour}
+use Rattle.node_loop.proofs.Sights.{AreSeen, NoneElse, is-few-at, is-node-at, none-next, none-start, seen-next, seen-start, take-next}
 use Rattle.node_loop.proofs.sight.values.Goals as goal
 
-pub loop-id-init : goal.loop-id-init
-loop-id-init g c = shown-start (site_in c.args.node.now).neighbours (state_of c.args.node.now).value
+pub loop-w-init : goal.loop-w-init
+loop-w-init g c = (seen-start (state_of c.args.node.now).value 0 _ refl, none-start)
 
-pub loop-id-preserved : goal.loop-id-preserved
-loop-id-preserved g c =
-    let neighbours = (site_in c.args.node.now).neighbours in
+pub value-requires : goal.value-requires
+value-requires g c =
+    let site = site_in c.args.node.now in
+    is-node-at c.neighbours.ensures.joined c.args.net.now site.id site c.requires.site c.neighbours-w-items.result.now c.neighbours-w-items.ensures c.loop-w.w-index c.loop-w-test.true
+
+pub bounds-values-w : goal.bounds-values-w
+bounds-values-w g c =
+    let site = site_in c.args.node.now in
+    is-few-at c.limits.ensures c.neighbours.ensures.joined c.args.net.now site.id site c.nodes-known.ensures.network c.requires.site
+    c.neighbours-w-items.result.now c.neighbours-w-items.ensures c.loop-w.w-index c.loop-w-test.true
+
+pub loop-w-preserved : goal.loop-w-preserved
+loop-w-preserved g c =
     let value = (state_of c.args.node.now).value in
-    let id = c.loop-id.id in
-    elim c.if-is_neighbour.branch [
-      | then-is_neighbour w ↦ rw w.values-is (shown-next neighbours value c.loop-id.values id w.value.result c.loop-id-test.true (w.if-is_neighbour.ensures.neighbour.0 refl) w.value.ensures
-          c.loop-id.invariant)
-      | else-is_neighbour w ↦ rw w.values-is (shown-on neighbours value c.loop-id.values id
-          (λ has. let no : ◌≡◌ {A = Bool} false true = w.if-is_neighbour.ensures.neighbour.1 has in grind (arith, no)) c.loop-id.invariant)
-    ]
-
-pub returns-clause-neighbours : goal.returns-clause-neighbours
-returns-clause-neighbours g c w below has = c.loop-id.invariant.below w (let end = c.loop-id-test.false in omega arith) has
-
-pub returns-clause-others : goal.returns-clause-others
-returns-clause-others g c w none = c.loop-id.invariant.others w (λ less. none)
+    let ws = (site_in c.args.node.now).neighbours in
+    let i = c.loop-w.w-index in
+    let w = slice_index_or c.neighbours-w-items.result.now i 0 in
+    let there : i < length ws = search rules in
+    let next = slice_set c.loop-w.values w c.value.result in
+    subst (λ vs. AreSeen value 0 vs next × NoneElse vs next) (sym (take-next c.neighbours-w-items.result.now ws c.neighbours-w-items.ensures i there)) (
+      seen-next value 0 (take i ws) c.loop-w.values w c.value.result (bounds-values-w g c) c.value.ensures c.loop-w.invariant.0,
+      none-next (take i ws) c.loop-w.values w c.value.result c.loop-w.invariant.1,
+    )
