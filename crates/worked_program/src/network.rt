@@ -229,7 +229,7 @@ fn ask(rt: &HostRuntime, client: &mut UnixStream, line: &str) -> Result<String, 
 
 /// Asks a node how it stands until it says that it is this far from the root, and then asks for
 /// the lock once, so that its network is up.
-fn serves(rt: &HostRuntime, dir: &str, id: u16, distance: u16) -> Result<bool, Fail> {
+pub fn serves(rt: &HostRuntime, dir: &str, id: u16, distance: u16) -> Result<bool, Fail> {
     let mut client = client(rt, dir, id)?;
     let begin = format!(in rt.alloc(); "node {id} distance {distance} ")?;
     for _ in 0..ASKS {

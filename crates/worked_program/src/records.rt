@@ -1,6 +1,6 @@
 //! What the records of three nodes' processes say: woven into events and replayed, they lead to where the
 //! nodes stood.
-use crate::network::{RING, all_serve, clean, copy, fresh_folder, kill, node_with, stops};
+use crate::network::{RING, all_serve, clean, copy, fresh_folder, kill, node_with, serves, stops};
 use std::io::Write;
 use std::os::unix::net::UnixStream;
 use std::process::Child;
@@ -141,6 +141,18 @@ fn forge(rt: &HostRuntime, dir: &str) -> Result<(), Fail> {
     Ok(())
 }
 
+/// Starts nodes 0 and 2, sends the forged frames once both serve, and only then starts node 1. So no other
+/// difference comes before these frames: `gather` names the first ones alone. Whether the nodes serve before
+/// and after.
+fn start_with_forged(rt: &HostRuntime, dir: &str) -> Result<(Trio, bool), Fail> {
+    let (zero, two) = (recorded(rt, dir, 0)?, recorded(rt, dir, 2)?);
+    let serve_alone = serves(rt, dir, 0, 0)? && serves(rt, dir, 2, 1)?;
+    forge(rt, dir)?;
+    let one = recorded(rt, dir, 1)?;
+    let serve = all_serve(rt, dir)?;
+    Ok((Trio { zero, one, two }, serve_alone && serve))
+}
+
 /// Kills node 1, and starts it again.
 fn start_again(rt: &HostRuntime, dir: &str, trio: &mut Trio) -> Result<(), Fail> {
     kill(&mut trio.one)?;
@@ -151,8 +163,7 @@ fn start_again(rt: &HostRuntime, dir: &str, trio: &mut Trio) -> Result<(), Fail>
 /// Node 0 gets forged frames, and node 1 is killed and starts again: whether the nodes serve before and
 /// after, rest, and stop; whether the replay rests; and whether a forged frame is named.
 fn disturbed(rt: &HostRuntime, dir: &str) -> Result<[bool; 6], Fail> {
-    let (mut trio, serve) = start(rt, dir)?;
-    forge(rt, dir)?;
+    let (mut trio, serve) = start_with_forged(rt, dir)?;
     start_again(rt, dir, &mut trio)?;
     let serve_again = all_serve(rt, dir)?;
     let at_rest = rest(rt, dir)?;
