@@ -73,8 +73,7 @@ after_note instant n r =
       is_begun = true;
     }
 
--- the page must be written: from 4096 bytes on after a turn in which nothing came, and from 8192 on after
--- any turn
+-- the page must be written: from 4096 bytes on after a quiet turn, and from 8192 on after any turn
 abbrev pub is_due : Bool → RecorderView → Bool
 is_due is_quiet r = not r.is_stopped && nat_le (if is_quiet then 4096 else 8192) (length r.page)
 

@@ -3,8 +3,9 @@
 //! A record is kept in two files of a fixed size, which are written in turn, so that the last file
 //! and what came of the present one are always there. A [`Recorder`] keeps a page of entries. What
 //! the node did is noted; at the end of a turn in which the page has become due, whoever drives the
-//! recorder writes it to the end of the present file, and says so or that it failed. After a turn in which
-//! nothing came it is due sooner than after a busy one, so that a write rarely stands in the way of a lock.
+//! recorder writes it to the end of the present file, and says so or that it failed. After a quiet turn, in
+//! which nobody needed the node, it is due sooner than after a busy one: whoever waits for a lock should not
+//! wait for a write.
 //!
 //! ```
 //! recorder.note(now, Noted::Deed(Deed::Ticks));

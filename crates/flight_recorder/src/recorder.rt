@@ -12,7 +12,7 @@ use std::marker::Model;
 /// How many bytes of entries a recorder keeps at most.
 pub const ROOM: usize = 32768;
 
-/// From how many bytes on the page is due after a turn in which nothing came.
+/// From how many bytes on the page is due after a quiet turn.
 const PAGE: usize = 4096;
 
 /// From how many bytes on it is due after any turn.
@@ -176,8 +176,8 @@ impl<A: Allocator> Recorder<A> {
         self.written
     }
 
-    /// Whether the page must be written now. `is_quiet` says whether nothing came in the turn that has
-    /// ended: a node that had nothing to do may write, one that is busy does better to wait.
+    /// Whether the page must be written now. `is_quiet` says whether nobody needed the node in the turn
+    /// that has ended: then it may write, and a busy node does better to wait.
     pub fn is_due(&self, is_quiet: bool) -> bool
         ensures { result ≡ is_due is_quiet self.now }
     {

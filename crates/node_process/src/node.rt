@@ -312,7 +312,7 @@ fn take_turn<'a, R: Files<File = File> + Sockets + Clock + Eprint + AllocGlobal>
     observer.window.turn_ended(run, &turned, ended);
     let clients = run.doors().look_at_clients();
     observer.journal.turn_ended(run, &turned, clients, ended);
-    observer.record(run, now);
+    observer.record(run, turned.is_to_look(), now);
     if run.doors().may_be_looked_at() {
         show_all(alloc, &observer.window, run, ended);
     }

@@ -65,18 +65,24 @@ impl<'a, 'w, R: Files<File = File> + Clock + Eprint + AllocGlobal> Observer<'a, 
     {
         let ended = self.watch.now();
         self.window.attended(run, ended);
-        self.record(run, now);
+        self.record(run, false, now);
     }
 
     /// Records what the node noted of a turn, or of what it did between two turns, which began at
-    /// this time.
-    pub fn record<D: Doors, S: Store + Drop>(&mut self, run: &NodeRun<D, S>, now: u64)
+    /// this time. `must_settle` says whether it may have other neighbours before its next turn,
+    /// or end.
+    pub fn record<D: Doors, S: Store + Drop>(
+        &mut self,
+        run: &NodeRun<D, S>,
+        must_settle: bool,
+        now: u64,
+    )
         ensures off { self.old.tape ≡ None → self.new ≡ self.old }
         ensures others { (self.new.journal ≡ self.old.journal) × (self.new.window ≡ self.old.window)
             × (self.new.watch ≡ self.old.watch) × (self.new.notes ≡ self.old.notes) }
     {
         if let Some(tape) = &mut self.tape {
-            tape.turn_ended(run, &self.notes, now);
+            tape.turn_ended(run, &self.notes, must_settle, now);
         }
     }
 

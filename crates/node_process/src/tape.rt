@@ -1,7 +1,10 @@
 //! A node's record, in two files of its folder.
-ghost use Rattle.std.specs.Prelude.{◌≡◌, ◌≤◌, ◌⊎◌, IfOk, true, false, string_bytes};
+ghost use Rattle.std.specs.Prelude.{◌≡◌, ◌≤◌, ◌⊎◌, ◌||◌, IfOk, IsTrue, true, false, string_bytes};
+ghost use Rattle.std.specs.Prelude.{if◌then◌else◌};
 ghost use Rattle.node_recorder.specs.flight_recorder.Recorder.{after_failure, after_write, is_due};
 ghost use Rattle.node_recorder.specs.flight_recorder.Names.{record_name};
+ghost use Rattle.node_recorder.specs.flight_recorder.flight_records.declared.entry.Deed.TheVariants.{Connects, Disconnects};
+ghost use Rattle.node_recorder.specs.Backlog.{nothing};
 ghost use Rattle.node_recorder.specs.Quiet.{is_quiet};
 ghost use Rattle.node_recorder.specs.flight_recorder.declared.recorder.Side.TheVariants.{First, Second};
 ghost use Rattle.node_process.specs.Tapes.{file_bytes, of_side, side_to_begin};
@@ -124,34 +127,53 @@ impl<'a, R: Files<File = File> + Clock + Eprint + AllocGlobal> Tape<'a, R> {
     }
 
     /// The node took a turn, or did something between two turns, and noted its deeds. `now` is when
-    /// it began, by the node's clock. A record that has stopped sees nothing.
+    /// it began, by the node's clock. If `must_settle` is yes, no deed may wait to be noted: the node may
+    /// have other neighbours before its next turn, or end. A record that has stopped sees nothing.
     pub fn turn_ended<D: Doors, S: Store + Drop>(
         &mut self,
         run: &NodeRun<D, S>,
         notes: &Notes,
+        must_settle: bool,
         now: u64,
     )
         ensures stopped { self.old.recorder.pages.is_stopped ≡ true → self.new ≡ self.old }
         // A page that is due is written, or the record stops.
         ensures written { is_due (is_quiet notes.now.deeds) self.new.recorder.pages ≡ false }
+        // After a quiet turn, and if none may wait, no deed waits to be noted.
+        ensures settled { self.old.recorder.pages.is_stopped ≡ false
+            → IsTrue (is_quiet notes.now.deeds || must_settle) → self.new.recorder.backlog ≡ nothing }
     {
         if self.recorder.pages().is_stopped() {
             return;
         }
         let instant = self.start.saturating_add(now);
-        self.recorder
-            .turn_ended(run.node(), notes.deeds(), notes.has_all(), instant);
-        self.note_links(run, instant);
+        let is_quiet = is_quiet(notes.deeds());
+        let may_wait = !is_quiet && !must_settle;
+        self.recorder.turn_ended(
+            run.node(),
+            notes.deeds(),
+            notes.has_all(),
+            may_wait,
+            instant,
+        );
+        self.note_links(run, may_wait, instant);
         if self.recorder.pages().is_stopped() {
             self.stop(&"a turn has no room in a page");
-        } else if self.recorder.pages().is_due(is_quiet(notes.deeds())) {
+        } else if self.recorder.pages().is_due(is_quiet) {
             self.write();
         }
     }
 
     /// Notes the connections that began or ended.
-    fn note_links<D: Doors, S: Store + Drop>(&mut self, run: &NodeRun<D, S>, instant: u64)
-        ensures { self.new.names ≡ self.old.names }
+    fn note_links<D: Doors, S: Store + Drop>(
+        &mut self,
+        run: &NodeRun<D, S>,
+        may_wait: bool,
+        instant: u64,
+    )
+        ensures names { self.new.names ≡ self.old.names }
+        ensures settled { may_wait ≡ false → self.old.recorder.backlog ≡ nothing
+            → self.new.recorder.backlog ≡ nothing }
     {
         let nodes = usize::from(run.net().nodes()).min(NODES);
         for id in 0..nodes {
@@ -159,27 +181,25 @@ impl<'a, R: Files<File = File> + Clock + Eprint + AllocGlobal> Tape<'a, R> {
             let is_linked = matches!(run.link(neighbour), Some(sight) if sight.is_up);
             if is_linked != self.linked[id] {
                 self.linked[id] = is_linked;
-                self.note_link(run, neighbour, is_linked, instant);
+                self.note_link(run, link_deed(neighbour, is_linked), may_wait, instant);
             }
         }
     }
 
-    /// Notes that the connection with a neighbour began, or that it ended.
+    /// Notes that a connection began or ended.
     fn note_link<D: Doors, S: Store + Drop>(
         &mut self,
         run: &NodeRun<D, S>,
-        neighbour: u16,
-        is_linked: bool,
+        deed: Deed,
+        may_wait: bool,
         instant: u64,
     )
-        ensures { (self.new.names ≡ self.old.names) × (self.new.linked ≡ self.old.linked) }
+        ensures names { (self.new.names ≡ self.old.names) × (self.new.linked ≡ self.old.linked) }
+        ensures settled { may_wait ≡ false → self.old.recorder.backlog ≡ nothing
+            → self.new.recorder.backlog ≡ nothing }
     {
-        let deed = if is_linked {
-            Deed::Connects { neighbour }
-        } else {
-            Deed::Disconnects { neighbour }
-        };
-        self.recorder.turn_ended(run.node(), &[deed], true, instant);
+        self.recorder
+            .turn_ended(run.node(), &[deed], true, may_wait, instant);
     }
 
     /// The node may have other neighbours from now on. If so, the network's text is kept again.
@@ -204,7 +224,8 @@ impl<'a, R: Files<File = File> + Clock + Eprint + AllocGlobal> Tape<'a, R> {
     /// Writes the page to the end of the present file. If that fails, the record stops, and a line
     /// says so.
     fn write(&mut self)
-        ensures { (self.new.recorder.pages ≡ after_write self.old.recorder.pages)
+        ensures backlog { self.new.recorder.backlog ≡ self.old.recorder.backlog }
+        ensures pages { (self.new.recorder.pages ≡ after_write self.old.recorder.pages)
             ⊎ (self.new.recorder.pages ≡ after_failure self.old.recorder.pages) }
     {
         match self.append() {
@@ -219,7 +240,8 @@ impl<'a, R: Files<File = File> + Clock + Eprint + AllocGlobal> Tape<'a, R> {
 
     /// Stops the record, and says why.
     fn stop<T: Display>(&mut self, why: &T)
-        ensures { self.new.recorder.pages ≡ after_failure self.old.recorder.pages }
+        ensures backlog { self.new.recorder.backlog ≡ self.old.recorder.backlog }
+        ensures pages { self.new.recorder.pages ≡ after_failure self.old.recorder.pages }
     {
         self.recorder.failed();
         self.file = None;
@@ -253,6 +275,17 @@ impl<'a, R: Files<File = File> + Clock + Eprint + AllocGlobal> Tape<'a, R> {
             0 => new_file(self.rt, path),
             written => file_up_to(self.rt, path, written),
         }
+    }
+}
+
+/// That the connection with a neighbour began, or that it ended.
+fn link_deed(neighbour: u16, is_linked: bool) -> Deed
+    ensures { result ≡ (if is_linked then Connects neighbour else Disconnects neighbour) }
+{
+    if is_linked {
+        Deed::Connects { neighbour }
+    } else {
+        Deed::Disconnects { neighbour }
     }
 }
 

@@ -1,5 +1,5 @@
 -- What a turn becomes in a node's record.
-use Rattle.std.specs.Prelude.{◌≡◌, ℕ, ◌+◌, ◌*◌, ◌%◌, Bool, true, false, ◌||◌, if◌then◌else◌, List, fold, ◌⊎◌}
+use Rattle.std.specs.Prelude.{◌≡◌, ℕ, ◌+◌, ◌*◌, ◌%◌, Bool, true, false, ◌||◌, IsTrue, if◌then◌else◌, List, fold, length, ◌⊎◌}
 use Rattle.topology.specs.Network.{Network}
 use Rattle.flight_recorder.specs.flight_records.declared.entry.Noted.TheVariants as noted
 use Rattle.flight_recorder.specs.flight_records.declared.entry.StatePart.{StatePart}
@@ -13,6 +13,7 @@ use Rattle.node_follower.specs.node_core.State.{LocalState}
 use Rattle.node_follower.specs.node_core.View.{NodeView, site_in, state_of}
 use Rattle.node_follower.specs.Following.{account_of, AreSame, LeadElsewhere}
 use Rattle.node_follower.specs.Parts.{loan_part, own_part, port_part, state_parts}
+use Rattle.node_recorder.specs.Backlog.{after_all, first_instant, has_room, is_long, nothing, with_turn}
 use Rattle.node_recorder.specs.declared.recorder.NodeRecorder.{NodeRecorder}
 
 -- the number of a network: its nodes, root, capacity and lease, mixed
@@ -57,46 +58,79 @@ with_beginning now r =
     if is_to_begin r then after_parts now (state_parts r.network (site_in r.follower) (state_of r.follower)) r.pages
     else r.pages
 
+-- the deeds that wait were noted, after the state before them if that must be noted
+abbrev pub with_backlog : {A : Type 0} → ℕ → NodeRecorder A → RecorderView
+with_backlog now r = after_all r.backlog (with_beginning (first_instant now r.backlog) r)
+
 -- unless the recorder is lost, its second node stands as a node does
 abbrev pub Stands : {A : Type 0} → NodeRecorder A → NodeView → Type 0
 Stands r node =
     r.is_lost ≡ false → AreSame (site_in r.follower).neighbours (state_of r.follower) (state_of node)
 
--- a node's whole state is noted, and unless the recorder is lost, the second node stands there
-pub record TakesOver {A : Type 0} (now : ℕ) (node : NodeView) (old new : NodeRecorder A) : Type 0 where
-  pub pages : new.pages
-      ≡ after_parts now (state_parts old.network (site_in node) (state_of node)) old.pages
-  pub stands : Stands new node
-  pub rest : new ≡ record old { pages = new.pages; follower = new.follower; is_lost = new.is_lost }
+module _ {A : Type 0} (now : ℕ) (node : NodeView) (old new : NodeRecorder A) where
+  -- A node's whole state is noted, and unless the recorder is lost, the second node stands there. No deed
+  -- waits any more.
+  pub record TakesOver : Type 0 where
+    pub pages : new.pages ≡ after_parts now (state_parts old.network (site_in node) (state_of node)) old.pages
+    pub stands : Stands new node
+    pub rest : new ≡ record old { pages = new.pages; follower = new.follower; is_lost = new.is_lost; backlog = nothing }
 
-module _ {A : Type 0} (now : ℕ) (deeds : List Deed) (has_all : Bool) (node : NodeView)
-    (old new : NodeRecorder A) where
-  -- The deeds are noted, after the state before them if that must be noted. They lead the second node, by
-  -- its own steps, to where the node stands.
+  -- The deeds that wait are noted. They lead the second node, by its own steps, to where the node stands.
   pub record NotesDeeds : Type 0 where
-    pub all : has_all ≡ true
-    pub known : old.is_lost ≡ false
-    pub still : new.is_lost ≡ false
-    pub pages : new.pages ≡ after_deeds now deeds (with_beginning now old)
-    pub leads : Leads (site_in old.follower) (account_of deeds) (state_of old.follower)
+    pub pages : new.pages ≡ with_backlog now old
+    pub leads : Leads (site_in old.follower) (account_of old.backlog.deeds) (state_of old.follower)
         (state_of new.follower)
     pub stands : AreSame (site_in new.follower).neighbours (state_of new.follower) (state_of node)
+    pub rest : new ≡ record old { pages = new.pages; follower = new.follower; is_rewired = false; backlog = nothing }
 
-  -- After the deeds, of which some are missing, or which lead elsewhere, the node's whole state is noted
-  -- too. It is, as well, if the node has other neighbours than the second one.
+  -- They lead elsewhere, or the node has other neighbours: after them its whole state is noted, too.
   pub record NotesBoth : Type 0 where
-    pub known : old.is_lost ≡ false
-    pub needed : has_all ≡ true → (site_in old.follower).neighbours ≡ (site_in node).neighbours
-        → LeadElsewhere (site_in old.follower) deeds (state_of old.follower) (state_of node)
-    pub pages : new.pages ≡ after_parts now (state_parts old.network (site_in node) (state_of node))
-        (after_deeds now deeds (with_beginning now old))
+    pub needed : (site_in old.follower).neighbours ≡ (site_in node).neighbours
+        → LeadElsewhere (site_in old.follower) old.backlog.deeds (state_of old.follower) (state_of node)
+    pub pages : new.pages ≡ after_parts now (state_parts old.network (site_in node) (state_of node)) (with_backlog now old)
     pub stands : Stands new node
+    pub rest : new ≡ record old { pages = new.pages; follower = new.follower; is_rewired = false; is_lost = new.is_lost; backlog = nothing }
 
-  -- The recorder was lost: the node's whole state is noted.
+  abbrev pub Settles : Type 0
+  Settles = NotesDeeds ⊎ NotesBoth
+
+module _ {A : Type 0} (now : ℕ) (deeds : List Deed) (has_all may_wait : Bool) (node : NodeView)
+    (old new : NodeRecorder A) where
+  -- The recorder has stopped, and stays as it is.
+  abbrev pub Rests : Type 0
+  Rests = (old.pages.is_stopped ≡ true) × (new ≡ old)
+
+  -- It was lost: the node's whole state is noted.
   pub record NotesState : Type 0 where
     pub lost : old.is_lost ≡ true
     pub state : TakesOver now node old new
 
-  -- a record that has stopped stays as it is
+  -- Some deeds are missing, or there are too many: what waits is noted, then these deeds, and then the node's
+  -- whole state.
+  pub record NotesAll : Type 0 where
+    pub known : old.is_lost ≡ false
+    pub needed : has_all ≡ true → has_room (length deeds) old.backlog ≡ false
+    pub state : TakesOver now node
+        (record old { pages = after_deeds now deeds (with_backlog now old); is_rewired = false }) new
+
+  -- the recorder once these deeds wait, too
+  abbrev pub waiting : NodeRecorder A
+  waiting = record old { backlog = with_turn now deeds old.backlog }
+
+  -- They wait, and nothing is noted.
+  pub record KeepsDeeds : Type 0 where
+    pub known : old.is_lost ≡ false
+    pub all : has_all ≡ true
+    pub may : may_wait ≡ true
+    pub few : is_long waiting.backlog ≡ false
+    pub rest : new ≡ waiting
+
+  -- They and all that wait are noted, since they may not wait, or too many would.
+  pub record NotesNow : Type 0 where
+    pub known : old.is_lost ≡ false
+    pub all : has_all ≡ true
+    pub due : (may_wait ≡ false) ⊎ IsTrue (is_long waiting.backlog)
+    pub settled : Settles now node waiting new
+
   abbrev pub Records : Type 0
-  Records = ((old.pages.is_stopped ≡ true) × (new ≡ old)) ⊎ (NotesDeeds ⊎ (NotesBoth ⊎ NotesState))
+  Records = Rests ⊎ (NotesState ⊎ (NotesAll ⊎ (KeepsDeeds ⊎ NotesNow)))

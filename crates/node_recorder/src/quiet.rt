@@ -1,27 +1,29 @@
-//! Turns in which nothing came.
+//! Turns in which nobody needs the node.
 ghost use Rattle.std.specs.Prelude.{◌≡◌};
-ghost use Rattle.node_recorder.specs.Quiet.{is_own, is_quiet};
+ghost use Rattle.node_recorder.specs.Quiet.{is_quiet, is_silent};
 
 use flight_recorder::flight_records::Deed;
 
-/// Whether nothing came in a turn with these deeds: the node took no frame, and nobody asked for the
-/// lock or left.
+/// Whether a turn with these deeds was quiet: the node took no frame and sent none, and nobody asked for
+/// the lock or left. A node in haste sends in each turn.
 pub fn is_quiet(deeds: &[Deed]) -> bool
     ensures { result ≡ is_quiet deeds.now }
 {
-    deeds.iter().all(|deed| is_own(deed))
+    deeds.iter().all(|deed| is_silent(deed))
 }
 
-/// Whether a node does this by itself, and not because a frame or a client came.
-fn is_own(deed: &Deed) -> bool
-    ensures { result ≡ is_own deed.now }
+/// Whether no neighbour and no client has to do with this deed.
+fn is_silent(deed: &Deed) -> bool
+    ensures { result ≡ is_silent deed.now }
 {
     match deed {
-        Deed::Takes { .. } | Deed::TakesAgain { .. } | Deed::Asks { .. } | Deed::Leaves { .. } =>
-            false,
-        Deed::Ticks
+        Deed::Takes { .. }
+        | Deed::TakesAgain { .. }
         | Deed::Sends { .. }
         | Deed::SendsAgain { .. }
+        | Deed::Asks { .. }
+        | Deed::Leaves { .. } => false,
+        Deed::Ticks
         | Deed::Joins { .. }
         | Deed::Parts { .. }
         | Deed::Connects { .. }

@@ -1,5 +1,6 @@
 //! The recorder of a node.
 ghost use Rattle.std.specs.Prelude.{◌≡◌, ◌<◌, ◌⊎◌, IfOk, IsTrue, true, false};
+ghost use Rattle.node_recorder.specs.Backlog.{first_instant, nothing};
 ghost use Rattle.node_follower.specs.accounts.Deeds.{Leads};
 ghost use Rattle.node_follower.specs.node_core.Site.{site_of};
 ghost use Rattle.node_follower.specs.node_core.View.{site_in, state_of};
@@ -7,9 +8,10 @@ ghost use Rattle.flight_recorder.specs.Recorder.{after_failure, after_write, fil
 ghost use Rattle.node_follower.specs.Following.{account_of, AreSame, LeadElsewhere};
 ghost use Rattle.node_follower.specs.Parts.{state_parts};
 ghost use Rattle.node_recorder.specs.Turns.{after_deeds, after_parts, after_ports, after_queue, after_state};
-ghost use Rattle.node_recorder.specs.Turns.{mixed, network_mark, is_to_begin, with_beginning};
-ghost use Rattle.node_recorder.specs.Turns.{Records, Stands, TakesOver};
+ghost use Rattle.node_recorder.specs.Turns.{mixed, network_mark, is_to_begin, with_backlog, with_beginning};
+ghost use Rattle.node_recorder.specs.Turns.{Records, Settles, Stands, TakesOver};
 
+use crate::backlog::Backlog;
 use flight_recorder::Recorder;
 use flight_recorder::flight_records::{Deed, Noted, StatePart};
 use node_follower::flight_records::topology::Net;
@@ -21,12 +23,14 @@ use std::alloc::{AllocError, Allocator, Global};
 #[derive(Drop)]
 pub struct NodeRecorder<A: Allocator + Copy = Global> {
     pages: Recorder<A>,
+    /// The second node. It stands where the node stood before the deeds that wait.
     follower: Follower<A>,
+    backlog: Backlog<A>,
     /// The checksum of the network.
     network: u32,
     /// The second node has other neighbours since its whole state was noted last.
     is_rewired: bool,
-    /// The second node may not stand as the node did at the end of its last turn.
+    /// The second node may not stand as the node did before the deeds that wait.
     is_lost: bool,
 }
 
@@ -43,12 +47,14 @@ impl<A: Allocator + Copy> NodeRecorder<A> {
         ensures pages { IfOk result (λ r. r.pages ≡ pages) }
         ensures site { IfOk result (λ r. site_in r.follower ≡ site_of net.now (site_in node.now).id) }
         ensures stands { IfOk result (λ r. Stands r node.now) }
+        ensures backlog { IfOk result (λ r. r.backlog ≡ nothing) }
     {
         let mut follower = Follower::new(alloc, net, node.id())?;
         let is_there = follower.take_over(node);
         Ok(NodeRecorder {
             pages,
             follower,
+            backlog: Backlog::new(alloc)?,
             network: network_mark(net),
             is_rewired: false,
             is_lost: !is_there,
@@ -56,15 +62,17 @@ impl<A: Allocator + Copy> NodeRecorder<A> {
     }
 
     /// A turn of the node has ended, or what it does between two turns: it did these deeds, of which
-    /// some may be missing if `has_all` is no. `now` is the instant at which it began.
+    /// some may be missing if `has_all` is no. They may wait if `may_wait` is yes, until others do not,
+    /// or 512 wait. `now` is the instant at which the turn began.
     pub fn turn_ended<B: Allocator>(
         &mut self,
         node: &Node<B>,
         deeds: &[Deed],
         has_all: bool,
+        may_wait: bool,
         now: u64,
     )
-        ensures { Records now deeds.now has_all node.now self.old self.new }
+        ensures { Records now deeds.now has_all may_wait node.now self.old self.new }
     {
         if self.pages.is_stopped() {
             return;
@@ -73,15 +81,42 @@ impl<A: Allocator + Copy> NodeRecorder<A> {
             self.take_over(node, now);
             return;
         }
-        self.begin(now);
-        note_deeds(&mut self.pages, deeds, now);
-        if !has_all || !self.comes_to(node, deeds) {
+        if !has_all || !self.backlog.has_room(deeds.len()) {
+            self.note_backlog(now);
+            note_deeds(&mut self.pages, deeds, now);
+            self.take_over(node, now);
+            return;
+        }
+        self.backlog.add(deeds, now);
+        if !may_wait || self.backlog.is_long() {
+            self.settle(node, now);
+        }
+    }
+
+    /// Notes the deeds that wait, and then the node's whole state if they lead elsewhere.
+    fn settle<B: Allocator>(&mut self, node: &Node<B>, now: u64)
+        ensures { Settles now node.now self.old self.new }
+    {
+        self.note_backlog(now);
+        if self.comes_to(node) {
+            self.backlog.clear();
+        } else {
             self.take_over(node, now);
         }
     }
 
-    /// Notes the whole state in which the node stood before its turn, if a file begins, or the node has
-    /// other neighbours.
+    /// Notes the deeds that wait, after the state before them if that must be noted.
+    fn note_backlog(&mut self, now: u64)
+        ensures { self.new
+            ≡ record self.old { pages = with_backlog now self.old; is_rewired = false } }
+    {
+        let first = self.backlog.first_instant(now);
+        self.begin(first);
+        self.backlog.note_in(&mut self.pages);
+    }
+
+    /// Notes the whole state in which the second node stands, if a file begins, or the node has other
+    /// neighbours.
     fn begin(&mut self, now: u64)
         ensures { self.new
             ≡ record self.old { pages = with_beginning now self.old; is_rewired = false } }
@@ -92,39 +127,42 @@ impl<A: Allocator + Copy> NodeRecorder<A> {
         self.is_rewired = false;
     }
 
-    /// Notes the whole state of a node, and has the second node stand there.
+    /// Notes the whole state of a node, and has the second node stand there. No deed waits any more.
     fn take_over<B: Allocator>(&mut self, node: &Node<B>, now: u64)
         ensures { TakesOver now node.now self.old self.new }
     {
         self.is_lost = !self.follower.take_over(node);
         note_state(&mut self.pages, node, self.network, now);
+        self.backlog.clear();
     }
 
-    /// Whether these deeds lead the second node to where the node stands.
-    fn comes_to<B: Allocator>(&mut self, node: &Node<B>, deeds: &[Deed]) -> bool
-        ensures leads { IsTrue result → Leads (site_in self.old.follower) (account_of deeds.now)
-            (state_of self.old.follower) (state_of self.new.follower) }
+    /// Whether the deeds that wait lead the second node to where the node stands.
+    fn comes_to<B: Allocator>(&mut self, node: &Node<B>) -> bool
+        ensures leads { IsTrue result → Leads (site_in self.old.follower)
+            (account_of self.old.backlog.deeds) (state_of self.old.follower)
+            (state_of self.new.follower) }
         ensures stands { IsTrue result → AreSame (site_in self.new.follower).neighbours
             (state_of self.new.follower) (state_of node.now) }
         ensures elsewhere { result ≡ false
             → (site_in self.old.follower).neighbours ≡ (site_in node.now).neighbours
-            → LeadElsewhere (site_in self.old.follower) deeds.now (state_of self.old.follower)
-            (state_of node.now) }
+            → LeadElsewhere (site_in self.old.follower) self.old.backlog.deeds
+            (state_of self.old.follower) (state_of node.now) }
         ensures rest { self.new ≡ record self.old { follower = self.new.follower } }
     {
         accounts::laws::accounts();
-        self.follower.follow(deeds) && self.follower.stands_as(node)
+        self.follower.follow(self.backlog.deeds()) && self.follower.stands_as(node)
     }
 
     /// The node has the neighbours that it has in this network from now on, and stands as it does: its
-    /// whole state is noted before its next deeds. If the network has other nodes, another root, capacity
-    /// or lease, nothing changes.
+    /// whole state is noted before its next deeds. If deeds still wait, or the network has other nodes,
+    /// another root, capacity or lease, nothing changes.
     pub fn rewire<B: Allocator>(&mut self, net: &Net, node: &Node<B>)
         ensures pages { (self.new.pages ≡ self.old.pages) × (self.new.network ≡ self.old.network) }
+        ensures backlog { self.new.backlog ≡ self.old.backlog }
         ensures done { (self.new ≡ self.old)
             ⊎ ((self.new.is_rewired ≡ true) × Stands self.new node.now) }
     {
-        if self.follower.rewire(net) {
+        if self.backlog.is_empty() && self.follower.rewire(net) {
             self.is_lost = !self.follower.take_over(node);
             self.is_rewired = true;
         }
