@@ -11,6 +11,11 @@
 # rings of one kind differ by chance, which is why there are so many; how much they differ is shown beside what records
 # change. Idle loads and grants a second are measured in the first eight rounds, which makes sixteen values of each kind,
 # of which the median is shown. Takes twelve minutes for each size.
+#
+# On a virtual machine a processor that sleeps wakes late, and the host takes processors away: the slowest hundredth of
+# waits shows that, and not the nodes. So cyclictest (of the package rt-tests, as root) runs beside the waits: its threads
+# wake each processor ten thousand times a second, and it says how late they come. A round in which more than three
+# thousandths of the processors' time was lost so is measured again; how many were is shown at the end.
 set -euo pipefail
 compare=
 [ "${1:-}" != --record ] || { compare=record; shift; }
@@ -21,8 +26,12 @@ program=$(realpath "${TOKENTREE:-./tokentree}")
 [ -n "${TOKENTREE:-}" ] || program=$PWD/crates/tokentree/out/tokentree
 folder=$(mktemp -d)
 trap 'rm -rf "$folder"' EXIT
+if [ -n "$compare" ] && ! { command -v cyclictest > /dev/null && [ "$(id -u)" = 0 ]; }; then
+    echo "bench/lock.sh: --record needs cyclictest, which is in the package rt-tests, and root" >&2
+    exit 1
+fi
 python3 - "$program" "$folder" "$compare" "$@" <<'PYTHON'
-import fcntl, multiprocessing, os, random, shutil, socket, subprocess, sys, time
+import fcntl, multiprocessing, os, random, shutil, signal, socket, subprocess, sys, time
 
 program, folder, compare = sys.argv[1:4]
 sizes = [int(n) for n in sys.argv[4:]]
@@ -31,6 +40,10 @@ ROUNDS = 32
 WAITS = 300
 # In so many rounds, the first ones, idle loads and grants are measured too.
 FULL_ROUNDS = 8
+# A thread that comes later than this, in microseconds, had no processor; latencies above the second number count as that.
+LATE, LATEST = 150, 20_000
+# At most this share of the processors' time may be lost in a round, and at most so many rounds are measured.
+LOST, MOST_ROUNDS = 0.003, 4 * ROUNDS
 NAMES = ["plain", "recorded", "plain-2", "recorded-2"]
 
 
@@ -218,12 +231,37 @@ def most(values):
     return middle_and_most(values)[1]
 
 
+def lost_share(report, seconds):
+    """The share of the processors' time that was lost, by what cyclictest reports: a line for each latency, with how often
+    each thread had it, and one with how often each was above the latest."""
+    lost, threads = 0, 1
+    for words in map(str.split, report.splitlines()):
+        if words[:3] == ["#", "Histogram", "Overflows:"]:
+            threads = len(words) - 3
+            lost += LATEST * sum(map(int, words[3:]))
+        elif words and words[0].isdigit() and int(words[0]) > LATE:
+            lost += int(words[0]) * sum(map(int, words[1:]))
+    return lost / 1e6 / seconds / threads
+
+
+def waits_awake(runs, nodes):
+    """The waits in each ring at the root and far from it, and which share of the processors' time was lost meanwhile."""
+    words = ["cyclictest", "-q", "-S", "-p", "99", "-i", "100", "-h", str(LATEST)]
+    watch = subprocess.Popen(words, stdout=subprocess.PIPE, stderr=subprocess.DEVNULL, text=True)
+    start = time.perf_counter()
+    near, far = (in_turn(runs, node, WAITS) for node in (0, nodes // 2))
+    seconds = time.perf_counter() - start
+    watch.send_signal(signal.SIGINT)
+    return near, far, lost_share(watch.communicate()[0], seconds)
+
+
 def round_of_rings(nodes, place):
-    """What a round measures, by the four rings: waits at the root and far from it, idle loads, rates, and the rest."""
+    """What a round measures, by the four rings: waits at the root and far from it, idle loads, rates, and the rest; and
+    which share of the processors' time was lost in the waits."""
     rings = [start(nodes, f"{name}-{place}", *["--record"] * name.startswith("recorded")) for name in NAMES]
     runs = [run for run, _ in rings]
     settle(runs, nodes)
-    near, far = (in_turn(runs, node, WAITS) for node in (0, nodes // 2))
+    near, far, lost = waits_awake(runs, nodes)
     idle = rates = sizes = [[] for _ in rings]
     if place < FULL_ROUNDS:
         idle, rates = idle_loads(rings), [[all_grants(run, nodes)] for run in runs]
@@ -232,12 +270,27 @@ def round_of_rings(nodes, place):
     records = [[recorded(run, nodes)] * (place < FULL_ROUNDS) for run in runs]
     for run in runs:
         shutil.rmtree(run)
-    return near, far, idle, rates, sizes, records
+    return (near, far, idle, rates, sizes, records), lost
+
+
+def quiet_rounds(nodes):
+    """So many rounds in which hardly any time was lost; says how many others there were."""
+    rounds, again = [], 0
+    while len(rounds) < ROUNDS:
+        measured, lost = round_of_rings(nodes, len(rounds))
+        if lost <= LOST:
+            rounds.append(measured)
+            continue
+        again += 1
+        if len(rounds) + again >= MOST_ROUNDS:
+            sys.exit(f"bench/lock.sh: only {len(rounds)} of {MOST_ROUNDS} rounds were quiet: the machine is too busy")
+    print(f"ring of {nodes:2}  {again} of {len(rounds) + again} rounds were measured again", flush=True)
+    return rounds
 
 
 def side_by_side(nodes):
     """Compares rings of nodes that keep no record with rings of nodes that keep one."""
-    rounds = [round_of_rings(nodes, place) for place in range(ROUNDS)]
+    rounds = quiet_rounds(nodes)
     near, far, idle, rates, sizes, records = ([sum(own, []) for own in zip(*kind)] for kind in zip(*rounds))
     for kind, name in enumerate(["no record", "records"]):
         print(

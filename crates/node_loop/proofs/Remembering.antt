@@ -19,8 +19,8 @@ still-join p q r (inr none) (inl d) = inr (d.0 ∙ none)
 still-called : (p : PortPace) (is_called : Bool) → StillGiven p (called_port is_called p)
 still-called p is_called = inl (refl, refl)
 
-still-heard : (p : PortPace) (frame : Frame) → StillGiven p (heard_port frame p)
-still-heard p frame = inl (refl, refl)
+still-heard : (p : PortPace) (frame : Frame) (now : ℕ) → StillGiven p (heard_port frame now p)
+still-heard p frame now = inl (refl, refl)
 
 pub remembers-same : (pace : Pace) → Remembers pace pace
 remembers-same pace = record { manner = refl; ports = λ p. still-same (port_of pace.ports p) }
@@ -48,16 +48,16 @@ remembers-attached old new id fresh others manner = record {
       ]
 
 -- a port brought a frame, and a call may go on at others
-pub remembers-heard : (old new : Pace) (id : ℕ) (frame : Frame) (calls : ℕ → Bool) → port_of new.ports id ≡ heard_port frame (port_of old.ports id)
+pub remembers-heard : (old new : Pace) (id now : ℕ) (frame : Frame) (calls : ℕ → Bool) → port_of new.ports id ≡ heard_port frame now (port_of old.ports id)
     → ((p : ℕ) → p ≢ id → port_of new.ports p ≡ called_port (calls p) (port_of old.ports p)) → new.manner ≡ old.manner → Remembers old new
-remembers-heard old new id frame calls heard others manner = record {
+remembers-heard old new id now frame calls heard others manner = record {
   manner = manner;
   ports = at;
 } where
   at : (p : ℕ) → StillGiven (port_of old.ports p) (port_of new.ports p)
   at p =
       elim (same-or-not p id) [
-        | inl e ↦ rw e (subst (λ x. StillGiven (port_of old.ports id) x) (sym heard) (still-heard (port_of old.ports id) frame))
+        | inl e ↦ rw e (subst (λ x. StillGiven (port_of old.ports id) x) (sym heard) (still-heard (port_of old.ports id) frame now))
         | inr n ↦ subst (λ x. StillGiven (port_of old.ports p) x) (sym (others p n)) (still-called (port_of old.ports p) (calls p))
       ]
 

@@ -8,7 +8,8 @@ use Rattle.pace.specs.declared.pace.Manner.{Manner}
 use Rattle.pace.specs.declared.port.PortSight.{PortSight}
 use Rattle.pace.specs.declared.port.PortPace.{PortPace}
 use Rattle.pace.specs.declared.port.Hearing.TheVariants as hearing
-use Rattle.pace.specs.Ports.{fresh_port, is_due, given_port, heard_port, hearing_of, times_heard}
+use Rattle.pace.specs.declared.port.Calling.TheVariants as calling
+use Rattle.pace.specs.Ports.{fresh_port, is_due, given_port, heard_port, hearing_of, is_soon, times_heard}
 use Rattle.pace.specs.Nodes.{quiet_node, holds, may_tick, called, moved_on, calls_for_haste}
 use Rattle.pace.specs.Plans.{called_port, goes_on, rest_at, node_rest}
 
@@ -80,48 +81,101 @@ unfolding seeing framed saying given_once
 due-place = refl
 
 -- an answer is owed to the second equal frame, and no longer once a frame was given
-owes : is_due (seeing 5) true 8000 10001 (heard_port (framed 9) (heard_port (framed 9) given_once)) ≡ true
+owes : is_due (seeing 5) true 8000 10001 (heard_port (framed 9) 9000 (heard_port (framed 9) 5000 given_once)) ≡ true
 unfolding seeing framed saying given_once
 owes = refl
 
-owes_not-first : is_due (seeing 5) true 8000 10001 (heard_port (framed 9) given_once) ≡ false
+owes_not-first : is_due (seeing 5) true 8000 10001 (heard_port (framed 9) 5000 given_once) ≡ false
 unfolding seeing framed saying given_once
 owes_not-first = refl
 
-owes_not-answered : (given_port (framed 5) 10001 (heard_port (framed 9) (heard_port (framed 9) given_once))).owes ≡ false
+owes_not-answered : (given_port (framed 5) 10001 (heard_port (framed 9) 9000 (heard_port (framed 9) 5000 given_once))).owes ≡ false
 unfolding seeing framed saying given_once
 owes_not-answered = refl
 
--- the second equal frame is a question, the third nothing, the fourth a call; another one starts
--- again
-hears : hearing_of 1 ≡ hearing.Frame
+-- the second equal frame is a question, the third nothing, the fourth a call, and so is the eighth;
+-- but not one that comes late
+hears : hearing_of 1 true ≡ hearing.Frame
 hears = refl
 
-hears-question : hearing_of 2 ≡ hearing.Question
+hears-question : hearing_of 2 false ≡ hearing.Question
 hears-question = refl
 
-hears_not-third : hearing_of 3 ≡ hearing.Frame
+hears_not-third : hearing_of 3 true ≡ hearing.Frame
 hears_not-third = refl
 
-hears-call : hearing_of 4 ≡ hearing.Call
+hears-call : hearing_of 4 true ≡ hearing.Call
 hears-call = refl
 
-counts-equal : times_heard (framed 9) (heard_port (framed 9) fresh_port) ≡ 2
+hears-eighth : hearing_of 8 true ≡ hearing.Call
+hears-eighth = refl
+
+hears_not-sixth : hearing_of 6 true ≡ hearing.Frame
+hears_not-sixth = refl
+
+hears_not-late : hearing_of 4 false ≡ hearing.Frame
+hears_not-late = refl
+
+-- within 4 milliseconds is soon; after the repetition time is not
+soon : is_soon 8999 (heard_port (framed 9) 5000 fresh_port) ≡ true
+unfolding framed saying
+soon = refl
+
+soon_not-late : is_soon 9000 (heard_port (framed 9) 5000 fresh_port) ≡ false
+unfolding framed saying
+soon_not-late = refl
+
+-- another frame starts the count again
+counts-equal : times_heard (framed 9) (heard_port (framed 9) 5000 fresh_port) ≡ 2
 unfolding framed saying
 counts-equal = refl
 
-counts-other : times_heard (framed 8) (heard_port (framed 9) fresh_port) ≡ 1
+counts-other : times_heard (framed 8) (heard_port (framed 9) 5000 fresh_port) ≡ 1
 unfolding framed saying
 counts-other = refl
 
 -- a call goes on until the frame was given four times in a row
-passes_on : (given_port (framed 5) 10001 (given_port (framed 5) 10001 (called_port true given_once))).calls ≡ true
+passes_on : (given_port (framed 5) 10001 (given_port (framed 5) 10001 (called_port true given_once))).calls ≡ calling.GoesOn
 unfolding framed saying given_once
 passes_on = refl
 
-passed_on : (given_port (framed 5) 10001 (given_port (framed 5) 10001 (given_port (framed 5) 10001 (called_port true given_once)))).calls ≡ false
+passed_on : (given_port (framed 5) 10001 (given_port (framed 5) 10001 (given_port (framed 5) 10001 (called_port true given_once)))).calls ≡ calling.Done
 unfolding framed saying given_once
 passed_on = refl
+
+-- a frame that was given three times: the fourth may come too late to be a call, so that four more follow
+given_thrice : PortPace
+given_thrice = given_port (framed 5) 26000 (given_port (framed 5) 18000 given_once)
+
+passes_on-late : (given_port (framed 5) 30001 (called_port true given_thrice)).calls ≡ calling.GoesOn
+unfolding framed saying given_once given_thrice
+passes_on-late = refl
+
+given_seven_times : PortPace
+given_seven_times = given_port (framed 5) 30004 (given_port (framed 5) 30003 (given_port (framed 5) 30002 (given_port (framed 5) 30001 (called_port true given_thrice))))
+
+passes_on-seventh : given_seven_times.calls ≡ calling.GoesOn
+unfolding framed saying given_once given_thrice given_seven_times
+passes_on-seventh = refl
+
+passed_on-eighth : (given_port (framed 5) 30005 given_seven_times).calls ≡ calling.Done
+unfolding framed saying given_once given_thrice given_seven_times
+passed_on-eighth = refl
+
+-- another call makes no difference to one that is under way
+passes_on-once : (called_port true (given_port (framed 5) 10001 (called_port true given_once))).calls ≡ calling.GoesOn
+unfolding framed saying given_once
+passes_on-once = refl
+
+-- nobody calls: nothing goes on
+passes_not : (given_port (framed 5) 10001 (called_port false given_once)).calls ≡ calling.Done
+unfolding framed saying given_once
+passes_not = refl
+
+-- a frame is due for the sake of a call
+due-call : is_due (seeing 5) true 8000 10001 (called_port true given_once) ≡ true
+unfolding seeing framed saying given_once
+due-call = refl
 
 -- two tree neighbours: a call is good for eight moves; within 25 milliseconds a second one goes no
 -- further

@@ -1,5 +1,5 @@
 -- The plan of a turn, the calls that go on, and the rest after a turn.
-use Rattle.std.specs.Prelude.{ℕ, ◌-◌, Bool, true, false, not, ◌||◌, ◌==◌, if◌then◌else◌, List, filter, length, min, slice_index_or, Option, Some, None}
+use Rattle.std.specs.Prelude.{ℕ, ◌-◌, Bool, true, false, not, ◌==◌, if◌then◌else◌, List, filter, length, min, slice_index_or, Option, Some, None}
 use Rattle.pace.specs.Clock.{time_left}
 use Rattle.pace.specs.Ports.{fresh_port, is_due}
 use Rattle.pace.specs.Nodes.{holds, called, was_called, moved_on, calls_for_haste}
@@ -8,6 +8,8 @@ use Rattle.pace.specs.declared.node.NodePace.{NodePace}
 use Rattle.pace.specs.declared.pace.Manner.{Manner}
 use Rattle.pace.specs.declared.port.Hearing.{Hearing}
 use Rattle.pace.specs.declared.port.Hearing.TheVariants.{Call}
+use Rattle.pace.specs.declared.port.Calling.{Calling}
+use Rattle.pace.specs.declared.port.Calling.TheVariants.{Done, Begins}
 use Rattle.pace.specs.declared.port.PortSight.{PortSight}
 use Rattle.pace.specs.declared.port.PortPace.{PortPace}
 
@@ -39,9 +41,13 @@ abbrev pub is_other : Option ℕ → ℕ → Bool
 is_other None p = true
 is_other (Some but) p = not (but == p)
 
--- a port at which a call must be passed on, if there is one
+-- a port at which a call must be passed on, if there is one; one that is under way goes on
+abbrev pub call_at : Bool → Calling → Calling
+call_at true Done = Begins
+call_at _ calls = calls
+
 abbrev pub called_port : Bool → PortPace → PortPace
-called_port is_called port = record port { calls = port.calls || is_called }
+called_port is_called port = record port { calls = call_at is_called port.calls }
 
 -- a call that is heard goes on, unless one has just gone on
 abbrev pub goes_on : Hearing → ℕ → ℕ → NodePace → Bool

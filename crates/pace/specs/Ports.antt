@@ -1,5 +1,5 @@
 -- What is kept of a port, and when a frame is due there.
-use Rattle.std.specs.Prelude.{ℕ, ◌+◌, Bool, true, false, not, ◌&&◌, ◌||◌, ◌==◌, if◌then◌else◌, nat_lt, Option, Some, None}
+use Rattle.std.specs.Prelude.{ℕ, ◌+◌, ◌%◌, Bool, true, false, not, ◌&&◌, ◌||◌, ◌==◌, if◌then◌else◌, nat_lt, Option, Some, None}
 use Rattle.topology.specs.declared.frame.Payload.{Payload}
 use Rattle.topology.specs.declared.frame.Frame.{Frame}
 use Rattle.pace.specs.Clock.{is_over}
@@ -7,6 +7,8 @@ use Rattle.pace.specs.declared.port.PortSight.{PortSight}
 use Rattle.pace.specs.declared.port.PortPace.{PortPace}
 use Rattle.pace.specs.declared.port.Hearing.{Hearing}
 use Rattle.pace.specs.declared.port.Hearing.TheVariants as hearing
+use Rattle.pace.specs.declared.port.Calling.{Calling}
+use Rattle.pace.specs.declared.port.Calling.TheVariants.{Done, Begins, GoesOn}
 
 -- the same node, or none both times
 abbrev pub same_node : Option ℕ → Option ℕ → Bool
@@ -34,8 +36,9 @@ fresh_port = record {
   given_at = 0;
   heard = None;
   heard_times = 0;
+  heard_at = 0;
   owes = false;
-  calls = false;
+  calls = Done;
 }
 
 -- one more, and at most 2^32 - 1
@@ -55,29 +58,47 @@ times_given frame port = times_after port.given port.given_times frame
 abbrev pub times_heard : Frame → PortPace → ℕ
 times_heard frame port = one_more (times_after port.heard port.heard_times frame)
 
--- the second equal frame in a row is a question, the fourth a call
-abbrev pub hearing_of : ℕ → Hearing
-hearing_of times =
+-- a frame that comes now follows the one before it within 4 milliseconds
+abbrev pub is_soon : ℕ → PortPace → Bool
+is_soon now port = not (is_over port.heard_at 4000 now)
+
+-- the second equal frame in a row is a question; each fourth is a call, if it comes soon after the
+-- one before it: one that is given again after the repetition time is none
+abbrev pub hearing_of : ℕ → Bool → Hearing
+hearing_of times is_soon =
     if times == 2 then hearing.Question
-    else if times == 4 then hearing.Call
+    else if (times % 4 == 0) && is_soon then hearing.Call
     else hearing.Frame
 
 -- a port that heard a frame; an answer is owed to a question
-abbrev pub heard_port : Frame → PortPace → PortPace
-heard_port frame port = record port {
+abbrev pub heard_port : Frame → ℕ → PortPace → PortPace
+heard_port frame now port = record port {
   heard = Some frame;
   heard_times = times_heard frame port;
+  heard_at = now;
   owes = port.owes || (times_heard frame port == 2);
 }
 
--- a port that was given a frame: nothing is owed, and a call went on if this was the fourth
+-- how far a call is passed on after a frame that was given for this time in a row: it is out with
+-- each fourth, if another frame has been given for it before
+abbrev pub calls_after : ℕ → Calling → Calling
+calls_after times Done = Done
+calls_after times Begins = GoesOn
+calls_after times GoesOn = if times % 4 == 0 then Done else GoesOn
+
+-- a call must be passed on
+abbrev pub is_calling : Calling → Bool
+is_calling Done = false
+is_calling _ = true
+
+-- a port that was given a frame: nothing is owed, and a call has gone on
 abbrev pub given_port : Frame → ℕ → PortPace → PortPace
 given_port frame now port = record port {
   given = Some frame;
   given_times = one_more (times_given frame port);
   given_at = now;
   owes = false;
-  calls = port.calls && nat_lt (one_more (times_given frame port)) 4;
+  calls = calls_after (one_more (times_given frame port)) port.calls;
 }
 
 -- what the node has to say is not staged; while it holds, its distance and its parent alone count
@@ -98,5 +119,5 @@ is_news frame port = is_new_after port.given frame
 abbrev pub is_due : PortSight → Bool → ℕ → ℕ → PortPace → Bool
 is_due sight holds repeat now port =
     sight.takes_frames
-    && (is_news sight.frame port || (port.owes || (port.calls || (is_over port.given_at repeat now
+    && (is_news sight.frame port || (port.owes || (is_calling port.calls || (is_over port.given_at repeat now
     || (has_question sight holds && nat_lt (times_given sight.frame port) 2)))))

@@ -2,8 +2,9 @@
 //! busy ones quick.
 //!
 //! A frame that is sent again means nothing to the protocol. So a run of equal frames can carry a
-//! signal that costs it nothing: the second equal frame in a row is a question, which is answered
-//! at once, and the fourth is a call for haste, which goes on through the tree. A [`Pace`] keeps
+//! signal that costs it nothing. The second equal frame in a row is a question, which is answered
+//! at once. Each fourth one is a call for haste, which goes on through the tree, if it follows the
+//! third at once: a frame that is given again for the sake of time comes later. A [`Pace`] keeps
 //! what was given and heard at each port and when, and says before each turn what its [`Plan`] is,
 //! and after it how long to rest.
 //!
@@ -32,4 +33,4 @@ mod port;
 
 pub use node::{NodePace, Outlook};
 pub use pace::{Manner, PORTS, Pace, Plan};
-pub use port::{Hearing, PortPace, PortSight};
+pub use port::{Calling, Hearing, PortPace, PortSight};

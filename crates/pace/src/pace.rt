@@ -2,7 +2,7 @@
 ghost use Rattle.std.specs.Prelude.{◌≡◌, ◌≢◌, ◌⊎◌, ◌<◌, ◌≤◌, ◌&&◌, ℕ, true, false, None, Some};
 ghost use Rattle.std.specs.Prelude.{Option, length, replicate, slice_index_or};
 ghost use Rattle.pace.specs.Ports.{fresh_port, heard_port, given_port, hearing_of, times_heard};
-ghost use Rattle.pace.specs.Ports.{is_due};
+ghost use Rattle.pace.specs.Ports.{is_due, is_soon};
 ghost use Rattle.pace.specs.Nodes.{quiet_node, holds, may_tick, moved_on, calls_for_haste};
 ghost use Rattle.pace.specs.Plans.{port_of, sight_of, is_tree, is_other, tree_count, called_port};
 ghost use Rattle.pace.specs.Plans.{goes_on, node_said, node_ticked, rest_at, node_rest};
@@ -121,23 +121,23 @@ impl Pace {
         }
     }
 
-    /// A port brought a frame. A call is good for some circuits of the token, and goes on to the
-    /// other tree neighbours, unless one has just gone on. `trees` says of each port whether a tree
-    /// neighbour is there.
+    /// A port brought a frame at `now` microseconds. A call is good for some circuits of the token,
+    /// and goes on to the other tree neighbours, unless one has just gone on. `trees` says of each
+    /// port whether a tree neighbour is there.
     pub fn heard(&mut self, port: usize, frame: &Frame, trees: &[bool], now: u64) -> Hearing
         requires port { port < 64 }
         requires few { length trees.now ≤ 64 }
-        ensures hearing { result
-            ≡ hearing_of (times_heard frame.now (port_of self.old.ports port)) }
+        ensures hearing { result ≡ hearing_of (times_heard frame.now (port_of self.old.ports port))
+            (is_soon now (port_of self.old.ports port)) }
         ensures node { self.new.node ≡ node_said result (tree_count trees.now) now self.old.node }
         ensures port { port_of self.new.ports port
-            ≡ heard_port frame.now (port_of self.old.ports port) }
+            ≡ heard_port frame.now now (port_of self.old.ports port) }
         ensures others { (p : ℕ) → p ≢ port → port_of self.new.ports p ≡ called_port
             (goes_on result (tree_count trees.now) now self.old.node && is_tree trees.now p)
             (port_of self.old.ports p) }
         ensures manner { self.new.manner ≡ self.old.manner }
     {
-        let hearing = self.ports[port].hear(frame);
+        let hearing = self.ports[port].hear(frame, now);
         if hearing == Hearing::Call {
             let count = tree_count(trees);
             let goes_on = !self.node.was_called(count, now);

@@ -2,8 +2,8 @@
 ghost use Rattle.std.specs.Prelude.{◌≡◌, None, Some, false};
 ghost use Rattle.pace.specs.Plans.{called_port, rest_at};
 ghost use Rattle.pace.specs.Ports.{fresh_port, same_payload, same_place, same_frame, times_given};
-ghost use Rattle.pace.specs.Ports.{times_heard, heard_port, hearing_of, given_port, has_question};
-ghost use Rattle.pace.specs.Ports.{is_news, is_due};
+ghost use Rattle.pace.specs.Ports.{times_heard, is_soon, heard_port, hearing_of, given_port};
+ghost use Rattle.pace.specs.Ports.{calls_after, has_question, is_news, is_due};
 
 use crate::clock::{LONGEST_REST, is_over, time_left};
 use topology::{Frame, Payload};
@@ -11,8 +11,12 @@ use topology::{Frame, Payload};
 /// Equal frames in a row that are a question.
 const QUESTION: u32 = 2;
 
-/// Equal frames in a row that are a call for haste.
+/// Each time that so many equal frames came in a row, the last of them may be a call for haste.
 const CALL: u32 = 4;
+
+/// It is one if it came within this time after the frame before it, in microseconds. A frame that is
+/// given again because the repetition time is over comes later.
+const SOON: u64 = 4_000;
 
 /// What a node sees at one of its ports.
 #[derive(Clone, Copy, Debug, PartialEq, Eq)]
@@ -36,6 +40,31 @@ pub enum Hearing {
     Call,
 }
 
+/// How far a call for haste has been passed on at one port.
+#[derive(Clone, Copy, Debug, PartialEq, Eq)]
+pub enum Calling {
+    /// There is none, or it is out.
+    Done,
+    /// No frame has been given for it yet.
+    Begins,
+    /// At least one frame has been given for it, so that the next one follows soon.
+    GoesOn,
+}
+
+impl Calling {
+    /// How far a call has been passed on after a frame that was given for this time in a row.
+    fn after(self, given_times: u32) -> Calling
+        ensures { result ≡ calls_after given_times self }
+    {
+        match self {
+            Calling::Done => Calling::Done,
+            Calling::Begins => Calling::GoesOn,
+            Calling::GoesOn if given_times % CALL == 0 => Calling::Done,
+            Calling::GoesOn => Calling::GoesOn,
+        }
+    }
+}
+
 /// What was given and heard at one port. Whatever stands here, a pace goes by it, and loses no more
 /// than time.
 #[derive(Clone, Copy, Debug, PartialEq, Eq)]
@@ -50,10 +79,12 @@ pub struct PortPace {
     pub heard: Option<Frame>,
     /// How many times in a row it was heard.
     pub heard_times: u32,
+    /// When it was heard last, in microseconds.
+    pub heard_at: u64,
     /// Whether an answer is owed.
     pub owes: bool,
-    /// Whether a call must be passed on.
-    pub calls: bool,
+    /// How far a call has been passed on.
+    pub calls: Calling,
 }
 
 impl PortPace {
@@ -67,25 +98,28 @@ impl PortPace {
             given_at: 0,
             heard: None,
             heard_times: 0,
+            heard_at: 0,
             owes: false,
-            calls: false,
+            calls: Calling::Done,
         }
     }
 
-    /// Takes note of a frame that came.
-    pub fn hear(&mut self, frame: &Frame) -> Hearing
-        ensures port { self.new ≡ heard_port frame.now self.old }
-        ensures hearing { result ≡ hearing_of (times_heard frame.now self.old) }
+    /// Takes note of a frame that came at `now` microseconds.
+    pub fn hear(&mut self, frame: &Frame, now: u64) -> Hearing
+        ensures port { self.new ≡ heard_port frame.now now self.old }
+        ensures hearing { result ≡ hearing_of (times_heard frame.now self.old) (is_soon now self.old) }
     {
+        let is_soon = !is_over(self.heard_at, SOON, now);
         self.heard_times = self.times_heard(frame);
         self.heard = Some(*frame);
-        match self.heard_times {
-            QUESTION => {
-                self.owes = true;
-                Hearing::Question
-            }
-            CALL => Hearing::Call,
-            _ => Hearing::Frame,
+        self.heard_at = now;
+        if self.heard_times == QUESTION {
+            self.owes = true;
+            Hearing::Question
+        } else if self.heard_times % CALL == 0 && is_soon {
+            Hearing::Call
+        } else {
+            Hearing::Frame
         }
     }
 
@@ -109,8 +143,8 @@ impl PortPace {
         }
     }
 
-    /// Takes note of a frame that was given: nothing is owed any more, and a call is passed on
-    /// once the same frame was given four times in a row.
+    /// Takes note of a frame that was given at `now` microseconds: nothing is owed any more, and a call
+    /// is out once a frame that can be one has been given for it after another.
     pub fn give(&mut self, frame: &Frame, now: u64)
         ensures { self.new ≡ given_port frame.now now self.old }
     {
@@ -118,14 +152,16 @@ impl PortPace {
         self.given = Some(*frame);
         self.given_at = now;
         self.owes = false;
-        self.calls = self.calls && self.given_times < CALL;
+        self.calls = self.calls.after(self.given_times);
     }
 
     /// From now on a call must be passed on, if there is one.
     pub fn call(&mut self, is_called: bool)
         ensures { self.new ≡ called_port is_called self.old }
     {
-        self.calls = self.calls || is_called;
+        if is_called && self.calls == Calling::Done {
+            self.calls = Calling::Begins;
+        }
     }
 
     /// How long it is until a frame is due there for the sake of time alone, 2 milliseconds at
@@ -150,7 +186,7 @@ impl PortPace {
         sight.takes_frames
             && (self.is_news(&sight.frame)
                 || self.owes
-                || self.calls
+                || self.calls != Calling::Done
                 || is_over(self.given_at, repeat, now)
                 || (has_question(sight, holds) && self.times_given(&sight.frame) < QUESTION))
     }

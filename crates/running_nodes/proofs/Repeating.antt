@@ -10,7 +10,7 @@ use Rattle.node_core.specs.View.{site_in, state_of}
 use Rattle.pace.specs.Clock.{is_over}
 use Rattle.pace.specs.Nodes.{holds}
 use Rattle.pace.specs.Plans.{port_of}
-use Rattle.pace.specs.Ports.{given_port, has_question, is_due, is_news}
+use Rattle.pace.specs.Ports.{given_port, has_question, is_calling, is_due, is_news}
 use Rattle.pace.specs.declared.pace.Plan.{Plan}
 use Rattle.pace.specs.declared.port.PortPace.{PortPace}
 use Rattle.pace.specs.declared.port.PortSight.{PortSight}
@@ -34,7 +34,7 @@ use Rattle.running_nodes.proofs.Turning.{attend-site, turn-site}
 -- one is due at a port that takes frames once the repetition time is over
 due-over : (sight : PortSight) (is_held : Bool) (repeat now : ℕ) (port : PortPace) → sight.takes_frames ≡ true → is_over port.given_at repeat now ≡ true → is_due sight is_held repeat now port ≡ true
 due-over sight is_held repeat now port takes over =
-    any (is_news sight.frame port) port.owes port.calls (has_question sight is_held) _ sight.takes_frames (is_over port.given_at repeat now) takes over
+    any (is_news sight.frame port) port.owes (is_calling port.calls) (has_question sight is_held) _ sight.takes_frames (is_over port.given_at repeat now) takes over
   where
     any : (a b c d e t o : Bool) → t ≡ true → o ≡ true → (t && (a || (b || (c || (o || (d && e)))))) ≡ true
     any true b c d e true true x y = refl

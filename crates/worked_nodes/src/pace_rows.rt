@@ -2,7 +2,7 @@
 use crate::stage::{Run, doors, doors_to, in_a_row, over_new, with_made, with_token};
 use crate::wires::{MemoryDoors, Pair, Queue, Trip};
 use node_loop::Notes;
-use pace::{Manner, NodePace, PORTS, Pace, PortPace};
+use pace::{Calling, Manner, NodePace, PORTS, Pace, PortPace};
 use std::alloc::Global;
 use std::test::Fail;
 use test_parts::as_expected;
@@ -59,6 +59,14 @@ impl Draws {
         })
     }
 
+    fn calls(&mut self) -> Calling {
+        match self.next() % 3 {
+            0 => Calling::Done,
+            1 => Calling::Begins,
+            _ => Calling::GoesOn,
+        }
+    }
+
     fn port(&mut self) -> PortPace {
         PortPace {
             given: self.frame(),
@@ -66,8 +74,9 @@ impl Draws {
             given_at: self.number(),
             heard: self.frame(),
             heard_times: self.count(),
+            heard_at: self.number(),
             owes: self.flag(),
-            calls: self.flag(),
+            calls: self.calls(),
         }
     }
 

@@ -18,11 +18,14 @@ pub const RING: &str =
 const LEASED: &str =
     "nodes = 3\nroot = 0\ncapacity = 63\nlease = 100\nedges = [[0, 1], [1, 2], [0, 2]]\n";
 
-/// How often a node is asked how it stands, at most.
-const ASKS: u32 = 100_000;
+/// How often a node is asked how it stands, at most: once a millisecond, for a minute.
+const ASKS: u32 = 60_000;
 
-/// How often the root lends before a network counts as recovered from its start.
+/// How often the root lends in a row before a network counts as recovered from its start.
 const LOANS: u32 = 10;
+
+/// How often the root is asked to lend for that, at most.
+const TRIES: u32 = 1_000;
 
 /// A command that has the lock to itself if it makes a new folder; it ends with status 9 if
 /// somebody else has made the folder.
@@ -237,24 +240,43 @@ pub fn serves(rt: &HostRuntime, dir: &str, id: u16, distance: u16) -> Result<boo
         if line.as_str().starts_with(begin.as_str()) {
             return Ok(ask(rt, &mut client, "lock\n")?.as_str() == "granted");
         }
+        thread::sleep(rt, Duration::from_millis(1));
     }
     Ok(false)
+}
+
+/// Borrows the lock once, and gives it back. Returns whether the loan lasted until then: one that the
+/// node ended is `lost`, and giving it back is answered after that.
+fn borrows(rt: &HostRuntime, client: &mut UnixStream) -> Result<bool, Fail> {
+    if ask(rt, client, "lock\n")?.as_str() != "granted" {
+        return Ok(false);
+    }
+    let answer = ask(rt, client, "unlock\n")?;
+    if answer.as_str() == "lost" {
+        read_line(rt.alloc(), client)?;
+    }
+    Ok(answer.as_str() == "released")
 }
 
 /// Whether the root lends so often that the network has recovered. A node that starts may lend beside
 /// another one, since nothing holds of a network before that. After each loan the root's machine
 /// moves, and before the next one the value of that move has gone once around the ring. As soon as no
 /// other machine has the value of a move, the token is the only one (Dijkstra 1974); there are fewer
-/// other values than these loans.
+/// other values than these loans. Before that a loan may be lost, and they are counted again.
 fn recovers(rt: &HostRuntime, dir: &str) -> Result<bool, Fail> {
     let mut client = client(rt, dir, 0)?;
-    for _ in 0..LOANS {
-        let is_lent = ask(rt, &mut client, "lock\n")?.as_str() == "granted";
-        if !is_lent || ask(rt, &mut client, "unlock\n")?.as_str() != "released" {
-            return Ok(false);
+    let mut loans = 0;
+    for _ in 0..TRIES {
+        loans = if borrows(rt, &mut client)? {
+            loans + 1
+        } else {
+            0
+        };
+        if loans == LOANS {
+            return Ok(true);
         }
     }
-    Ok(true)
+    Ok(false)
 }
 
 /// Whether each of the three nodes serves at last.
