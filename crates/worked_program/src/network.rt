@@ -265,13 +265,10 @@ fn borrows(rt: &HostRuntime, client: &mut UnixStream) -> Result<bool, Fail> {
 /// other values than these loans. Before that a loan may be lost, and they are counted again.
 fn recovers(rt: &HostRuntime, dir: &str) -> Result<bool, Fail> {
     let mut client = client(rt, dir, 0)?;
-    let mut loans = 0;
+    let mut loans = 0u32;
     for _ in 0..TRIES {
-        loans = if borrows(rt, &mut client)? {
-            loans + 1
-        } else {
-            0
-        };
+        let lasts = borrows(rt, &mut client)?;
+        loans = if lasts { loans.saturating_add(1) } else { 0 };
         if loans == LOANS {
             return Ok(true);
         }
