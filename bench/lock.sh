@@ -266,7 +266,7 @@ def round_of_rings(nodes, place):
     settle(runs, nodes)
     near, far, lost = waits_awake(runs, nodes)
     idle = rates = sizes = [[] for _ in rings]
-    if place < FULL_ROUNDS:
+    if place < FULL_ROUNDS and lost <= LOST:
         idle, rates = idle_loads(rings), [[all_grants(run, nodes)] for run in runs]
         sizes = [[memory(running[0])] for _, running in rings]
     assert all(stop(run, running) == [0] * nodes for run, running in rings)
