@@ -235,7 +235,7 @@ def most(values):
 def lost_share(report, seconds):
     """The share of the processors' time that was lost, by what cyclictest reports: a line for each latency, with how often
     each thread had it, and one with how often each was above the latest."""
-    lost, threads = 0, 1
+    lost, threads = 0, 0
     for words in map(str.split, report.splitlines()):
         if words[:3] == ["#", "Histogram", "Overflows:"]:
             threads = len(words) - 3
@@ -247,15 +247,18 @@ def lost_share(report, seconds):
 
 def waits_awake(runs, nodes):
     """The waits in each ring at the root and far from it, and which share of the processors' time was lost meanwhile."""
-    words = ["cyclictest", "-q", "-S", "-p", "99", "-i", "100", "-h", str(LATEST)]
     if compare == "record-alone":
-        words = ["sleep", "infinity"]
+        return *(in_turn(runs, node, WAITS) for node in (0, nodes // 2)), 0
+    # It ends by itself after ten minutes, in case this script is killed.
+    words = ["cyclictest", "-q", "-S", "-p", "99", "-i", "100", "-h", str(LATEST), "-D", "10m"]
     watch = subprocess.Popen(words, stdout=subprocess.PIPE, stderr=subprocess.DEVNULL, text=True)
     start = time.perf_counter()
     near, far = (in_turn(runs, node, WAITS) for node in (0, nodes // 2))
     seconds = time.perf_counter() - start
     watch.send_signal(signal.SIGINT)
-    return near, far, lost_share(watch.communicate()[0], seconds)
+    report = watch.communicate()[0]
+    assert watch.returncode == 0 and "Histogram Overflows" in report, "cyclictest failed"
+    return near, far, lost_share(report, seconds)
 
 
 def round_of_rings(nodes, place):
