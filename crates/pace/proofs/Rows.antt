@@ -116,14 +116,26 @@ hears_not-sixth = refl
 hears_not-late : hearing_of 4 false ≡ hearing.Frame
 hears_not-late = refl
 
--- within 4 milliseconds is soon; after the repetition time is not
-soon : is_soon 8999 (heard_port (framed 9) 5000 fresh_port) ≡ true
+-- within 4 milliseconds is soon, and within 1 if frames are given again after 2; else it is not
+soon : is_soon 8000 8999 (heard_port (framed 9) 5000 fresh_port) ≡ true
 unfolding framed saying
 soon = refl
 
-soon_not-late : is_soon 9000 (heard_port (framed 9) 5000 fresh_port) ≡ false
+soon_not-late : is_soon 8000 9000 (heard_port (framed 9) 5000 fresh_port) ≡ false
 unfolding framed saying
 soon_not-late = refl
+
+soon_not-slow : is_soon 100000 9000 (heard_port (framed 9) 5000 fresh_port) ≡ false
+unfolding framed saying
+soon_not-slow = refl
+
+soon-quick : is_soon 2000 5999 (heard_port (framed 9) 5000 fresh_port) ≡ true
+unfolding framed saying
+soon-quick = refl
+
+soon_not-quick : is_soon 2000 6000 (heard_port (framed 9) 5000 fresh_port) ≡ false
+unfolding framed saying
+soon_not-quick = refl
 
 -- another frame starts the count again
 counts-equal : times_heard (framed 9) (heard_port (framed 9) 5000 fresh_port) ≡ 2

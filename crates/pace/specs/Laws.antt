@@ -1,11 +1,14 @@
 -- Laws of a node's pace: what holds whatever its fields hold, as after damage to them.
-use Rattle.std.specs.Prelude.{◌≡◌, ℕ, ◌<◌, ◌≤◌, ◌+◌, Bool, true, false}
+use Rattle.std.specs.Prelude.{◌≡◌, ◌≢◌, ℕ, ◌<◌, ◌≤◌, ◌+◌, Bool, true, false}
 use Rattle.pace.specs.Clock.{is_over}
-use Rattle.pace.specs.Ports.{is_due}
+use Rattle.pace.specs.Ports.{is_due, calls_after, hearing_of}
 use Rattle.pace.specs.Nodes.{holds, may_tick, lease_runs}
 use Rattle.pace.specs.declared.node.Outlook.{Outlook}
 use Rattle.pace.specs.declared.node.NodePace.{NodePace}
 use Rattle.pace.specs.declared.pace.Manner.{Manner}
+use Rattle.pace.specs.declared.port.Calling.{Calling}
+use Rattle.pace.specs.declared.port.Calling.TheVariants.{Done}
+use Rattle.pace.specs.declared.port.Hearing.TheVariants as hearing
 use Rattle.pace.specs.declared.port.PortSight.{PortSight}
 use Rattle.pace.specs.declared.port.PortPace.{PortPace}
 
@@ -27,3 +30,10 @@ abbrev pub HoldsEnd : Type 0
 HoldsEnd =
     (outlook : Outlook) (manner : Manner) (now : ℕ) (node : NodePace)
     → holds outlook manner now node ≡ true → node.hold_until ≤ now + manner.hold
+
+-- the frame with which a call is out is a call for a neighbour that heard it as often in a row, if it
+-- came there soon after the one before it
+abbrev pub CallsAreHeard : Type 0
+CallsAreHeard =
+    (times : ℕ) (calls : Calling) → calls ≢ Done → calls_after times calls ≡ Done
+    → hearing_of times true ≡ hearing.Call

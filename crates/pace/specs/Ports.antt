@@ -1,5 +1,5 @@
 -- What is kept of a port, and when a frame is due there.
-use Rattle.std.specs.Prelude.{ℕ, ◌+◌, ◌%◌, Bool, true, false, not, ◌&&◌, ◌||◌, ◌==◌, if◌then◌else◌, nat_lt, Option, Some, None}
+use Rattle.std.specs.Prelude.{ℕ, ◌+◌, ◌%◌, ◌/◌, min, Bool, true, false, not, ◌&&◌, ◌||◌, ◌==◌, if◌then◌else◌, nat_lt, Option, Some, None}
 use Rattle.topology.specs.declared.frame.Payload.{Payload}
 use Rattle.topology.specs.declared.frame.Frame.{Frame}
 use Rattle.pace.specs.Clock.{is_over}
@@ -58,12 +58,13 @@ times_given frame port = times_after port.given port.given_times frame
 abbrev pub times_heard : Frame → PortPace → ℕ
 times_heard frame port = one_more (times_after port.heard port.heard_times frame)
 
--- a frame that comes now follows the one before it within 4 milliseconds
-abbrev pub is_soon : ℕ → PortPace → Bool
-is_soon now port = not (is_over port.heard_at 4000 now)
+-- a frame that comes now follows the one before it within 4 milliseconds, and within half of the
+-- repetition time: it is given again for another reason than time
+abbrev pub is_soon : ℕ → ℕ → PortPace → Bool
+is_soon repeat now port = not (is_over port.heard_at (min 4000 (repeat / 2)) now)
 
 -- the second equal frame in a row is a question; each fourth is a call, if it comes soon after the
--- one before it: one that is given again after the repetition time is none
+-- one before it
 abbrev pub hearing_of : ℕ → Bool → Hearing
 hearing_of times is_soon =
     if times == 2 then hearing.Question

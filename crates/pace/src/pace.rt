@@ -128,7 +128,7 @@ impl Pace {
         requires port { port < 64 }
         requires few { length trees.now ≤ 64 }
         ensures hearing { result ≡ hearing_of (times_heard frame.now (port_of self.old.ports port))
-            (is_soon now (port_of self.old.ports port)) }
+            (is_soon self.old.manner.repeat now (port_of self.old.ports port)) }
         ensures node { self.new.node ≡ node_said result (tree_count trees.now) now self.old.node }
         ensures port { port_of self.new.ports port
             ≡ heard_port frame.now now (port_of self.old.ports port) }
@@ -137,7 +137,7 @@ impl Pace {
             (port_of self.old.ports p) }
         ensures manner { self.new.manner ≡ self.old.manner }
     {
-        let hearing = self.ports[port].hear(frame, now);
+        let hearing = self.ports[port].hear(frame, self.manner.repeat, now);
         if hearing == Hearing::Call {
             let count = tree_count(trees);
             let goes_on = !self.node.was_called(count, now);

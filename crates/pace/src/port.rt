@@ -14,8 +14,8 @@ const QUESTION: u32 = 2;
 /// Each time that so many equal frames came in a row, the last of them may be a call for haste.
 const CALL: u32 = 4;
 
-/// It is one if it came within this time after the frame before it, in microseconds. A frame that is
-/// given again because the repetition time is over comes later.
+/// It is one if it came so soon after the frame before it, in microseconds, and within half of the
+/// repetition time. A frame that is given again because that time is over comes later.
 const SOON: u64 = 4_000;
 
 /// What a node sees at one of its ports.
@@ -104,12 +104,14 @@ impl PortPace {
         }
     }
 
-    /// Takes note of a frame that came at `now` microseconds.
-    pub fn hear(&mut self, frame: &Frame, now: u64) -> Hearing
+    /// Takes note of a frame that came at `now` microseconds. Frames are given again after `repeat`
+    /// microseconds.
+    pub fn hear(&mut self, frame: &Frame, repeat: u64, now: u64) -> Hearing
         ensures port { self.new ≡ heard_port frame.now now self.old }
-        ensures hearing { result ≡ hearing_of (times_heard frame.now self.old) (is_soon now self.old) }
+        ensures hearing { result
+            ≡ hearing_of (times_heard frame.now self.old) (is_soon repeat now self.old) }
     {
-        let is_soon = !is_over(self.heard_at, SOON, now);
+        let is_soon = self.is_soon(repeat, now);
         self.heard_times = self.times_heard(frame);
         self.heard = Some(*frame);
         self.heard_at = now;
@@ -121,6 +123,14 @@ impl PortPace {
         } else {
             Hearing::Frame
         }
+    }
+
+    /// Whether a frame that comes now comes too soon after the one before it to be given again for the
+    /// sake of time.
+    fn is_soon(&self, repeat: u64, now: u64) -> bool
+        ensures { result ≡ is_soon repeat now self.now }
+    {
+        !is_over(self.heard_at, SOON.min(repeat / 2), now)
     }
 
     /// How many times in a row this frame was heard, this time counted.
