@@ -1,6 +1,6 @@
 -- What is seen at each port, one after the other. Neighbours are nodes, and there are at most 64 of
 -- these.
-use Rattle.std.proofs.Common.{◌≡◌, ◌≢◌, ◌<◌, ◌≤◌, ◌+◌, ℕ, Bool, not, ◌&&◌, List, [], ◌∷◌, ◌++◌, ◌⊎◌, Some, is_some, Contains, get_or, length, take, slice_get, slice_set, refl, inl, inr, sym, subst, arith, ◌∙◌}
+use Rattle.std.proofs.Common.{◌≡◌, ◌≢◌, ◌<◌, ◌≤◌, ◌+◌, ℕ, Bool, true, false, not, ◌&&◌, List, [], ◌∷◌, ◌++◌, ◌⊎◌, Some, is_some, Contains, get_or, length, take, slice_get, slice_set, refl, inl, inr, sym, subst, arith, ◌∙◌}
 use Rattle.std.specs.Prelude.{slice_index_or}
 use Rattle.std.proofs.Math.ListN.{replicate}
 use Rattle.std.proofs.lemmas.List.Elements.{Contains-append_left, Contains-get_or, Contains-push, Contains-push_cases}
@@ -16,13 +16,18 @@ use Rattle.node_core.specs.View.{NodeView, site_in, state_of}
 use Rattle.pace.specs.declared.port.PortSight.{PortSight}
 use Rattle.node_loop.specs.declared.port.NodePort.{NodePort}
 use Rattle.node_loop.specs.Speaking.{sight_at}
-use Rattle.node_loop.proofs.Speaking.{apart, below-or-from, below-or-last, none-below}
+use Rattle.node_loop.proofs.Speaking.{below-or-from}
 
 no-element : (w : ℕ) → Contains {X = ℕ} [] w → ⊥
 no-element w has = let within = has.1 in omega arith
 
 same-or-other : (w v : ℕ) → (w ≡ v) ⊎ (w ≢ v)
 same-or-other w v = grind arith
+
+alike : (a b : Bool) → (a ≡ true → b ≡ true) → (b ≡ true → a ≡ true) → a ≡ b
+alike false false there back = refl
+alike false true there back = back refl
+alike true b there back = sym (there refl)
 
 -- what a port shows is what is seen there
 pub seen-as : {P : Type 0} (node : NodeView) (ports : List (NodePort P)) (id : ℕ) (port : NodePort P) (takes : Bool) (frame : Frame) (present : Payload)
@@ -94,20 +99,28 @@ is-few-at limits joined net v site accepted e ws same i there =
 pub take-next : (ws ns : List ℕ) → ws ≡ ns → (i : ℕ) → i < length ns → take (i + 1) ns ≡ take i ns ++ get_or ws i 0 ∷ []
 take-next ws ns same i there = rw same (take_more ns i 0 there)
 
--- the items so far: those below i are these
-pub record AreFilled {X : Type 0} (f : ℕ → X) (none : X) (xs : List X) (i : ℕ) : Type 0 where
-  pub size : length xs ≡ 64
-  pub below : (w : ℕ) → w < i → slice_index_or xs w none ≡ f w
+-- what is seen as true is true
+abbrev pub OnlyTrue : (ℕ → Bool) → List Bool → Type 0
+OnlyTrue f xs = (w : ℕ) → slice_index_or xs w false ≡ true → f w ≡ true
 
-pub filled-start : {X : Type 0} (f : ℕ → X) (none : X) (xs : List X) → length xs ≡ 64 → AreFilled f none xs 0
-filled-start f none xs size = record { size = size; below = λ w below. elim (none-below w below) [ ] }
+no-truth : false ≡ true → ⊥
+no-truth e = absurd cc
 
-pub filled-next : {X : Type 0} (f : ℕ → X) (none : X) (xs : List X) (i : ℕ) (x : X) → i < 64 → x ≡ f i → AreFilled f none xs i → AreFilled f none (slice_set xs i x) (i + 1)
-filled-next f none xs i x here same so = record {
-  size = length-set xs i x ∙ so.size;
-  below = λ w below.
-      elim (below-or-last w i below) [
-        | inl less ↦ (let other : w ≢ i = λ e. elim (apart w i less e) [ ] in rw (get_or-set_other xs i w x none other) (so.below w less))
-        | inr last ↦ rw (last, get_or-set_same xs i x none (rw so.size here)) same
-      ];
-}
+pub only-start : (f : ℕ → Bool) → OnlyTrue f (replicate 64 false)
+only-start f w on =
+    elim (below-or-from w 64) [
+      | inl less ↦ absurd (no-truth (sym (get_or-replicate 64 w false false less) ∙ on))
+      | inr from ↦ absurd (no-truth (sym (get_or_past (replicate 64 false) w false (rw (length-replicate {A = Bool} 64 false) from)) ∙ on))
+    ]
+
+pub only-next : (f : ℕ → Bool) (xs : List Bool) (v : ℕ) (x : Bool) → v < length xs → x ≡ f v → OnlyTrue f xs → OnlyTrue f (slice_set xs v x)
+only-next f xs v x here same so w on =
+    elim (same-or-other w v) [
+      | inl is ↦ (let true-there : x ≡ true = rw (is, get_or-set_same xs v x false here) at on in rw is (sym same ∙ true-there))
+      | inr other ↦ so w (rw (get_or-set_other xs v w x false other) at on)
+    ]
+
+-- once all of which it is true are seen, all is seen
+pub seen-all : (f : ℕ → Bool) (ws : List ℕ) (xs : List Bool) → AreSeen f false ws xs → OnlyTrue f xs → ((w : ℕ) → f w ≡ true → Contains ws w)
+    → (w : ℕ) → slice_index_or xs w false ≡ f w
+seen-all f ws xs seen only all w = alike (slice_index_or xs w false) (f w) (only w) (λ on. seen.seen w (all w on) ∙ on)

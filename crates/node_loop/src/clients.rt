@@ -58,6 +58,13 @@ impl<P: Pipe, A: Allocator + Copy> Clients<P, A> {
         Ok(Clients { table, answers })
     }
 
+    /// Whether no client is connected.
+    pub fn is_empty(&self) -> bool
+        ensures { result ≡ (slab_len self.now.table == 0) }
+    {
+        self.table.is_empty()
+    }
+
     /// Whether a client with this ticket is connected.
     pub fn contains(&self, ticket: u16) -> bool
         ensures { result ≡ is_connected self.now ticket }

@@ -1,5 +1,5 @@
 //! Connections of neighbours that have not said who they are.
-ghost use Rattle.std.specs.Prelude.{◌≡◌, ◌≢◌, ◌<◌, ◌≤◌, ℕ, None, IfOk, IfSome, IsSomeAnd, length, take};
+ghost use Rattle.std.specs.Prelude.{◌≡◌, ◌≢◌, ◌<◌, ◌≤◌, ◌==◌, ℕ, None, IfOk, IfSome, IsSomeAnd, length, take};
 ghost use Rattle.slab.specs.Slab.{get, slab_len};
 
 use frame_codec::decode_hello;
@@ -108,6 +108,13 @@ impl<P: Pipe, A: Allocator + Copy> Lobby<P, A> {
         Ok(Lobby {
             visitors: Slab::with_capacity(alloc, PLACES)?,
         })
+    }
+
+    /// Whether nobody waits.
+    pub fn is_empty(&self) -> bool
+        ensures { result ≡ (slab_len self.now.visitors == 0) }
+    {
+        self.visitors.is_empty()
     }
 
     /// A connection has come. It is closed if 64 wait already.

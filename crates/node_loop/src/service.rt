@@ -79,6 +79,9 @@ pub(crate) fn serve_all<P: Pipe, A: Allocator + Copy>(
     ensures lives { LiveOn P.gave P.took P.counts clients.old clients.new }
     ensures answers { AreAnswered P.took (site_in node.old) clients.old clients.new }
 {
+    if clients.is_empty() {
+        return false;
+    }
     let mut has_more = false;
     for ticket in 0..PLACES as u16 {
         if clients.contains(ticket) {
@@ -250,6 +253,9 @@ pub(crate) fn write_all<P: Pipe, A: Allocator + Copy>(
     ensures lives { LiveOn P.gave P.took P.counts clients.old clients.new }
     ensures nothing { NothingSaid P.took clients.old clients.new }
 {
+    if clients.is_empty() {
+        return;
+    }
     for ticket in 0..PLACES as u16 {
         if !clients.write(ticket) {
             dismiss(node, notes, clients, ticket);

@@ -35,7 +35,8 @@ fn tree<A: Allocator>(node: &Node<A>, net: &Net) -> TreeNeighbours
     requires id { (site_in node.now).id < net.now.nodes }
     requires site { site_in node.now ≡ site_of net.now (site_in node.now).id }
     ensures tree { result ≡ tree_of (site_in node.now) (state_of node.now) }
-    ensures within { (w : ℕ) → IsTrue (is_on result w) → w < (site_in node.now).ranges.nodes }
+    ensures neighbours { (w : ℕ) → IsTrue (is_on result w)
+        → Contains (site_in node.now).neighbours w }
 {
     topology::laws::joined();
     topology::laws::neighbours();
@@ -55,10 +56,13 @@ pub(crate) fn trees<A: Allocator>(node: &Node<A>, net: &Net) -> [bool; NODES]
     ensures { (w : ℕ) → w < 64
         → is_tree result w ≡ is_on (tree_of (site_in node.now) (state_of node.now)) w }
 {
+    topology::laws::neighbours();
+    topology::laws::limits();
+    let _known = net.nodes();
     let tree = tree(node, net);
     let mut trees = [false; NODES];
-    for id in 0..NODES {
-        trees[id] = tree.contains(id as u16);
+    for w in node.neighbours() {
+        trees[*w as usize] = tree.contains(*w);
     }
     trees
 }

@@ -97,6 +97,9 @@ impl<D: Doors, S: Store + Drop, A: Allocator + Copy> NodeRun<D, S, A> {
         ensures rest { (self.new.net ≡ self.old.net) × (self.new.turns ≡ self.old.turns)
             × (self.new.store ≡ self.old.store) × (self.new.clients ≡ self.old.clients) }
     {
+        if self.lobby.is_empty() {
+            return;
+        }
         for place in 0..lobby::PLACES {
             if let Some((id, pipe)) = self.lobby.listen(place, &self.net) {
                 self.welcome(id, pipe);

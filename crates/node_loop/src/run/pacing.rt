@@ -39,7 +39,7 @@ impl<D: Doors, S: Store + Drop, A: Allocator + Copy> NodeRun<D, S, A> {
         }
         let sights = sight::sights(&self.node, &self.net, &self.ports);
         let outlook = sight::outlook(&self.node, self.let_go);
-        self.pace.rest(&sights, &outlook, now)
+        self.pace.rest(&sights[..self.ports.len()], &outlook, now)
     }
 
     /// Whether a turn is due: once in 2 milliseconds while a loan with a lease runs, and else always.
@@ -58,9 +58,10 @@ impl<D: Doors, S: Store + Drop, A: Allocator + Copy> NodeRun<D, S, A> {
             (moment_of self.now.node self.now.ports.items self.now.pace self.now.let_go)
             result }
     {
+        topology::laws::neighbours();
         let sights = sight::sights(&self.node, &self.net, &self.ports);
         let outlook = sight::outlook(&self.node, self.let_go);
-        self.pace.plan(&sights, &outlook, now)
+        self.pace.plan(&sights[..self.ports.len()], &outlook, now)
     }
 
     /// Its pace remembers this from now on, as after damage. Nothing else changes.

@@ -22,3 +22,6 @@ loop-ticket-preserved g c =
       )
       | else-contains w ↦ rw (w.node-is, w.notes-is, w.clients-is) c.loop-ticket.invariant
     ]
+
+pub returns-then-is_empty-clause-node : goal.returns-then-is_empty-clause-node
+returns-then-is_empty-clause-node g c = did-none IsOfClient c.args.node.now c.args.notes.now

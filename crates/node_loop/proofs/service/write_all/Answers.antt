@@ -35,3 +35,6 @@ loop-ticket-preserved g c =
         nothing-join g.P.Pipe.took old mid written before.3 (w.if-not-write.ensures.nothing refl),
       )
     ]
+
+pub returns-then-is_empty-clause-node : goal.returns-then-is_empty-clause-node
+returns-then-is_empty-clause-node g c = did-none IsLeave c.args.node.now c.args.notes.now

@@ -16,8 +16,5 @@ tree_neighbours-requires-clause-readable g c w has =
     let node = c.args.node.now in
     is-node c.neighbours.ensures.joined c.args.net.now (site_in node).id w (site_in node) c.requires.site (subst (λ ws. Contains ws w) c.neighbours-2.ensures has)
 
-pub returns-clause-within : goal.returns-clause-within
-returns-clause-within g c w on =
-    let node = c.args.node.now in
-    is-node c.neighbours.ensures.joined c.args.net.now (site_in node).id w (site_in node) c.requires.site
-    (subst (λ ws. Contains ws w) c.neighbours-2.ensures (c.tree_neighbours.ensures.neighbours w on))
+pub returns-clause-neighbours : goal.returns-clause-neighbours
+returns-clause-neighbours g c w on = subst (λ ws. Contains ws w) c.neighbours-2.ensures (c.tree_neighbours.ensures.neighbours w on)

@@ -1,10 +1,22 @@
-use Rattle.std.proofs.Common.{◌<◌, length, rules}
+use Rattle.std.proofs.Common.{◌≡◌, ◌<◌, ap, length, take, arith}
+use Rattle.std.proofs.lemmas.List.{get_or-take, length-take}
+use Rattle.node_core.specs.View.{site_in}
+use Rattle.pace.specs.Plans.{no_sight}
+use Rattle.node_loop.proofs.Sights.{is-node}
 use Rattle.node_loop.proofs.run.NodeRun.plan.Goals as goal
 
 pub returns : goal.returns
 returns g c = record {
   ticks = rw c.outlook-outlook.ensures at c.plan.ensures.ticks;
   offers = λ w here has.
-      let within : w < length c.sights-sights.result = search rules in
-      rw (c.sights-sights.ensures w here has, c.outlook-outlook.ensures, c.deref.ensures.value) at (c.plan.ensures.offers w within);
+      let self = c.args.self.now in
+      let site = site_in self.node in
+      let sights = c.sights-sights.result in
+      let node : w < site.ranges.nodes = is-node c.neighbours.ensures.joined self.net site.id w site self.wired has in
+      let nodes : site.ranges.nodes ≡ self.net.nodes = ap (λ s. s.ranges.nodes) self.wired in
+      let ports : length self.ports.items ≡ self.net.nodes = self.ports_are.0 in
+      let count = c.len.ensures in
+      let below : w < c.len.result = omega arith in
+      let within : w < length (take c.len.result sights) = rw (length-take c.len.result sights) (omega arith) in
+      rw (get_or-take c.len.result sights w no_sight below, c.sights-sights.ensures w here has, c.outlook-outlook.ensures, c.deref.ensures.value) at (c.plan.ensures.offers w within);
 }
