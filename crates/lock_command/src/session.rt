@@ -515,7 +515,8 @@ impl<'a, P: OpenProcess + Drop> Session<'a, P> {
                 self.waiter.watch_input();
                 Work::Input
             }
-            Err(_) => {
+            Err(error) => {
+                let _ = eprintln!(rt; "tokentree: standard output: {error}");
                 let _ = rt.eprintln(NoticeLine(Notice::Output));
                 Work::Done(CommandEnd::Exited(1))
             }

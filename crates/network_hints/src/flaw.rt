@@ -3,7 +3,7 @@ use crate::key::Key;
 use std::fmt;
 
 /// What is wrong with the values of a network file.
-#[derive(Clone, Copy, Debug, PartialEq, Eq)]
+#[derive(Clone, Copy, Debug)]
 pub enum Flaw {
     /// There is no such key.
     NoKey(Key),
@@ -53,68 +53,25 @@ impl fmt::Display for Flaw {
             ),
             Flaw::TooMany(count) => write!(f, "key 'edges': {count} edges are more than 256"),
             Flaw::NoRoot(root, nodes) => {
-                f.write_str("key 'root': ")?;
-                f.write(root)?;
-                f.write(NoneOf(nodes))
+                write!(f, "key 'root': {root} is none of {nodes} nodes")
             }
-            Flaw::NoNode(one, other, nodes) => {
-                f.write_str("key 'edges': in edge ")?;
-                f.write(Edge(one, other))?;
-                f.write_str(" one")?;
-                f.write(NoneOf(nodes))
-            }
-            Flaw::Loop(node) => {
-                f.write_str("key 'edges': edge ")?;
-                f.write(Edge(node, node))?;
-                f.write_str(" joins a node with itself")
-            }
+            Flaw::NoNode(one, other, nodes) => write!(
+                f,
+                "key 'edges': in edge [{one}, {other}] one is none of {nodes} nodes"
+            ),
+            Flaw::Loop(node) => write!(
+                f,
+                "key 'edges': edge [{node}, {node}] joins a node with itself"
+            ),
             Flaw::Twice(one, other) => {
-                f.write_str("key 'edges': edge ")?;
-                f.write(Edge(one, other))?;
-                f.write_str(" is there twice")
+                write!(f, "key 'edges': edge [{one}, {other}] is there twice")
             }
         }
     }
 }
 
-/// An edge, as a file has it.
-#[derive(Clone, Copy, Debug)]
-struct Edge(i64, i64);
-
-impl fmt::Display for Edge {
-    ghost use Rattle.std.specs.Prelude.{Some};
-    ghost use Rattle.network_hints.specs.HintText.{edge_text};
-
-    ghost output = { λ edge. Some (edge_text edge.0 edge.1) };
-
-    fn fmt<W: fmt::Write>(&self, f: &mut fmt::Formatter<W>) -> fmt::Result {
-        f.write_str("[")?;
-        f.write(self.0)?;
-        f.write_str(", ")?;
-        f.write(self.1)?;
-        f.write_str("]")
-    }
-}
-
-/// That it is none of so many nodes.
-#[derive(Clone, Copy, Debug)]
-struct NoneOf(i64);
-
-impl fmt::Display for NoneOf {
-    ghost use Rattle.std.specs.Prelude.{Some};
-    ghost use Rattle.network_hints.specs.HintText.{none_of_text};
-
-    ghost output = { λ nodes. Some (none_of_text nodes.0) };
-
-    fn fmt<W: fmt::Write>(&self, f: &mut fmt::Formatter<W>) -> fmt::Result {
-        f.write_str(" is none of ")?;
-        f.write(self.0)?;
-        f.write_str(" nodes")
-    }
-}
-
 /// A flaw, with an unknown key that is like the one that is missing.
-#[derive(Clone, Copy, Debug, PartialEq, Eq)]
+#[derive(Clone, Copy, Debug)]
 pub struct Hint<'a> {
     /// The network file.
     pub file: &'a str,

@@ -5,7 +5,8 @@ use Rattle.flight_records.specs.declared.entry.Deed.TheVariants.{Ticks, Takes, T
 use Rattle.flight_records.specs.declared.entry.Deed.TheVariants.{SendsAgain, Asks, Leaves, Joins}
 use Rattle.flight_records.specs.declared.entry.Deed.TheVariants.{Parts, Connects, Disconnects}
 use Rattle.accounts.specs.Deeds as account
-use Rattle.node_core.specs.Site.{Site}
+use Rattle.topology.specs.Network.{Network, neighbours_of}
+use Rattle.node_core.specs.Site.{Site, site_of}
 use Rattle.node_core.specs.State.{LocalState}
 
 -- The account of a deed as a record has it, and of deeds: a connection is no deed of the node itself, a
@@ -52,3 +53,8 @@ abbrev pub LeadElsewhere : Site → List Deed → LocalState → LocalState → 
 LeadElsewhere site ds from to =
     All (λ d. IsTrue (is_own_account d)) ds → (last : LocalState)
     → account.Leads site (account_of ds) from last → ¬ AreSame site.neighbours last to
+
+-- But for its neighbours, the site is that of this node in the network: that has as many nodes, and the
+-- same root, capacity and lease.
+abbrev pub FitsNetwork : Network → Site → Type 0
+FitsNetwork net site = site_of net site.id ≡ record site { neighbours = neighbours_of net site.id }

@@ -5,12 +5,11 @@ ghost use Rattle.accounts.specs.Deeds.{Leads};
 ghost use Rattle.node_core.specs.Site.{site_of};
 ghost use Rattle.node_core.specs.State.{default_node, LocalState};
 ghost use Rattle.node_core.specs.View.{site_in, state_of};
-ghost use Rattle.topology.specs.Network.{neighbours_of};
 ghost use Rattle.topology.specs.Ranges.{ranges_of};
 ghost use Rattle.flight_records.specs.declared.entry.Deed.TheVariants as flight_deed;
 ghost use Rattle.accounts.specs.Deeds.{after_ask};
 ghost use Rattle.lock_desk.specs.Desk.{after_leave};
-ghost use Rattle.node_follower.specs.Following.{account_of, is_own_account};
+ghost use Rattle.node_follower.specs.Following.{account_of, is_own_account, FitsNetwork};
 ghost use Rattle.node_follower.specs.Following.{AreSame, AreSameAlone, AreSameAt};
 
 use flight_records::Deed;
@@ -177,6 +176,7 @@ impl<A: Allocator + Copy> Follower<A> {
     /// Has the neighbours that its node has in this network from now on, if it is of a network with the
     /// same nodes, root, capacity and lease; else the answer is no, and nothing has changed.
     pub fn rewire(&mut self, net: &Net) -> bool
+        ensures answer { IsTrue result ↔ FitsNetwork net.now (site_in self.old) }
         ensures site { IsTrue result
             → site_in self.new ≡ site_of net.now (site_in self.old).id }
         ensures refused { result ≡ false → self.new ≡ self.old }
@@ -190,8 +190,7 @@ impl<A: Allocator + Copy> Follower<A> {
 
     /// Whether it is of a network with the same nodes, root, capacity and lease.
     fn is_of(&self, net: &Net) -> bool
-        ensures { IsTrue result → site_of net.now (site_in self.now).id
-            ≡ record (site_in self.now) { neighbours = neighbours_of net.now (site_in self.now).id } }
+        ensures { IsTrue result ↔ FitsNetwork net.now (site_in self.now) }
     {
         let ranges = self.node.ranges();
         ranges.nodes == net.nodes()

@@ -1,10 +1,12 @@
 //! A node's record, in two files of its folder.
-ghost use Rattle.std.specs.Prelude.{◌≡◌, ◌≤◌, ◌⊎◌, ◌||◌, IfOk, IsTrue, true, false, string_bytes};
+ghost use Rattle.std.specs.Prelude.{◌≡◌, ◌≢◌, ◌≤◌, ◌⊎◌, ◌||◌, IfOk, IsTrue, true, false, string_bytes};
 ghost use Rattle.std.specs.Prelude.{if◌then◌else◌};
 ghost use Rattle.node_recorder.specs.flight_recorder.Recorder.{after_failure, after_write, is_due};
 ghost use Rattle.node_recorder.specs.flight_recorder.Names.{record_name};
 ghost use Rattle.node_recorder.specs.flight_recorder.flight_records.declared.entry.Deed.TheVariants.{Connects, Disconnects};
+ghost use Rattle.node_core.specs.View.{site_in};
 ghost use Rattle.node_recorder.specs.Backlog.{nothing};
+ghost use Rattle.node_recorder.specs.node_follower.Following.{FitsNetwork};
 ghost use Rattle.node_recorder.specs.Quiet.{is_quiet};
 ghost use Rattle.node_recorder.specs.flight_recorder.declared.recorder.Side.TheVariants.{First, Second};
 ghost use Rattle.node_process.specs.Tapes.{file_bytes, of_side, side_to_begin};
@@ -204,7 +206,12 @@ impl<'a, R: Files<File = File> + Clock + Eprint + AllocGlobal> Tape<'a, R> {
 
     /// The node may have other neighbours from now on. If so, the network's text is kept again.
     pub fn rewired<D: Doors, S: Store + Drop>(&mut self, words: &NodeWords<'_>, run: &NodeRun<D, S>)
-        ensures { self.new.recorder.pages ≡ self.old.recorder.pages }
+        ensures pages { self.new.recorder.pages ≡ self.old.recorder.pages }
+        // If it has, and no deed waits, its whole state is noted before its next deeds.
+        ensures taken { (site_in self.old.recorder.follower).neighbours
+            ≢ (site_in run.now.node).neighbours → self.old.recorder.backlog ≡ nothing
+            → FitsNetwork run.now.net (site_in self.old.recorder.follower)
+            → self.new.recorder.is_rewired ≡ true }
     {
         if !self.recorder.knows_neighbours_of(run.node()) {
             self.recorder.rewire(run.net(), run.node());

@@ -1,5 +1,6 @@
 -- Networks, names and records that are small enough to see through.
 use Rattle.std.proofs.Common.{◌≡◌, ℕ, [], ◌∷◌, true, false, refl, arith, codes}
+use Rattle.std.proofs.Math.ListN.{replicate}
 use Rattle.topology.specs.Network.{Network}
 use Rattle.flight_recorder.specs.flight_records.declared.entry.Deed.TheVariants.{Connects, Ticks, TakesAgain, SendsAgain}
 use Rattle.flight_recorder.specs.Recorder.{after_failure, at_start}
@@ -60,9 +61,20 @@ first-of-none = refl
 noted-in-order : (r : RecorderView) → after_all three r ≡ after_deeds 9 (Ticks ∷ []) (after_deeds 5 (Ticks ∷ SendsAgain 1 ∷ []) r)
 noted-in-order r = refl
 
--- three are few, and leave room for 1533 more, but not for 1534
+-- three are few, and leave room for 1533 more, but not for 1534; 512 are many, 511 not yet
 few : is_long three ≡ false
 few = refl
+
+ticks : ℕ → BacklogView
+ticks n = record { deeds = replicate n Ticks; instants = replicate n 5 }
+
+many : is_long (ticks 512) ≡ true
+unfolding ticks
+many = refl
+
+many-not : is_long (ticks 511) ≡ false
+unfolding ticks
+many-not = refl
 
 room : has_room 1533 three ≡ true
 room = refl

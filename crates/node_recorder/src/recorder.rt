@@ -1,11 +1,11 @@
 //! The recorder of a node.
-ghost use Rattle.std.specs.Prelude.{◌≡◌, ◌<◌, ◌⊎◌, IfOk, IsTrue, true, false};
+ghost use Rattle.std.specs.Prelude.{◌≡◌, ◌<◌, ◌⊎◌, IfOk, IsTrue, length, true, false};
 ghost use Rattle.node_recorder.specs.Backlog.{first_instant, nothing};
 ghost use Rattle.node_follower.specs.accounts.Deeds.{Leads};
 ghost use Rattle.node_follower.specs.node_core.Site.{site_of};
 ghost use Rattle.node_follower.specs.node_core.View.{site_in, state_of};
 ghost use Rattle.flight_recorder.specs.Recorder.{after_failure, after_write, fills};
-ghost use Rattle.node_follower.specs.Following.{account_of, AreSame, LeadElsewhere};
+ghost use Rattle.node_follower.specs.Following.{account_of, AreSame, FitsNetwork, LeadElsewhere};
 ghost use Rattle.node_follower.specs.Parts.{state_parts};
 ghost use Rattle.node_recorder.specs.Turns.{after_deeds, after_parts, after_ports, after_queue, after_state};
 ghost use Rattle.node_recorder.specs.Turns.{mixed, network_mark, is_to_begin, with_backlog, with_beginning};
@@ -161,6 +161,14 @@ impl<A: Allocator + Copy> NodeRecorder<A> {
         ensures backlog { self.new.backlog ≡ self.old.backlog }
         ensures done { (self.new ≡ self.old)
             ⊎ ((self.new.is_rewired ≡ true) × Stands self.new node.now) }
+        ensures taken { length self.old.backlog.deeds ≡ 0
+            → FitsNetwork net.now (site_in self.old.follower) → self.new.is_rewired ≡ true }
+        ensures site { length self.old.backlog.deeds ≡ 0
+            → FitsNetwork net.now (site_in self.old.follower) → site_in self.new.follower
+            ≡ site_of net.now (site_in self.old.follower).id }
+        ensures waits { 0 < length self.old.backlog.deeds → self.new ≡ self.old }
+        ensures refused { ¬ FitsNetwork net.now (site_in self.old.follower)
+            → self.new ≡ self.old }
     {
         if self.backlog.is_empty() && self.follower.rewire(net) {
             self.is_lost = !self.follower.take_over(node);

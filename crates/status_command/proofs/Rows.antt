@@ -1,10 +1,13 @@
 -- What is asked, answered and shown: examples by hand.
-use Rattle.std.proofs.Common.{◌≡◌, true, false, None, Some, [], ◌∷◌, codes, refl}
+use Rattle.std.proofs.Common.{◌≡◌, inl, inr, arith, true, false, None, Some, [], ◌∷◌, codes, refl}
 use Rattle.std.specs.Fmt.{digits}
 use Rattle.status_readings.specs.declared.minute.Sample.{Sample}
 use Rattle.status_command.specs.declared.question.Question.TheVariants.{Status, Look}
 use Rattle.status_command.specs.declared.screen.Screen.TheVariants.{Blocks, Lines}
 use Rattle.status_command.specs.Asking.{question_path, AreWordsOf, is_answered, line_or_empty, nodes_of}
+use Rattle.std.specs.declared.io.ErrorKind.TheVariants as kind
+use Rattle.status_command.specs.declared.notice.Notice.TheVariants.{Output, Closed, Memory}
+use Rattle.status_command.specs.Reasons.{notice_status, why_not_written, IsEnd}
 use Rattle.status_command.specs.Shown.{after_block, is_in_place, minute_after}
 
 -- each is asked at its own socket
@@ -61,3 +64,26 @@ minute-said : minute_after 1500
     (record { node = 2; said = Some (record { count = 4; lately = 80; present = None; rounds = 12 }) } ∷ []) (old ∷ [])
     ≡ old ∷ record { at = 1500; count = 4; lately = 80; present = 0; rounds = 12 } ∷ []
 minute-said = refl
+
+-- a reader that is gone is no failure of the output; a full disk is
+written_not-gone : why_not_written kind.BrokenPipe ≡ Closed
+written_not-gone = refl
+
+written_not-full : why_not_written kind.StorageFull ≡ Output
+written_not-full = refl
+
+written_not-memory : why_not_written kind.OutOfMemory ≡ Memory
+written_not-memory = refl
+
+status-gone : notice_status Closed ≡ 141
+status-gone = refl
+
+status-full : notice_status Output ≡ 1
+status-full = refl
+
+end-answered : IsEnd 0
+end-answered = inl (omega arith)
+
+end_not-invalid : ¬ IsEnd 2
+end_not-invalid (inl few) = omega arith
+end_not-invalid (inr gone) = omega arith

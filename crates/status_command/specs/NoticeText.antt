@@ -3,7 +3,7 @@ use Rattle.std.specs.Prelude.{ℕ, List, ◌++◌, codes, decimal}
 use Rattle.network_file.specs.FaultText.{network_fault_text}
 use Rattle.status_command.specs.declared.notice.Notice.{Notice}
 use Rattle.status_command.specs.declared.notice.Notice.TheVariants.{NoFolder, Forbidden, NoSockets}
-use Rattle.status_command.specs.declared.notice.Notice.TheVariants.{NeverWas, OtherNetwork, NoNetwork, NoInterval, System, Memory, Output}
+use Rattle.status_command.specs.declared.notice.Notice.TheVariants.{NeverWas, OtherNetwork, NoNetwork, NoInterval, System, Memory, Output, Closed}
 
 -- what each says
 abbrev pub notice_text : Notice → List ℕ
@@ -21,6 +21,7 @@ notice_text NoInterval = codes "--every is no time from 0.1 to 3600 seconds, wit
 notice_text System = codes "the system has no descriptor, poll or clock to give; try again"
 notice_text Memory = codes "memory Refused"
 notice_text Output = codes "output Refused"
+notice_text Closed = codes "output Closed"
 
 -- the line, which begins with the program's name
 abbrev pub notice_line : Notice → List ℕ

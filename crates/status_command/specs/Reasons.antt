@@ -1,10 +1,10 @@
--- Why nodes are not asked, by the system's answer.
-use Rattle.std.specs.Prelude.{List, ℕ}
+-- Why nodes are not asked, or not shown, by the system's answer; and the exit status.
+use Rattle.std.specs.Prelude.{◌≡◌, ◌⊎◌, ◌≤◌, List, ℕ}
 use Rattle.std.specs.Borrow.{Bor}
 use Rattle.std.specs.declared.io.ErrorKind.{ErrorKind}
 use Rattle.std.specs.declared.io.ErrorKind.TheVariants as kind
 use Rattle.status_command.specs.declared.notice.Notice.{Notice}
-use Rattle.status_command.specs.declared.notice.Notice.TheVariants.{NoFolder, Forbidden, System, Memory}
+use Rattle.status_command.specs.declared.notice.Notice.TheVariants.{NoFolder, Forbidden, System, Memory, Output, Closed}
 
 -- why a folder cannot be read; std has the kind Uncategorized for a process that has no descriptor
 -- left
@@ -19,3 +19,19 @@ why_no_nodes _ folder = Forbidden folder
 abbrev pub why_not_asked : ErrorKind → Notice
 why_not_asked kind.Uncategorized = System
 why_not_asked _ = Memory
+
+-- why nothing more is shown: the reader is gone if the system says that the pipe is broken
+abbrev pub why_not_written : ErrorKind → Notice
+why_not_written kind.BrokenPipe = Closed
+why_not_written kind.OutOfMemory = Memory
+why_not_written _ = Output
+
+-- The exit status after a notice. A reader that is gone is that of a process that the signal for it
+-- ended: 128 and 13, its number.
+abbrev pub notice_status : Notice → ℕ
+notice_status Closed = 141
+notice_status _ = 1
+
+-- 0 if all nodes answered, 1 if not, or for another notice, and 141 if the reader is gone
+abbrev pub IsEnd : ℕ → Type 0
+IsEnd status = (status ≤ 1) ⊎ (status ≡ 141)

@@ -1,11 +1,12 @@
 //! `status --premises` and `status --links`: what nodes say at their sockets for lookers.
-ghost use Rattle.std.specs.Prelude.{◌≡◌, ◌≤◌, IfOk};
+ghost use Rattle.std.specs.Prelude.{◌≡◌, IfOk};
+ghost use Rattle.status_command.specs.Reasons.{IsEnd};
 ghost use Rattle.status_command.specs.Asking.{text_or_empty, text_in, loans_in};
 
 use crate::answering::first_line;
 use crate::asking::{Asked, ask_all};
 use crate::folder::nodes_asked;
-use crate::notice::{Notice, reported};
+use crate::notice::{Notice, reported, why_not_written};
 use crate::question::Question;
 use crate::status::{NO_ANSWER, WAIT, why_not_asked};
 use node_texts::{PremisesLine, TurnsSaid, premises_report};
@@ -32,7 +33,7 @@ pub fn run<R: Net + Files + Clock + Print + Eprint + AllocGlobal>(
     nodes: &[u16],
     part: Part,
 ) -> u8
-    ensures { result ≤ 1 }
+    ensures { IsEnd result }
 {
     match print_part(rt, folder, nodes, part) {
         Ok(true) => 0,
@@ -42,7 +43,7 @@ pub fn run<R: Net + Files + Clock + Print + Eprint + AllocGlobal>(
 }
 
 /// Asks and prints. Returns whether each node answered.
-fn print_part<'a, R: Net + Files + Clock + Print + AllocGlobal>(
+fn print_part<'a, R: Net + Files + Clock + Print + Eprint + AllocGlobal>(
     rt: &R,
     folder: &'a str,
     nodes: &[u16],
@@ -64,7 +65,7 @@ fn print_part<'a, R: Net + Files + Clock + Print + AllocGlobal>(
 }
 
 /// Prints what came. Returns whether each node answered.
-fn print_said<'a, R: Print + AllocGlobal>(
+fn print_said<'a, R: Print + Eprint + AllocGlobal>(
     rt: &R,
     all: &[Asked],
     part: Part,
@@ -78,7 +79,7 @@ fn print_said<'a, R: Print + AllocGlobal>(
     };
     match rt.print(text.as_str()) {
         Ok(()) => Ok(all_said),
-        Err(_) => Err(Notice::Output),
+        Err(error) => Err(why_not_written(rt, error)),
     }
 }
 

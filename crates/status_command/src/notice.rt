@@ -1,8 +1,14 @@
-//! The lines on standard error.
+//! The lines on standard error, and the status after one.
 ghost use Rattle.std.specs.Prelude.{◌≡◌};
+ghost use Rattle.std.specs.IoError.{error_kind};
+ghost use Rattle.status_command.specs.Reasons.{notice_status, why_not_written, IsEnd};
 
 use network_file::NetworkFault;
-use std::fmt;
+use std::io::ErrorKind;
+use std::{fmt, io};
+
+/// The status if the reader of standard output is gone, as after the signal for that.
+const READER_GONE: u8 = 141;
 
 /// Why nothing is shown of the nodes. Printed, it is the message without the program's name.
 #[derive(Clone, Copy, Debug, PartialEq, Eq, Drop)]
@@ -37,6 +43,8 @@ pub enum Notice<'a> {
     Memory,
     /// Standard output took no more.
     Output,
+    /// The reader of standard output is gone.
+    Closed,
 }
 
 impl fmt::Display for Notice<'_> {
@@ -75,6 +83,7 @@ impl fmt::Display for Notice<'_> {
             }
             Notice::Memory => f.write_str("memory Refused"),
             Notice::Output => f.write_str("output Refused"),
+            Notice::Closed => f.write_str("output Closed"),
         }
     }
 }
@@ -95,12 +104,31 @@ impl fmt::Display for NoticeLine<'_> {
     }
 }
 
-/// Reports why nothing is shown, and returns the exit status.
+/// Reports why nothing is shown, unless the reader of it is gone, and returns the exit status.
 pub fn reported<R: Eprint>(rt: &R, notice: Notice<'_>) -> u8
-    ensures { result ≡ 1 }
+    ensures status { result ≡ notice_status notice }
+    ensures end { IsEnd result }
 {
+    if let Notice::Closed = notice {
+        return READER_GONE;
+    }
     let _ = rt.eprintln(NoticeLine(notice));
     1
+}
+
+/// Why nothing more is shown, by the error of standard output. If that refused it, the system's words
+/// are said on standard error.
+pub fn why_not_written<'a, R: Eprint>(rt: &R, error: io::Error) -> Notice<'a>
+    ensures { result ≡ why_not_written (error_kind error) }
+{
+    match error.kind() {
+        ErrorKind::BrokenPipe => Notice::Closed,
+        ErrorKind::OutOfMemory => Notice::Memory,
+        _ => {
+            let _ = eprintln!(rt; "tokentree: standard output: {error}");
+            Notice::Output
+        }
+    }
 }
 
 /// Reports why a command line is invalid, and returns the exit status.

@@ -1,12 +1,12 @@
 //! `status`: shows how nodes stand.
-ghost use Rattle.std.specs.Prelude.{◌≡◌, ◌≤◌, IfOk, string_bytes};
+ghost use Rattle.std.specs.Prelude.{◌≡◌, IfOk, string_bytes};
 ghost use Rattle.status_command.specs.Asking.{nodes_of};
 ghost use Rattle.status_command.specs.Shown.{IsTextOf};
-ghost use Rattle.status_command.specs.Reasons.{why_not_asked};
+ghost use Rattle.status_command.specs.Reasons.{why_not_asked, IsEnd};
 
 use crate::asking::ask_all;
 use crate::folder::{nodes_asked, was_never};
-use crate::notice::{Notice, NoticeLine, reported};
+use crate::notice::{Notice, NoticeLine, reported, why_not_written};
 use crate::question::Question;
 use crate::windows::{answers_with, without_room};
 use node_texts::{NodeAnswer, all_answered, report};
@@ -37,7 +37,7 @@ pub enum Form {
 /// in the folder, by ascending id; and how many of them are privileged, and how many lend. A node
 /// that closes the connection, as a node without room does, is asked again, and then at its socket
 /// for lookers. A node that gives no line within a second is reported as silent. Returns the exit
-/// status: 1 if a node gave no line, or there is no node.
+/// status: 1 if a node gave no line, or there is no node; 141 if the reader of standard output is gone.
 ///
 /// No contract can say what the nodes answer. [`StatusLine::read`](node_texts::StatusLine::read)
 /// says how their lines are read, and [`report`] what is printed of them.
@@ -47,7 +47,7 @@ pub fn run<R: Net + Files + Clock + Print + Eprint + AllocGlobal>(
     nodes: &[u16],
     form: Form,
 ) -> u8
-    ensures { result ≤ 1 }
+    ensures { IsEnd result }
 {
     match print_status(rt, folder, nodes, form) {
         Ok(true) => 0,
@@ -115,7 +115,7 @@ fn print_answers<'a, R: Files + Print + Eprint + AllocGlobal>(
             tell_of_absent(rt, folder, answers);
             Ok(all_answered(answers))
         }
-        Err(_) => Err(Notice::Output),
+        Err(error) => Err(why_not_written(rt, error)),
     }
 }
 

@@ -1,5 +1,6 @@
 //! `status --watch`: shows how nodes stand, again and again.
-ghost use Rattle.std.specs.Prelude.{◌≡◌, ◌≤◌, IfOk, OnOk, string_bytes};
+ghost use Rattle.std.specs.Prelude.{◌≡◌, IfOk, OnOk, string_bytes};
+ghost use Rattle.status_command.specs.Reasons.{IsEnd};
 ghost use Rattle.status_readings.specs.Minute.{rates_of};
 ghost use Rattle.status_readings.specs.Picture.{picture_text};
 ghost use Rattle.status_command.specs.Shown.{minute_after};
@@ -7,7 +8,7 @@ ghost use Rattle.status_command.specs.Shown.{minute_after};
 use crate::asking::ask_all;
 use crate::folder::nodes_asked;
 use crate::looks::loans_of;
-use crate::notice::{Notice, reported};
+use crate::notice::{Notice, reported, why_not_written};
 use crate::question::Question;
 use crate::screen::{End, Screen};
 use crate::status::{Form, answers_of, text_of, why_not_asked};
@@ -45,7 +46,7 @@ pub fn run<R: Net + Files<File = File> + Clock + Input + Print + Eprint + Proces
     rt: &R,
     watch: &Watch,
 ) -> u8
-    ensures { result ≤ 1 }
+    ensures { IsEnd result }
 {
     let mut screen = Screen::begin(rt, watch.form);
     let done = show_all(rt, watch, &mut screen);
@@ -57,7 +58,7 @@ pub fn run<R: Net + Files<File = File> + Clock + Input + Print + Eprint + Proces
 }
 
 /// Shows one reading after the other until somebody ends the watch.
-fn show_all<'a, R: Net + Files + Clock + Input + Print + AllocGlobal>(
+fn show_all<'a, R: Net + Files + Clock + Input + Print + Eprint + AllocGlobal>(
     rt: &R,
     watch: &Watch<'a>,
     screen: &mut Screen,
@@ -68,8 +69,8 @@ fn show_all<'a, R: Net + Files + Clock + Input + Print + AllocGlobal>(
     let mut minute = Minute::new(rt.alloc());
     for _ in 0..u64::MAX {
         let text = shown(rt, watch, start, &mut minute)?;
-        if screen.show(rt, text.as_str()).is_err() {
-            return Err(Notice::Output);
+        if let Err(error) = screen.show(rt, text.as_str()) {
+            return Err(why_not_written(rt, error));
         }
         if let End::Asked = screen.rest(rt, watch.every) {
             return Ok(());
