@@ -106,7 +106,7 @@ impl fmt::Display for NoticeLine<'_> {
 
 /// Reports why nothing is shown, unless the reader of it is gone, and returns the exit status.
 pub fn reported<R: Eprint>(rt: &R, notice: Notice<'_>) -> u8
-    ensures status { result ≡ notice_status notice }
+    ensures status { result ≡ notice_status notice.entry }
     ensures end { IsEnd result }
 {
     if let Notice::Closed = notice {
