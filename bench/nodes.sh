@@ -104,6 +104,22 @@ for words in [["bound"], ["simulate", "-"]]:
     row("%s with >&- says that its output was refused, and why" % words[0], ended(shown)[::2],
         (1, "tokentree: standard output: Bad file descriptor (os error 9)\ntokentree: output Refused\n"))
 
+# A full disk, and a reader that is gone.
+file, where = fresh("output")
+node = start(["node", file, "0", where])
+serves(where, 0)
+with open("/dev/full", "w") as full:
+    shown = subprocess.run([program, "status", where], stdout=full, stderr=subprocess.PIPE, text=True)
+row("status > /dev/full says that its output was refused, and why", (shown.returncode, shown.stderr),
+    (1, "tokentree: standard output: No space left on device (os error 28)\ntokentree: output Refused\n"))
+reader, writer = os.pipe()
+os.close(reader)
+shown = subprocess.run([program, "status", where], stdout=writer, stderr=subprocess.PIPE, text=True)
+os.close(writer)
+row("status whose reader is gone says nothing", (shown.returncode in (141, -signal.SIGPIPE), shown.stderr), (True, ""))
+open(where + "/stop-0", "w").close()
+ended(node)
+
 # DIR is gone, or is another folder.
 for what, do in [("removed", lambda where: shutil.rmtree(where)),
                  ("renamed", lambda where: os.rename(where, where + "-old")),
