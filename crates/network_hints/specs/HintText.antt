@@ -7,6 +7,10 @@ use Rattle.network_hints.specs.declared.flaw.Flaw.{Flaw}
 use Rattle.network_hints.specs.declared.flaw.Flaw.TheVariants.{NoKey, NoInteger, NoArray, NoEdge, OutOfRange}
 use Rattle.network_hints.specs.declared.flaw.Flaw.TheVariants.{TooMany, NoRoot, NoNode, Loop, Twice}
 
+-- that it is none of so many nodes
+abbrev pub none_of_text : ℤ → List ℕ
+none_of_text nodes = codes " is none of " ++ (signed_decimal nodes ++ codes " nodes")
+
 -- which key or edge it is, and what it must be
 abbrev pub flaw_text : Flaw → List ℕ
 flaw_text (NoKey key) = codes "no key '" ++ (key_name key ++ codes "'")
@@ -18,8 +22,7 @@ flaw_text (OutOfRange key value least most) =
     codes "key '" ++ (key_name key ++ (codes "': " ++ (signed_decimal value
     ++ (codes " must be an integer from " ++ (signed_decimal least ++ (codes " to " ++ signed_decimal most))))))
 flaw_text (TooMany count) = codes "key 'edges': " ++ (decimal count ++ codes " edges are more than 256")
-flaw_text (NoRoot root nodes) =
-    codes "key 'root': " ++ (signed_decimal root ++ (codes " is none of " ++ (signed_decimal nodes ++ codes " nodes")))
+flaw_text (NoRoot root nodes) = codes "key 'root': " ++ (signed_decimal root ++ none_of_text nodes)
 flaw_text (NoNode one other nodes) =
     codes "key 'edges': in edge [" ++ (signed_decimal one ++ (codes ", " ++ (signed_decimal other
     ++ (codes "] one is none of " ++ (signed_decimal nodes ++ codes " nodes")))))

@@ -53,7 +53,9 @@ impl fmt::Display for Flaw {
             ),
             Flaw::TooMany(count) => write!(f, "key 'edges': {count} edges are more than 256"),
             Flaw::NoRoot(root, nodes) => {
-                write!(f, "key 'root': {root} is none of {nodes} nodes")
+                f.write_str("key 'root': ")?;
+                f.write(root)?;
+                f.write(NoneOf(nodes))
             }
             Flaw::NoNode(one, other, nodes) => write!(
                 f,
@@ -67,6 +69,21 @@ impl fmt::Display for Flaw {
                 write!(f, "key 'edges': edge [{one}, {other}] is there twice")
             }
         }
+    }
+}
+
+/// That it is none of so many nodes.
+#[derive(Clone, Copy, Debug)]
+struct NoneOf(i64);
+
+impl fmt::Display for NoneOf {
+    ghost use Rattle.std.specs.Prelude.{Some};
+    ghost use Rattle.network_hints.specs.HintText.{none_of_text};
+
+    ghost output = { λ nodes. Some (none_of_text nodes.0) };
+
+    fn fmt<W: fmt::Write>(&self, f: &mut fmt::Formatter<W>) -> fmt::Result {
+        write!(f, " is none of {} nodes", self.0)
     }
 }
 
