@@ -1,5 +1,5 @@
 -- The facts of a world are listed one after the other, and what they become is joined.
-use Rattle.std.proofs.Common.{◌≡◌, ◌∙◌, ap, sym, refl, ℕ, suc, ◌+◌, ◌<◌, Bool, true, false, List, [], ◌∷◌, ◌++◌, Some, Result, Ok, Err, length, map, take, append_assoc, arith}
+use Rattle.std.proofs.Common.{◌≡◌, ◌∙◌, ap, sym, refl, subst, ℕ, suc, ◌+◌, ◌<◌, Bool, true, false, List, [], ◌∷◌, ◌++◌, Some, Result, Ok, Err, length, map, take, append_assoc, arith}
 use Rattle.std.proofs.lemmas.List.{map-append, take_more}
 use Rattle.std.proofs.lemmas.Option.{slice_get-get_or}
 use Rattle.std.specs.Prelude.{if◌then◌else◌, OnOk, is_some, slice_get, slice_index_or}
@@ -36,6 +36,14 @@ one-more {X = X} {Y = Y} f append old now new xs i x more before after =
     ∙ append_assoc old (f (take i xs)) (f (x ∷ []))
     ∙ ap (λ (l : List Y). old ++ l) (sym (append (take i xs) (x ∷ [])))
     ∙ ap (λ (l : List X). old ++ f l) (sym more)
+
+-- what each element becomes, of a list that is read as another one
+pub map-more : {X Y : Type 0} (f : X → Y) (old now new : List Y) (xs read : List X) → read ≡ xs → (i : ℕ) (x : X) → i < length read
+    → now ≡ old ++ map f (take i xs) → new ≡ now ++ f (slice_index_or read i x) ∷ []
+    → new ≡ old ++ map f (take (i + 1) xs)
+map-more {X = X} f old now new xs read same i x l before after =
+    subst (λ (l : List X). now ≡ old ++ map f (take i l) → new ≡ old ++ map f (take (i + 1) l)) same
+    (λ first. one-more (map f) (map-append f) old now new read i (slice_index_or read i x) (take_more read i x l) first after) before
 
 -- one more at the front, unless it is passed over
 one-unless : (b : Bool) (one : Fact) (all first rest : List Fact) → all ≡ first ++ rest

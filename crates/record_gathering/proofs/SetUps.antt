@@ -23,7 +23,6 @@ use Rattle.configuration.specs.run_model.Start.{world_with_spares}
 use Rattle.configuration.specs.run_model.Step.{step}
 use Rattle.configuration.specs.run_model.Run.{run}
 use Rattle.configuration.specs.run_model.Laws.{RunsJoin, RangesStay, FrameStays, StartIsInRange}
-use Rattle.configuration.specs.run_model.declared.event.Event.{Event}
 use Rattle.configuration.specs.run_model.declared.event.Event.TheVariants.{Damage}
 use Rattle.configuration.specs.run_model.declared.event.Harm.{Harm}
 use Rattle.configuration.specs.run_model.declared.event.Harm.TheVariants as harm

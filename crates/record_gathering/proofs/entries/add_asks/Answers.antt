@@ -1,12 +1,8 @@
-use Rattle.std.proofs.Common.{map}
-use Rattle.std.proofs.lemmas.List.{map-append, take_more}
+use Rattle.std.proofs.Common.{refl}
 use Rattle.configuration.specs.run_model.declared.event.Event.TheVariants.{Ask}
-use Rattle.record_gathering.proofs.FactsJoin.{one-more}
+use Rattle.record_gathering.proofs.FactsJoin.{map-more}
 use Rattle.record_gathering.proofs.entries.add_asks.Goals as goal
 
 pub loop-ticket-preserved : goal.loop-ticket-preserved
 loop-ticket-preserved g c =
-    let i = c.loop-ticket.ticket-index in
-    let ts = c.args.tickets.now in
-    one-more (map (Ask c.args.node)) (map-append (Ask c.args.node)) _ _ _ ts i _ (take_more ts i _ c.loop-ticket-test.true)
-    c.loop-ticket.invariant c.in_ok-add.ensures
+    map-more (Ask c.args.node) _ _ _ _ _ refl c.loop-ticket.ticket-index _ c.loop-ticket-test.true c.loop-ticket.invariant c.in_ok-add.ensures
