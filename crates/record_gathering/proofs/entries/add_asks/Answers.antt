@@ -5,4 +5,5 @@ use Rattle.record_gathering.proofs.entries.add_asks.Goals as goal
 
 pub loop-ticket-preserved : goal.loop-ticket-preserved
 loop-ticket-preserved g c =
-    map-more (Ask c.args.node) _ _ _ _ _ refl c.loop-ticket.ticket-index _ c.loop-ticket-test.true c.loop-ticket.invariant c.in_ok-add.ensures
+    map-more (Ask c.args.node) _ _ _ _ _ refl c.loop-ticket.ticket-index _ c.loop-ticket-test.true
+    c.loop-ticket.invariant c.in_ok-add.ensures
