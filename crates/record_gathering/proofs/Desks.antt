@@ -95,29 +95,30 @@ module _ (w : World) (v : ℕ) (here : v < w.net.nodes) where
     here-too : v < m.net.nodes
     here-too = subst (λ (n : Network). v < n.nodes) (sym h.network) here
 
+    -- a fact of the desk holds there too
+    still : (P : DeskState → Type 0) → P d → P (m.node v).desk
+    still P = subst P (sym h.desk)
+
+    -- an event that changes the desk
+    changed-at : (e : Event) (f : DeskState → DeskState) → step m e ≡ with_desk m v (f (m.node v).desk) → IsDeskAt w v (f d) (step m e)
+    changed-at e f to =
+        subst (IsDeskAt w v (f d)) (sym (to ∙ ap (λ (c : DeskState). with_desk m v (f c)) h.desk)) (desk-written d (f d) m h)
+
     loan-at : (lent : Option ℕ) (left : ℕ) (served : Bool) → loan_fits w.net.lease d lent left ≡ true
         → IsDeskAt w v (with_loan d lent left served) (step m (Damage (harm.Desk v lent left served)))
     loan-at lent left served fits =
-        subst (IsDeskAt w v (with_loan d lent left served))
-        (sym (desk-step m v here-too lent left served
+        changed-at (Damage (harm.Desk v lent left served)) (λ c. with_loan c lent left served)
+        (desk-step m v here-too lent left served
         (subst (λ (n : Network). loan_fits n.lease (m.node v).desk lent left ≡ true) (sym h.network)
-        (subst (λ (e : DeskState). loan_fits w.net.lease e lent left ≡ true) (sym h.desk) fits))
-        ∙ ap (λ (e : DeskState). with_desk m v (with_loan e lent left served)) h.desk))
-        (desk-written d (with_loan d lent left served) m h)
+        (still (λ c. loan_fits w.net.lease c lent left ≡ true) fits)))
 
     leave-at : (t : ℕ) → is_stranger t d ≡ false → IsDeskAt w v (after_leave t d) (step m (Leave v t))
     leave-at t known =
-        subst (IsDeskAt w v (after_leave t d))
-        (sym (leave-step m v here-too t (subst (λ (e : DeskState). is_stranger t e ≡ false) (sym h.desk) known)
-        ∙ ap (λ (e : DeskState). with_desk m v (after_leave t e)) h.desk))
-        (desk-written d (after_leave t d) m h)
+        changed-at (Leave v t) (after_leave t) (leave-step m v here-too t (still (λ c. is_stranger t c ≡ false) known))
 
     ask-at : (t : ℕ) → is_number t ≡ true → ask_fault t d ≡ None → IsDeskAt w v (asked t d) (step m (Ask v t))
     ask-at t number free =
-        subst (IsDeskAt w v (asked t d))
-        (sym (ask-step m v here-too t number (subst (λ (e : DeskState). ask_fault t e ≡ None) (sym h.desk) free)
-        ∙ ap (λ (e : DeskState). with_desk m v (asked t e)) h.desk))
-        (desk-written d (asked t d) m h)
+        changed-at (Ask v t) (asked t) (ask-step m v here-too t number (still (λ c. ask_fault t c ≡ None) free))
 
   known-first : (t : ℕ) (ts : List ℕ) → is_stranger t (waiting (t ∷ ts)) ≡ false
   known-first t ts = grind (arith, common_steps)

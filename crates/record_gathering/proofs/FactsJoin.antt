@@ -1,5 +1,5 @@
 -- The facts of a world are listed one after the other, and what they become is joined.
-use Rattle.std.proofs.Common.{◌≡◌, ◌∙◌, ap, sym, refl, ℕ, suc, ◌+◌, ◌<◌, Bool, true, false, List, [], ◌∷◌, ◌++◌, Some, Result, Ok, Err, length, map, take, append_assoc, arith}
+use Rattle.std.proofs.Common.{◌≡◌, ◌∙◌, ap, sym, refl, subst, ℕ, suc, ◌+◌, ◌<◌, Bool, true, false, List, [], ◌∷◌, ◌++◌, Some, Result, Ok, Err, length, map, take, append_assoc, arith}
 use Rattle.std.proofs.lemmas.List.{map-append, take_more}
 use Rattle.std.proofs.lemmas.Option.{slice_get-get_or}
 use Rattle.std.specs.Prelude.{if◌then◌else◌, OnOk, is_some, slice_get, slice_index_or}
@@ -37,29 +37,29 @@ one-more {X = X} {Y = Y} f append old now new xs i x more before after =
     ∙ ap (λ (l : List Y). old ++ l) (sym (append (take i xs) (x ∷ [])))
     ∙ ap (λ (l : List X). old ++ f l) (sym more)
 
+-- what each element becomes, of a list that is read as another one
+pub map-more : {X Y : Type 0} (f : X → Y) (old now new : List Y) (xs read : List X) → read ≡ xs → (i : ℕ) (x : X) → i < length read
+    → now ≡ old ++ map f (take i xs) → new ≡ now ++ f (slice_index_or read i x) ∷ []
+    → new ≡ old ++ map f (take (i + 1) xs)
+map-more {X = X} f old now new xs read same i x l before after =
+    subst (λ (l : List X). now ≡ old ++ map f (take i l) → new ≡ old ++ map f (take (i + 1) l)) same
+    (λ first. one-more (map f) (map-append f) old now new read i (slice_index_or read i x) (take_more read i x l) first after) before
+
+-- one more at the front, unless it is passed over
+one-unless : (b : Bool) (one : Fact) (all first rest : List Fact) → all ≡ first ++ rest
+    → (if b then all else one ∷ all) ≡ (if b then first else one ∷ first) ++ rest
+one-unless true one all first rest e = e
+one-unless false one all first rest e = ap (λ (l : List Fact). one ∷ l) e
+
 pub joins-append : (net : Network) (xs ys : List Edge) → joins net (xs ++ ys) ≡ joins net xs ++ joins net ys
 joins-append net [] ys = refl
 joins-append net (e ∷ es) ys =
-    let one : Fact = Written (harm.Join e.0 e.1) in
-    let by : (b : Bool) → (if b then joins net (es ++ ys) else one ∷ joins net (es ++ ys))
-    ≡ (if b then joins net es else one ∷ joins net es) ++ joins net ys =
-    elim [
-      | true ↦ joins-append net es ys
-      | false ↦ ap (λ (l : List Fact). one ∷ l) (joins-append net es ys)
-    ] in
-    by (are_joined net.edges e.0 e.1)
+    one-unless (are_joined net.edges e.0 e.1) (Written (harm.Join e.0 e.1)) _ _ _ (joins-append net es ys)
 
 pub parts-append : (net : Network) (xs ys : List Edge) → parts net (xs ++ ys) ≡ parts net xs ++ parts net ys
 parts-append net [] ys = refl
 parts-append net (e ∷ es) ys =
-    let one : Fact = Written (harm.Part e.0 e.1) in
-    let by : (b : Bool) → (if b then parts net (es ++ ys) else one ∷ parts net (es ++ ys))
-    ≡ (if b then parts net es else one ∷ parts net es) ++ parts net ys =
-    elim [
-      | true ↦ parts-append net es ys
-      | false ↦ ap (λ (l : List Fact). one ∷ l) (parts-append net es ys)
-    ] in
-    by (are_joined net.edges e.0 e.1)
+    one-unless (are_joined net.edges e.0 e.1) (Written (harm.Part e.0 e.1)) _ _ _ (parts-append net es ys)
 
 -- ---- facts in two parts
 
@@ -181,14 +181,19 @@ state-listed network site s i start own loan old a b p q l new is is_start is_ow
     ∙ ap (λ (x : StatePart). listed site.id (Start network site.id) (own_part s) x) is_loan
     ∙ state-pieces network site s old
 
+-- what an item becomes, item after item
+one-item : {Y : Type 0} (f : Item → Y) (items : List Item) (old now new : List Y) (i : ℕ) (item : Item) → i < length items
+    → slice_get items i ≡ Some item → now ≡ old ++ map f (take i items) → new ≡ now ++ f item ∷ []
+    → new ≡ old ++ map f (take (i + 1) items)
+one-item f items old now new i item l g before after =
+    one-more (map f) (map-append f) old now new items i item (take-got items i item l g) before after
+
 pub items-more : (w : World) (u v : ℕ) (old now new : List Fact) (i : ℕ) (item : Item) → i < length (w.link u v)
     → slice_get (w.link u v) i ≡ Some item
     → now ≡ old ++ map (λ (x : Item). Written (harm.Item u v x)) (take i (w.link u v))
     → new ≡ now ++ Written (harm.Item u v item) ∷ []
     → new ≡ old ++ map (λ (x : Item). Written (harm.Item u v x)) (take (i + 1) (w.link u v))
-items-more w u v old now new i item l g before after =
-    let f : Item → Fact = λ x. Written (harm.Item u v x) in
-    one-more (map f) (map-append f) old now new (w.link u v) i item (take-got (w.link u v) i item l g) before after
+items-more w u v = one-item (λ x. Written (harm.Item u v x)) (w.link u v)
 
 -- one more item was put on a link
 pub items-put : (w : World) (u v : ℕ) (old now new : List Event) (i : ℕ) (item : Item) → i < length (w.link u v)
@@ -196,9 +201,7 @@ pub items-put : (w : World) (u v : ℕ) (old now new : List Event) (i : ℕ) (it
     → now ≡ old ++ item_events u v (take i (w.link u v))
     → new ≡ now ++ Damage (harm.Item u v item) ∷ []
     → new ≡ old ++ item_events u v (take (i + 1) (w.link u v))
-items-put w u v old now new i item l g before after =
-    let f : Item → Event = λ x. Damage (harm.Item u v x) in
-    one-more (map f) (map-append f) old now new (w.link u v) i item (take-got (w.link u v) i item l g) before after
+items-put w u v = one-item (λ x. Damage (harm.Item u v x)) (w.link u v)
 
 pub links-more : (w : World) (u k : ℕ) (old now new : List Fact) → now ≡ old ++ links_from w u k → new ≡ now ++ link_facts w u k
     → new ≡ old ++ links_from w u (k + 1)

@@ -48,6 +48,24 @@ later-not r i s j a = grind (arith, common_steps, nat_tests)
 below-or_last : (u n : ℕ) → u < n + 1 → (u < n) ⊎ (u ≡ n)
 below-or_last u n h = grind (arith, common_steps, nat_tests)
 
+-- the first of the first n records is no later than the next one
+still-found : (w : World) (heads : List (Option Entry)) (n : ℕ) (f : First) → IsFound w heads n f
+    → ((other : Entry) → head_of heads n ≡ Some other → is_no_later f.rank f.instant (rank w n other) other.instant ≡ true)
+    → IsFound w heads (n + 1) f
+still-found w heads n f h next = record {
+  within = let a = h.within in omega (arith, a);
+  entry = h.entry;
+  head = h.head;
+  rank_is = h.rank_is;
+  instant_is = h.instant_is;
+  least = λ u other below there. by u other there (below-or_last u n below);
+}
+  where
+    by : (u : ℕ) (other : Entry) → head_of heads u ≡ Some other → (u < n) ⊎ (u ≡ n)
+        → is_no_later f.rank f.instant (rank w u other) other.instant ≡ true
+    by u other there (inl less) = h.least u other less there
+    by u other there (inr same) = rw same (next other (ap (head_of heads) (sym same) ∙ there))
+
 -- a record that is read to its end
 pub passed-over : (w : World) (heads : List (Option Entry)) (n : ℕ) (first : Option First) → head_of heads n ≡ None
     → IsFirst w heads n first → IsFirst w heads (n + 1) first
@@ -56,19 +74,8 @@ passed-over w heads n None none h = λ u below. by u (below-or_last u n below)
     by : (u : ℕ) → (u < n) ⊎ (u ≡ n) → head_of heads u ≡ None
     by u (inl less) = h u less
     by u (inr same) = ap (head_of heads) same ∙ none
-passed-over w heads n (Some f) none h = record {
-  within = let a = h.within in omega (arith, a);
-  entry = h.entry;
-  head = h.head;
-  rank_is = h.rank_is;
-  instant_is = h.instant_is;
-  least = λ u other below head. by u other head (below-or_last u n below);
-}
-  where
-    by : (u : ℕ) (other : Entry) → head_of heads u ≡ Some other → (u < n) ⊎ (u ≡ n)
-        → is_no_later f.rank f.instant (rank w u other) other.instant ≡ true
-    by u other head (inl less) = h.least u other less head
-    by u other head (inr same) = let e : None ≡ Some other = sym none ∙ ap (head_of heads) (sym same) ∙ head in absurd cc
+passed-over w heads n (Some f) none h =
+    still-found w heads n f h (λ other there. let e : None ≡ Some other = sym none ∙ there in absurd cc)
 
 -- one more next entry
 module _ (w : World) (heads : List (Option Entry)) (n : ℕ) (e : Entry) (turn : First) (head : head_of heads n ≡ Some e) (node : turn.node ≡ n) (rank_is : turn.rank ≡ rank w n e) (instant : turn.instant ≡ e.instant) where
@@ -102,21 +109,8 @@ module _ (w : World) (heads : List (Option Entry)) (n : ℕ) (e : Entry) (turn :
     where
       by : (b : Bool) → is_no_later f.rank f.instant turn.rank turn.instant ≡ b
           → IsFound w heads (n + 1) (if b then f else turn)
-      by true le = record {
-        within = let a = h.within in omega (arith, a);
-        entry = h.entry;
-        head = h.head;
-        rank_is = h.rank_is;
-        instant_is = h.instant_is;
-        least = λ u other below there. least u other there (below-or_last u n below);
-      }
-        where
-          least : (u : ℕ) (other : Entry) → head_of heads u ≡ Some other → (u < n) ⊎ (u ≡ n)
-              → is_no_later f.rank f.instant (rank w u other) other.instant ≡ true
-          least u other there (inl less) = h.least u other less there
-          least u other there (inr same) =
-              let there2 : head_of heads n ≡ Some other = ap (head_of heads) (sym same) ∙ there in
-              rw (same, sym (same-entry other there2), sym rank_is, sym instant) le
+      by true le =
+          still-found w heads n f h (λ other there. rw (sym (same-entry other there), sym rank_is, sym instant) le)
       by false late =
           turn-found (λ u other less there.
           later-on turn.rank turn.instant f.rank f.instant (rank w u other) other.instant

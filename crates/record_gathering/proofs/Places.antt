@@ -1,5 +1,5 @@
 -- Where a frame is among the items of a link, item by item; and harms in a row.
-use Rattle.std.proofs.Common.{◌≡◌, ◌∙◌, ℕ, ◌+◌, true, false, ◌||◌, List, [], ◌∷◌, ◌++◌, refl, ap, sym, arith, append_assoc, Option, None, Some, take, drop}
+use Rattle.std.proofs.Common.{◌≡◌, ◌∙◌, ℕ, ◌+◌, true, false, ◌||◌, List, [], ◌∷◌, ◌++◌, refl, ap, arith, Option, None, Some, take, drop}
 use Rattle.std.proofs.lemmas.List.{drop_more}
 use Rattle.std.proofs.lemmas.Option.{slice_get_within, get_or_from_slice_get}
 use Rattle.std.specs.Prelude.{slice_get, if◌then◌else◌}
@@ -10,6 +10,7 @@ use Rattle.configuration.specs.run_model.declared.event.Event.TheVariants.{Damag
 use Rattle.configuration.specs.run_model.declared.event.Harm.{Harm}
 use Rattle.record_gathering.specs.Differences.{harms_in}
 use Rattle.record_gathering.specs.Frames.{is_frame, is_under_way, in_front}
+use Rattle.record_gathering.proofs.FactsJoin.{one-more}
 
 at-item : {X : Type 0} (xs : List X) (i : ℕ) (x : X) → slice_get xs i ≡ Some x → drop i xs ≡ x ∷ drop (i + 1) xs
 at-item xs i x e =
@@ -43,8 +44,4 @@ harms-append (Some h ∷ xs) ys = ap (λ (l : List Event). Damage h ∷ l) (harm
 pub one-harm_more : (old now new : List Event) (hs : List (Option Harm)) (i : ℕ) (h : Option Harm)
     → take (i + 1) hs ≡ take i hs ++ h ∷ [] → now ≡ old ++ harms_in (take i hs) → new ≡ now ++ harms_in (h ∷ [])
     → new ≡ old ++ harms_in (take (i + 1) hs)
-one-harm_more old now new hs i h more before after =
-    after ∙ ap (λ (l : List Event). l ++ harms_in (h ∷ [])) before
-    ∙ append_assoc old (harms_in (take i hs)) (harms_in (h ∷ []))
-    ∙ ap (λ (l : List Event). old ++ l) (sym (harms-append (take i hs) (h ∷ [])))
-    ∙ ap (λ (l : List (Option Harm)). old ++ harms_in l) (sym more)
+one-harm_more = one-more harms_in harms-append

@@ -112,6 +112,14 @@ module _ (w : World) (v u : ℕ) where
         network = h.network;
       }
 
+  -- the harms of the numbers and of the staged payload, unless they are the same
+  abbrev numbers-harm : ℕ → ℕ → Option Harm
+  numbers-harm seq last =
+      unless (((w.node v).port u).seq == seq && ((w.node v).port u).last == last) (harm.Counters v u seq last)
+
+  abbrev staged-harm : Payload → Option Harm
+  staged-harm y = unless (same_payload ((w.node v).port u).staged y) (harm.Staged v u y)
+
   -- a harm, unless the two are the same
   one-harm : (b : Bool) (h : Harm) (m : World) (p q : PortState) (x z : ℕ) → IsPortAt w v u p x m
       → (b ≡ true → (p ≡ q) × (x ≡ z)) → IsPortAt w v u q z (step m (Damage h))
@@ -132,32 +140,34 @@ module _ (w : World) (v u : ℕ) where
       joined-too : are_joined m.net.edges v u ≡ true
       joined-too = subst (λ (n : Network). are_joined n.edges v u ≡ true) (sym h.network) joined
 
+      -- a fact of the network holds there too
+      still : (P : Network → Type 0) → P w.net → P m.net
+      still P = subst P (sym h.network)
+
+      -- a harm that writes a field of the port
+      field-at : (e : Harm) (f : PortState → PortState) → step m (Damage e) ≡ with_port m v u (f ((m.node v).port u))
+          → IsPortAt w v u (f p) x (step m (Damage e))
+      field-at e f to =
+          subst (IsPortAt w v u (f p) x) (sym (to ∙ ap (λ (r : PortState). with_port m v u (f r)) h.port))
+          (port-written p (f p) x m h)
+
       counters-at : (seq last : ℕ) → counters_fit (ranges_of w.net) seq last ≡ true
           → IsPortAt w v u (record p { seq = seq; last = last }) x (step m (Damage (harm.Counters v u seq last)))
       counters-at seq last fits =
-          subst (IsPortAt w v u (record p { seq = seq; last = last }) x)
-          (sym (counters-step m v u here-too there-too joined-too seq last
-          (subst (λ (n : Network). counters_fit (ranges_of n) seq last ≡ true) (sym h.network) fits)
-          ∙ ap (λ (r : PortState). with_port m v u (record r { seq = seq; last = last })) h.port))
-          (port-written p (record p { seq = seq; last = last }) x m h)
+          field-at (harm.Counters v u seq last) (λ r. record r { seq = seq; last = last })
+          (counters-step m v u here-too there-too joined-too seq last (still (λ n. counters_fit (ranges_of n) seq last ≡ true) fits))
 
       staged-at : (y : Payload) → payload_fits (ranges_of w.net) y ≡ true
           → IsPortAt w v u (record p { staged = y }) x (step m (Damage (harm.Staged v u y)))
       staged-at y fits =
-          subst (IsPortAt w v u (record p { staged = y }) x)
-          (sym (staged-step m v u here-too there-too joined-too y
-          (subst (λ (n : Network). payload_fits (ranges_of n) y ≡ true) (sym h.network) fits)
-          ∙ ap (λ (r : PortState). with_port m v u (record r { staged = y })) h.port))
-          (port-written p (record p { staged = y }) x m h)
+          field-at (harm.Staged v u y) (λ r. record r { staged = y })
+          (staged-step m v u here-too there-too joined-too y (still (λ n. payload_fits (ranges_of n) y ≡ true) fits))
 
       copy-at : (y : Payload) → payload_fits (ranges_of w.net) y ≡ true
           → IsPortAt w v u (record p { copy = y }) x (step m (Damage (harm.Copy v u y)))
       copy-at y fits =
-          subst (IsPortAt w v u (record p { copy = y }) x)
-          (sym (copy-step m v u here-too there-too joined-too y
-          (subst (λ (n : Network). payload_fits (ranges_of n) y ≡ true) (sym h.network) fits)
-          ∙ ap (λ (r : PortState). with_port m v u (record r { copy = y })) h.port))
-          (port-written p (record p { copy = y }) x m h)
+          field-at (harm.Copy v u y) (λ r. record r { copy = y })
+          (copy-step m v u here-too there-too joined-too y (still (λ n. payload_fits (ranges_of n) y ≡ true) fits))
 
       value-at : (y : ℕ) → nat_lt y (ranges_of w.net).ring ≡ true
           → IsPortAt w v u p y (step m (Damage (harm.Value v u y)))
@@ -196,31 +206,40 @@ module _ (w : World) (v u : ℕ) where
     number-same : (a b : ℕ) → (a == b) ≡ true → a ≡ b
     number-same a b t = grind (arith, common_steps)
 
+    -- the world in which the harms of a port's numbers and of its staged payload end, and what it is there
+    first-two : (seq last : ℕ) (y : Payload) → counters_fit (ranges_of w.net) seq last ≡ true → payload_fits (ranges_of w.net) y ≡ true
+        → IsPortAt w v u (record ((w.node v).port u) { seq = seq; last = last; staged = y }) ((w.node v).value u)
+        (run (run w (harms_in (numbers-harm seq last ∷ []))) (harms_in (staged-harm y ∷ [])))
+    first-two seq last y fits1 fits2 =
+        let x = (w.node v).value u in
+        let p0 = (w.node v).port u in
+        let p1 = record p0 { seq = seq; last = last } in
+        let m1 = run w (harms_in (numbers-harm seq last ∷ [])) in
+        let h1 : IsPortAt w v u p1 x m1 =
+        one-harm _ _ w p0 p1 x x at-start
+        (λ t. (numbers-same p0 seq last t, refl))
+        (counters-at w p0 x at-start seq last fits1) in
+        one-harm _ _ m1 p1 (record p1 { staged = y }) x x h1
+        (λ t. (ap (λ (z : Payload). record p1 { staged = z }) (payload-same p0.staged y t), refl))
+        (staged-at m1 p1 x h1 y fits2)
+
     pub port-reached : (p : PortState) (x : ℕ) → port_fits (ranges_of w.net) p ≡ true
         → nat_lt x (ranges_of w.net).ring ≡ true
         → IsPortAt w v u p x (run w (harms_in (port_harms v u (w.node v) p x)))
     port-reached p x fits below =
         let s = w.node v in
         let p0 = s.port u in
-        let p1 = record p0 { seq = p.seq; last = p.last } in
-        let p2 = record p1 { staged = p.staged } in
-        let o1 = unless (p0.seq == p.seq && p0.last == p.last) (harm.Counters v u p.seq p.last) in
-        let o2 = unless (same_payload p0.staged p.staged) (harm.Staged v u p.staged) in
+        let p2 = record p0 { seq = p.seq; last = p.last; staged = p.staged } in
+        let o1 = numbers-harm p.seq p.last in
+        let o2 = staged-harm p.staged in
         let o3 = unless (same_payload p0.copy p.copy) (harm.Copy v u p.copy) in
         let o4 = unless (s.value u == x) (harm.Value v u x) in
         let fits1 : counters_fit (ranges_of w.net) p.seq p.last ≡ true = grind (arith, common_steps) in
         let fits2 : payload_fits (ranges_of w.net) p.staged ≡ true = grind (arith, common_steps) in
         let fits3 : payload_fits (ranges_of w.net) p.copy ≡ true = grind (arith, common_steps) in
         let m1 = run w (harms_in (o1 ∷ [])) in
-        let h1 : IsPortAt w v u p1 (s.value u) m1 =
-        one-harm _ _ w p0 p1 (s.value u) (s.value u) at-start
-        (λ t. (numbers-same p0 p.seq p.last t, refl))
-        (counters-at w p0 (s.value u) at-start p.seq p.last fits1) in
         let m2 = run m1 (harms_in (o2 ∷ [])) in
-        let h2 : IsPortAt w v u p2 (s.value u) m2 =
-        one-harm _ _ m1 p1 p2 (s.value u) (s.value u) h1
-        (λ t. (ap (λ (y : Payload). record p1 { staged = y }) (payload-same p0.staged p.staged t), refl))
-        (staged-at m1 p1 (s.value u) h1 p.staged fits2) in
+        let h2 : IsPortAt w v u p2 (s.value u) m2 = first-two p.seq p.last p.staged fits1 fits2 in
         let m3 = run m2 (harms_in (o3 ∷ [])) in
         let h3 : IsPortAt w v u p (s.value u) m3 =
         one-harm _ _ m2 p2 p (s.value u) (s.value u) h2
@@ -239,24 +258,11 @@ module _ (w : World) (v u : ℕ) where
         → IsPortAt w v u (record ((w.node v).port u) { seq = f.seq; last = f.ack; staged = f.payload }) ((w.node v).value u)
         (run w (harms_in (frame_harms v u ((w.node v).port u) f)))
     frame-reached f fits =
-        let s = w.node v in
-        let p0 = s.port u in
-        let p1 = record p0 { seq = f.seq; last = f.ack } in
-        let p2 = record p1 { staged = f.payload } in
-        let o1 = unless (p0.seq == f.seq && p0.last == f.ack) (harm.Counters v u f.seq f.ack) in
-        let o2 = unless (same_payload p0.staged f.payload) (harm.Staged v u f.payload) in
         let fits1 : counters_fit (ranges_of w.net) f.seq f.ack ≡ true = grind (arith, common_steps) in
         let fits2 : payload_fits (ranges_of w.net) f.payload ≡ true = grind (arith, common_steps) in
-        let m1 = run w (harms_in (o1 ∷ [])) in
-        let h1 : IsPortAt w v u p1 (s.value u) m1 =
-        one-harm _ _ w p0 p1 (s.value u) (s.value u) at-start
-        (λ t. (numbers-same p0 f.seq f.ack t, refl))
-        (counters-at w p0 (s.value u) at-start f.seq f.ack fits1) in
-        let h2 : IsPortAt w v u p2 (s.value u) (run m1 (harms_in (o2 ∷ []))) =
-        one-harm _ _ m1 p1 p2 (s.value u) (s.value u) h1
-        (λ t. (ap (λ (y : Payload). record p1 { staged = y }) (payload-same p0.staged f.payload t), refl))
-        (staged-at m1 p1 (s.value u) h1 f.payload fits2) in
-        subst (IsPortAt w v u p2 (s.value u)) (sym (more-harms w o1 (o2 ∷ []))) h2
+        subst (IsPortAt w v u (record ((w.node v).port u) { seq = f.seq; last = f.ack; staged = f.payload }) ((w.node v).value u))
+        (sym (more-harms w (numbers-harm f.seq f.ack) (staged-harm f.payload ∷ [])))
+        (first-two f.seq f.ack f.payload fits1 fits2)
 
 -- a port that became what was noted
 pub port-is : (w : World) (queue : List ℕ) (v u : ℕ) (p : PortState) (x : ℕ) (new : World)

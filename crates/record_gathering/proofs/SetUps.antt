@@ -23,7 +23,6 @@ use Rattle.configuration.specs.run_model.Start.{world_with_spares}
 use Rattle.configuration.specs.run_model.Step.{step}
 use Rattle.configuration.specs.run_model.Run.{run}
 use Rattle.configuration.specs.run_model.Laws.{RunsJoin, RangesStay, FrameStays, StartIsInRange}
-use Rattle.configuration.specs.run_model.declared.event.Event.{Event}
 use Rattle.configuration.specs.run_model.declared.event.Event.TheVariants.{Damage}
 use Rattle.configuration.specs.run_model.declared.event.Harm.{Harm}
 use Rattle.configuration.specs.run_model.declared.event.Harm.TheVariants as harm
@@ -180,11 +179,15 @@ ranges-same a b same =
     ap (λ (n : ℕ). ranges_of (record { nodes = n; root = b.root; capacity = b.capacity; lease = b.lease; edges = b.edges })) same.nodes
     ∙ ap (λ (c : ℕ). ranges_of (record { nodes = a.nodes; root = b.root; capacity = c; lease = b.lease; edges = b.edges })) same.capacity
 
+-- nothing is under way
+abbrev IsEmpty : World → Type 0
+IsEmpty x = (i j : ℕ) → x.link i j ≡ []
+
 -- an edge that joins or parts puts nothing under way
-join-empty : (x : World) (u v : ℕ) → ((i j : ℕ) → x.link i j ≡ []) → (i j : ℕ) → (step x (Damage (harm.Join u v))).link i j ≡ []
+join-empty : (x : World) (u v : ℕ) → IsEmpty x → IsEmpty (step x (Damage (harm.Join u v)))
 join-empty x u v empty i j = let here = empty i j in grind (arith, common_steps)
 
-part-empty : (x : World) (u v : ℕ) → ((i j : ℕ) → x.link i j ≡ []) → (i j : ℕ) → (step x (Damage (harm.Part u v))).link i j ≡ []
+part-empty : (x : World) (u v : ℕ) → IsEmpty x → IsEmpty (step x (Damage (harm.Part u v)))
 part-empty x u v empty i j = let here = empty i j in grind (arith, common_steps)
 
 -- ---- the state of a node
@@ -196,6 +199,13 @@ module _ (join : RunsJoin) (frame : FrameStays) (ranges : RangesStay) (nodes : J
       let one = fact_events x queues (Written h) in
       join x one (set_events (run x one) queues fs)
       ∙ ap (λ (z : World). run z (set_events z queues fs)) (accepted-leads x (Damage h ∷ []))
+
+  two-parts : (x : World) (queues : List (List ℕ)) (fs gs : List Fact)
+      → run x (set_events x queues (fs ++ gs))
+      ≡ run (run x (set_events x queues fs)) (set_events (run x (set_events x queues fs)) (set_queues queues fs) gs)
+  two-parts x queues fs gs =
+      let es = set_events x queues fs in
+      ap (run x) (events-join join x queues fs gs) ∙ join x es (set_events (run x es) (set_queues queues fs) gs)
 
   state-run : (w : World) (queues : List (List ℕ)) (v : ℕ) (ps : List StatePart) → v < w.net.nodes → v < length queues
       → run w (set_events w queues (map (State v) ps)) ≡ run w (parts_events w (queue_of queues v) v ps)
@@ -240,8 +250,7 @@ module _ (join : RunsJoin) (frame : FrameStays) (ranges : RangesStay) (nodes : J
       let r = state-reached join ranges nodes v s x (queue_of qs v) network before.range here at in
       let y = run x (state_events x (queue_of qs v) network v s) in
       let to : run m (set_events m queues (fs ++ gs)) ≡ run x (state_events x (queue_of qs v) v network s) =
-      ap (run m) (events-join join m queues fs gs)
-      ∙ join m es (set_events x qs gs)
+      two-parts m queues fs gs
       ∙ state-run x qs v (state_parts network (site w v) s) here long_too
       ∙ ap (λ (t : Site). run x (parts_events x (queue_of qs v) v (state_parts network t s))) (sym is_site) in
       subst (AreStatesSet w m (suc v)) (sym to)
@@ -366,9 +375,7 @@ module _ (join : RunsJoin) (frame : FrameStays) (ranges : RangesStay) (nodes : J
       let fs = links_from w u k in
       let gs = link_facts w u k in
       let n = run m (set_events m queues fs) in
-      let to : run m (set_events m queues (fs ++ gs)) ≡ run n (set_events n (set_queues queues fs) gs) =
-      ap (run m) (events-join join m queues fs gs) ∙ join m (set_events m queues fs) (set_events n (set_queues queues fs) gs) in
-      subst (AreLinksSet w x u (suc k)) (sym to)
+      subst (AreLinksSet w x u (suc k)) (sym (two-parts m queues fs gs))
       (link-set w x range same edges (set_queues queues fs) u k n first (omega (arith, le))
       (row-set w x range same edges queues u m first before k (omega (arith, le))))
 
@@ -380,7 +387,7 @@ module _ (join : RunsJoin) (frame : FrameStays) (ranges : RangesStay) (nodes : J
     network = done.network;
   }
 
-  rows-set : (w x : World) → IsWorldInRange w → IsSameFrame w.net x.net → HasEdgesOf w x → ((i j : ℕ) → x.link i j ≡ [])
+  rows-set : (w x : World) → IsWorldInRange w → IsSameFrame w.net x.net → HasEdgesOf w x → IsEmpty x
       → (queues : List (List ℕ)) (u : ℕ) → u ≤ w.net.nodes → AreLinksSet w x u 0 (run x (set_events x queues (links_below w u)))
   rows-set w x range same edges empty queues zero le = record {
     set = λ i j b e. absurd (none-before i j b);
@@ -392,59 +399,54 @@ module _ (join : RunsJoin) (frame : FrameStays) (ranges : RangesStay) (nodes : J
       let fs = links_below w u in
       let gs = links_from w u w.net.nodes in
       let m = run x (set_events x queues fs) in
-      let to : run x (set_events x queues (fs ++ gs)) ≡ run m (set_events m (set_queues queues fs) gs) =
-      ap (run x) (events-join join x queues fs gs) ∙ join x (set_events x queues fs) (set_events m (set_queues queues fs) gs) in
-      subst (AreLinksSet w x (suc u) 0) (sym to)
+      subst (AreLinksSet w x (suc u) 0) (sym (two-parts x queues fs gs))
       (next-row w x range u (run m (set_events m (set_queues queues fs) gs))
       (row-set w x range same edges (set_queues queues fs) u m (omega (arith, le))
       (rows-set w x range same edges empty queues u (omega (arith, le))) w.net.nodes (omega arith)))
 
   -- ---- edges alone put nothing under way
 
-  joins-empty : (net : Network) (es : List Edge) (x : World) (queues : List (List ℕ)) → ((i j : ℕ) → x.link i j ≡ [])
-      → (i j : ℕ) → (run x (set_events x queues (joins net es))).link i j ≡ []
-  joins-empty net [] x queues empty i j = empty i j
-  joins-empty net (e ∷ es) x queues empty i j =
-      let f : Fact = Written (harm.Join e.0 e.1) in
-      let by : (b : Bool) → (run x (set_events x queues (if b then joins net es else f ∷ joins net es))).link i j ≡ [] =
-      elim [
-        | true ↦ joins-empty net es x queues empty i j
-        | false ↦ ap (λ (z : World). z.link i j) (one-first x queues (harm.Join e.0 e.1) (joins net es))
-            ∙ joins-empty net es (step x (Damage (harm.Join e.0 e.1))) queues (join-empty x e.0 e.1 empty) i j
-      ] in
-      by (are_joined net.edges e.0 e.1)
+  -- one of them at the front, unless it is passed over
+  one-empty : (b : Bool) (x : World) (queues : List (List ℕ)) (h : Harm) (fs : List Fact) → IsEmpty x → IsEmpty (step x (Damage h))
+      → ((y : World) → IsEmpty y → IsEmpty (run y (set_events y queues fs)))
+      → IsEmpty (run x (set_events x queues (if b then fs else Written h ∷ fs)))
+  one-empty true x queues h fs empty after rest i j = rest x empty i j
+  one-empty false x queues h fs empty after rest i j =
+      ap (λ (z : World). z.link i j) (one-first x queues h fs) ∙ rest (step x (Damage h)) after i j
 
-  parts-empty : (net : Network) (es : List Edge) (x : World) (queues : List (List ℕ)) → ((i j : ℕ) → x.link i j ≡ [])
-      → (i j : ℕ) → (run x (set_events x queues (parts net es))).link i j ≡ []
-  parts-empty net [] x queues empty i j = empty i j
-  parts-empty net (e ∷ es) x queues empty i j =
-      let f : Fact = Written (harm.Part e.0 e.1) in
-      let by : (b : Bool) → (run x (set_events x queues (if b then parts net es else f ∷ parts net es))).link i j ≡ [] =
-      elim [
-        | true ↦ parts-empty net es x queues empty i j
-        | false ↦ ap (λ (z : World). z.link i j) (one-first x queues (harm.Part e.0 e.1) (parts net es))
-            ∙ parts-empty net es (step x (Damage (harm.Part e.0 e.1))) queues (part-empty x e.0 e.1 empty) i j
-      ] in
-      by (are_joined net.edges e.0 e.1)
+  joins-empty : (net : Network) (es : List Edge) (queues : List (List ℕ)) (x : World) → IsEmpty x
+      → IsEmpty (run x (set_events x queues (joins net es)))
+  joins-empty net [] queues x empty = empty
+  joins-empty net (e ∷ es) queues x empty =
+      one-empty (are_joined net.edges e.0 e.1) x queues (harm.Join e.0 e.1) (joins net es) empty (join-empty x e.0 e.1 empty)
+      (joins-empty net es queues)
 
-  changes-empty : (net other : Network) (x : World) (queues : List (List ℕ)) → ((i j : ℕ) → x.link i j ≡ [])
-      → (i j : ℕ) → (run x (set_events x queues (edge_changes net other))).link i j ≡ []
-  changes-empty net other x queues empty i j =
-      let fs = joins net other.edges in
-      let gs = parts other net.edges in
+  parts-empty : (net : Network) (es : List Edge) (queues : List (List ℕ)) (x : World) → IsEmpty x
+      → IsEmpty (run x (set_events x queues (parts net es)))
+  parts-empty net [] queues x empty = empty
+  parts-empty net (e ∷ es) queues x empty =
+      one-empty (are_joined net.edges e.0 e.1) x queues (harm.Part e.0 e.1) (parts net es) empty (part-empty x e.0 e.1 empty)
+      (parts-empty net es queues)
+
+  -- facts in two parts, of which neither puts anything under way
+  both-empty : (x : World) (queues : List (List ℕ)) (fs gs : List Fact) → IsEmpty (run x (set_events x queues fs))
+      → ((qs : List (List ℕ)) (y : World) → IsEmpty y → IsEmpty (run y (set_events y qs gs)))
+      → IsEmpty (run x (set_events x queues (fs ++ gs)))
+  both-empty x queues fs gs first rest i j =
       let m = run x (set_events x queues fs) in
-      ap (λ (es : List Event). (run x es).link i j) (events-join join x queues fs gs)
-      ∙ ap (λ (z : World). z.link i j) (join x (set_events x queues fs) (set_events m (set_queues queues fs) gs))
-      ∙ parts-empty other net.edges m (set_queues queues fs) (joins-empty net other.edges x queues empty) i j
+      ap (λ (z : World). z.link i j) (two-parts x queues fs gs) ∙ rest (set_queues queues fs) m first i j
 
-  edges-empty : (net other : Network) (x : World) (queues : List (List ℕ)) → ((i j : ℕ) → x.link i j ≡ [])
-      → (i j : ℕ) → (run x (set_events x queues (edge_facts net other))).link i j ≡ []
-  edges-empty net other x queues empty i j =
-      let fs = edge_changes net other in
-      let m = run x (set_events x queues fs) in
-      ap (λ (es : List Event). (run x es).link i j) (events-join join x queues fs fs)
-      ∙ ap (λ (z : World). z.link i j) (join x (set_events x queues fs) (set_events m (set_queues queues fs) fs))
-      ∙ changes-empty net other m (set_queues queues fs) (changes-empty net other x queues empty) i j
+  changes-empty : (net other : Network) (queues : List (List ℕ)) (x : World) → IsEmpty x
+      → IsEmpty (run x (set_events x queues (edge_changes net other)))
+  changes-empty net other queues x empty =
+      both-empty x queues (joins net other.edges) (parts other net.edges) (joins-empty net other.edges queues x empty)
+      (parts-empty other net.edges)
+
+  edges-empty : (net other : Network) (x : World) (queues : List (List ℕ)) → IsEmpty x
+      → IsEmpty (run x (set_events x queues (edge_facts net other)))
+  edges-empty net other x queues empty =
+      both-empty x queues (edge_changes net other) (edge_changes net other) (changes-empty net other queues x empty)
+      (changes-empty net other)
 
   -- ---- all is set
 
@@ -466,16 +468,13 @@ module _ (join : RunsJoin) (frame : FrameStays) (ranges : RangesStay) (nodes : J
       let long : w.net.nodes ≤ length q1 = omega (arith, queues-length q fs, length-replicate {A = List ℕ} net.nodes [], same.nodes) in
       let states = states-set network w e q1 range in_range (λ v. site-same e w v frame_is edges) frame_is.nodes long w.net.nodes (omega arith) in
       let x = run e (set_events e q1 gs) in
-      let empty : (i j : ℕ) → x.link i j ≡ [] = λ i j.
+      let empty : IsEmpty x = λ i j.
       ap (λ (l : ℕ → ℕ → List Item). l i j) states.links ∙ edges-empty net w.net start q (λ a b. refl) i j in
       let x_frame : IsSameFrame w.net x.net = subst (IsSameFrame w.net) (sym states.network) frame_is in
       let x_edges : HasEdgesOf w x = λ a b. ap (λ (n : Network). are_joined n.edges a b) states.network ∙ edges a b in
       let links = rows-set w x range x_frame x_edges empty q2 w.net.nodes (omega arith) in
       let to : run start (set_up network net pairs w) ≡ run x (set_events x q2 hs) =
-      ap (run start) (events-join join start q fs (gs ++ hs))
-      ∙ join start es (set_events e q1 (gs ++ hs))
-      ∙ ap (run e) (events-join join e q1 gs hs)
-      ∙ join e (set_events e q1 gs) (set_events x q2 hs) in
+      two-parts start q fs (gs ++ hs) ∙ two-parts e q1 gs hs in
       subst (IsSameAs w) (sym to)
       (record {
         nodes = λ v l. subst (λ (s : LocalState). AreSame (site w v).neighbours s (w.node v)) (sym (ap (λ (n : ℕ → LocalState). n v) links.node))
@@ -494,24 +493,20 @@ in-midst [] e es = grind (arith, common_steps)
 in-midst (f ∷ front) e es =
     ap (λ (b : Bool). is_between e.0 e.1 f || b) (in-midst front e es) ∙ or-true (is_between e.0 e.1 f)
 
-no-joins : (net : Network) (front es : List Edge) → net.edges ≡ front ++ es → joins net es ≡ []
-no-joins net front [] s = refl
-no-joins net front (e ∷ es) s =
+-- a network's own edges neither join nor part
+none-changes : (net : Network) (front es : List Edge) → net.edges ≡ front ++ es → (joins net es ≡ []) × (parts net es ≡ [])
+none-changes net front [] s = (refl, refl)
+none-changes net front (e ∷ es) s =
     let there : are_joined net.edges e.0 e.1 ≡ true = ap (λ (l : List Edge). are_joined l e.0 e.1) s ∙ in-midst front e es in
-    ap (λ (b : Bool). if b then joins net es else Written (harm.Join e.0 e.1) ∷ joins net es) there
-    ∙ no-joins net (front ++ e ∷ []) es (s ∙ sym (append_assoc front (e ∷ []) es))
-
-no-parts : (net : Network) (front es : List Edge) → net.edges ≡ front ++ es → parts net es ≡ []
-no-parts net front [] s = refl
-no-parts net front (e ∷ es) s =
-    let there : are_joined net.edges e.0 e.1 ≡ true = ap (λ (l : List Edge). are_joined l e.0 e.1) s ∙ in-midst front e es in
-    ap (λ (b : Bool). if b then parts net es else Written (harm.Part e.0 e.1) ∷ parts net es) there
-    ∙ no-parts net (front ++ e ∷ []) es (s ∙ sym (append_assoc front (e ∷ []) es))
+    let rest = none-changes net (front ++ e ∷ []) es (s ∙ sym (append_assoc front (e ∷ []) es)) in (
+      ap (λ (b : Bool). if b then joins net es else Written (harm.Join e.0 e.1) ∷ joins net es) there ∙ rest.0,
+      ap (λ (b : Bool). if b then parts net es else Written (harm.Part e.0 e.1) ∷ parts net es) there ∙ rest.1,
+    )
 
 no-changes : (net : Network) → edge_facts net net ≡ []
 no-changes net =
-    let none : edge_changes net net ≡ [] =
-    ap (λ (l : List Fact). l ++ parts net net.edges) (no-joins net [] net.edges refl) ∙ no-parts net [] net.edges refl in
+    let own = none-changes net [] net.edges refl in
+    let none : edge_changes net net ≡ [] = ap (λ (l : List Fact). l ++ parts net net.edges) own.0 ∙ own.1 in
     ap (λ (l : List Fact). l ++ edge_changes net net) none ∙ none
 
 pub edges-unchanged : (pairs : ℕ) (net : Network) (w : World) → w.net ≡ net → HasEdgesOf w (with_edges_of net pairs w)

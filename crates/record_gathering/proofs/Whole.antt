@@ -1,5 +1,5 @@
 -- A node's whole state is noted: the node stands in it then, and there is damage only if it did not before.
-use Rattle.std.proofs.Common.{◌≡◌, ◌≢◌, ◌∙◌, ℕ, suc, ◌+◌, ◌<◌, ◌≤◌, Bool, true, false, ◌&&◌, ◌||◌, ◌==◌, nat_lt, nat_le, List, [], ◌∷◌, ◌++◌, length, map, refl, ap, sym, subst, arith, append_assoc, IsTrue, Option, None, Some, ◌⊎◌, inl, inr}
+use Rattle.std.proofs.Common.{◌≡◌, ◌≢◌, ◌∙◌, ℕ, ◌+◌, ◌<◌, ◌≤◌, Bool, true, false, ◌&&◌, ◌||◌, nat_lt, nat_le, List, [], ◌∷◌, ◌++◌, length, map, refl, ap, sym, subst, arith, append_assoc, IsTrue, Option, None, Some, inl, inr}
 use Rattle.std.proofs.lemmas.Bool.{cond_both, cases_eq}
 use Rattle.std.proofs.lemmas.Grind.{common_steps}
 use Rattle.std.proofs.lemmas.List.{append-nil, length-append}
@@ -8,24 +8,24 @@ use Rattle.std.specs.List.{AllByRecursion}
 use Rattle.std.specs.Str.{bytes_eq}
 use Rattle.std.specs.Prelude.{is_some, is_none, if◌then◌else◌}
 use Rattle.topology.specs.Laws.{JoinedAreNodes}
-use Rattle.topology.specs.Network.{Network, are_joined, neighbours_of}
+use Rattle.topology.specs.Network.{Network, are_joined}
 use Rattle.topology.specs.Ranges.{ranges_of, parent_fits}
 use Rattle.flight_records.specs.declared.entry.StatePart.{StatePart}
 use Rattle.flight_records.specs.declared.entry.StatePart.TheVariants as part
-use Rattle.node_follower.specs.Following.{AreSameAlone, AreSameAt, AreSame}
-use Rattle.node_follower.specs.Parts.{own_part, port_part, loan_part, state_parts}
+use Rattle.node_follower.specs.Following.{AreSameAt, AreSame}
+use Rattle.node_follower.specs.Parts.{own_part, port_part, loan_part}
 use Rattle.configuration.specs.node_core.State.{LocalState, IsNodeInRange}
 use Rattle.configuration.specs.node_core.lock_desk.Desk.{DeskState, desk_fits}
-use Rattle.configuration.specs.data_link.Port.{PortState, port_fits}
+use Rattle.configuration.specs.data_link.Port.{port_fits}
 use Rattle.configuration.specs.run_model.World.{World, IsWorldInRange, site}
 use Rattle.configuration.specs.run_model.Step.{refusal, step}
-use Rattle.configuration.specs.run_model.Run.{run, is_damage, has_damage, IsUndamaged}
+use Rattle.configuration.specs.run_model.Run.{run, has_damage, IsUndamaged}
 use Rattle.configuration.specs.run_model.Laws.{RunsJoin, RangesStay, UndamagedSplits}
 use Rattle.configuration.specs.run_model.declared.event.Event.{Event}
 use Rattle.configuration.specs.run_model.declared.event.Event.TheVariants.{Ask, Leave, Damage}
 use Rattle.configuration.specs.run_model.declared.event.Harm.{Harm}
 use Rattle.configuration.specs.run_model.declared.event.Harm.TheVariants as harm
-use Rattle.record_gathering.specs.Differences.{harms_in, own_harm, port_harms, loan_harm, desk_events}
+use Rattle.record_gathering.specs.Differences.{harms_in, own_harm, port_harms, loan_harm}
 use Rattle.record_gathering.specs.Entries.{part_events}
 use Rattle.record_gathering.specs.Laws.{IsReached}
 use Rattle.record_gathering.specs.Queues.{with_ticket, queue_after_part}

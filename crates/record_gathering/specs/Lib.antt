@@ -11,6 +11,7 @@ pub mod Firsts
 pub mod Frames
 pub mod Laws
 pub mod Order
+pub mod Parts
 pub mod Queues
 pub mod Standing
 pub mod SetUps

@@ -5,31 +5,14 @@ ghost use Rattle.configuration.specs.node_core.lock_desk.Desk.{DeskState};
 ghost use Rattle.flight_records.specs.Again.{same_node};
 ghost use Rattle.record_gathering.specs.Differences.{unless, own_harm, port_harms, frame_harms};
 ghost use Rattle.record_gathering.specs.Differences.{loan_harm, same_truth};
+ghost use Rattle.record_gathering.specs.Parts.{state_noted};
 
 use crate::frames::same_payload;
+use crate::parts::{LoanNoted, PortNoted};
 use configuration::node_core::Node;
 use configuration::run_model::Harm;
 use std::alloc::Allocator;
-use topology::{Frame, Payload};
-
-/// What is noted of a port, and of the machine that comes in from its neighbour.
-#[derive(Clone, Copy, Debug, PartialEq, Eq)]
-pub struct PortNoted {
-    pub neighbour: u16,
-    pub seq: u16,
-    pub last: u16,
-    pub staged: Payload,
-    pub copy: Payload,
-    pub value: u16,
-}
-
-/// What is noted of a desk's loan.
-#[derive(Clone, Copy, Debug, PartialEq, Eq)]
-pub struct LoanNoted {
-    pub lent: Option<u16>,
-    pub left: u16,
-    pub served: bool,
-}
+use topology::Frame;
 
 /// A harm, unless the two are the same.
 fn unless(is_same: bool, harm: Harm) -> Option<Harm>
@@ -62,12 +45,7 @@ pub fn own_harm<A: Allocator>(
 pub fn port_harms<A: Allocator>(id: u16, node: &Node<A>, port: &PortNoted) -> [Option<Harm>; 4]
     requires { port.now.neighbour < (site_in node.now).ranges.nodes }
     ensures { result ≡ port_harms id port.now.neighbour (state_of node.now)
-        (record {
-          seq = port.now.seq;
-          last = port.now.last;
-          staged = port.now.staged;
-          copy = port.now.copy;
-        }) port.now.value }
+        (state_noted port.now) port.now.value }
 {
     let neighbour = port.neighbour;
     let counters = Harm::Counters {

@@ -4,20 +4,22 @@ ghost use Rattle.topology.specs.Network.{are_joined};
 ghost use Rattle.configuration.specs.ConfigurationView.{world_of};
 ghost use Rattle.configuration.specs.run_model.Step.{has_room};
 ghost use Rattle.configuration.specs.run_model.declared.event.Event.TheVariants.{Ask, Leave};
+ghost use Rattle.flight_records.specs.declared.entry.Deed.TheVariants.{Takes, Sends};
 ghost use Rattle.record_gathering.specs.Differences.{harms_in, desk_events, port_harms};
 ghost use Rattle.record_gathering.specs.Entries.{losses, is_of_link, forged_events, item_events, taken_events};
 ghost use Rattle.record_gathering.specs.Entries.{room_events, sent_events, deed_events};
 ghost use Rattle.record_gathering.specs.Entries.{part_events, noted_events, entry_events};
 ghost use Rattle.record_gathering.specs.Entries.{is_deed_ready, is_ready};
+ghost use Rattle.record_gathering.specs.Parts.{state_noted, part_noted};
 
-use crate::differences::{LoanNoted, PortNoted, frame_harms, loan_harm, own_harm, port_harms};
-use crate::frames::place_of;
+use crate::differences::{frame_harms, loan_harm, own_harm, port_harms};
+use crate::frames::{Passage, place_of};
+use crate::parts::{LoanNoted, PartNoted, PortNoted, part_noted};
 use configuration::Configuration;
 use configuration::link_model::Item;
 use configuration::run_model::{Event, Harm};
 use flight_records::{Deed, Noted, StatePart};
 use std::alloc::{AllocError, Allocator};
-use topology::Frame;
 
 /// Whether two nodes are neighbours.
 pub fn is_link<A: Allocator + Copy>(world: &Configuration<A>, from: u16, to: u16) -> bool
@@ -31,18 +33,14 @@ pub fn is_link<A: Allocator + Copy>(world: &Configuration<A>, from: u16, to: u16
     net.are_joined(from, to)
 }
 
-/// Whether a frame is one that may be on the link between two nodes.
-pub fn is_of_link<A: Allocator + Copy>(
-    world: &Configuration<A>,
-    from: u16,
-    to: u16,
-    frame: &Frame,
-) -> bool
-    ensures of_link { result ≡ is_of_link (world_of world.now) from to frame.now }
-    ensures from_in { IsTrue result → from < (world_of world.now).net.nodes }
-    ensures to_in { IsTrue result → to < (world_of world.now).net.nodes }
+/// Whether a frame is one that may be on its link.
+pub fn is_of_link<A: Allocator + Copy>(world: &Configuration<A>, passage: &Passage) -> bool
+    ensures of_link { result ≡ is_of_link (world_of world.now) passage.now.from passage.now.to
+        passage.now.frame }
+    ensures from_in { IsTrue result → passage.now.from < (world_of world.now).net.nodes }
+    ensures to_in { IsTrue result → passage.now.to < (world_of world.now).net.nodes }
 {
-    is_link(world, from, to) && world.net().fits(frame)
+    is_link(world, passage.from, passage.to) && world.net().fits(&passage.frame)
 }
 
 /// Whether a link has room for one more item.
@@ -104,22 +102,23 @@ fn add_losses<B: Allocator>(
 /// until it is taken; then what was under way is put there again.
 fn add_taken<A: Allocator + Copy, B: Allocator>(
     world: &Configuration<A>,
-    from: u16,
-    to: u16,
-    frame: &Frame,
+    passage: &Passage,
     events: &mut Vec<Event, B>,
 ) -> Result<(), AllocError>
-    requires from_in { from < (world_of world.now).net.nodes }
-    requires to_in { to < (world_of world.now).net.nodes }
-    ensures { OnOk result (events.new.items
-        ≡ events.old.items ++ taken_events (world_of world.now) from to frame.now) }
+    ensures { OnOk result (events.new.items ≡ events.old.items
+        ++ deed_events (world_of world.now) passage.now.to
+        (Takes passage.now.from passage.now.frame)) }
 {
-    let place = place_of(world, from, to, frame);
+    if !is_of_link(world, passage) {
+        return Ok(());
+    }
+    let Passage { from, to, frame } = *passage;
+    let place = place_of(world, passage);
     add_losses(events, from, to, place.in_front)?;
     if place.is_there {
         return add(events, Event::Take { from, to });
     }
-    let item = Item::Frame(*frame);
+    let item = Item::Frame(frame);
     add(events, Event::Damage(Harm::Item { from, to, item }))?;
     add(events, Event::Take { from, to })?;
     add_items(world, from, to, events)
@@ -147,17 +146,18 @@ fn add_items<A: Allocator + Copy, B: Allocator>(
 /// A link accepted a frame: its sender's port sends it. A link that is full loses its oldest item.
 fn add_sent<A: Allocator + Copy, B: Allocator>(
     world: &Configuration<A>,
-    from: u16,
-    to: u16,
-    frame: &Frame,
+    passage: &Passage,
     events: &mut Vec<Event, B>,
 ) -> Result<(), AllocError>
-    requires from_in { from < (world_of world.now).net.nodes }
-    requires to_in { to < (world_of world.now).net.nodes }
-    ensures { OnOk result (events.new.items
-        ≡ events.old.items ++ sent_events (world_of world.now) from to frame.now) }
+    ensures { OnOk result (events.new.items ≡ events.old.items
+        ++ deed_events (world_of world.now) passage.now.from
+        (Sends passage.now.to passage.now.frame)) }
 {
-    add_harms(events, &frame_harms(from, world.node(from), to, frame))?;
+    if !is_of_link(world, passage) {
+        return Ok(());
+    }
+    let Passage { from, to, frame } = *passage;
+    add_harms(events, &frame_harms(from, world.node(from), to, &frame))?;
     if !has_room(world, from, to) {
         add_losses(events, from, to, 1)?;
     }
@@ -176,19 +176,13 @@ fn add_deed<A: Allocator + Copy, B: Allocator>(
 {
     match *deed {
         Deed::Ticks => add(events, Event::Tick { node }),
-        Deed::Takes { from, frame } if is_of_link(world, from, node, &frame) => {
-            add_taken(world, from, node, &frame, events)
-        }
-        Deed::Sends { to, frame } if is_of_link(world, node, to, &frame) => {
-            add_sent(world, node, to, &frame, events)
-        }
+        Deed::Takes { from, frame } => add_taken(world, &Passage::new(from, node, frame), events),
+        Deed::Sends { to, frame } => add_sent(world, &Passage::new(node, to, frame), events),
         Deed::Asks { ticket } => add(events, Event::Ask { node, ticket }),
         Deed::Leaves { ticket } => add(events, Event::Leave { node, ticket }),
         Deed::Joins { neighbour } => add(events, Event::Damage(Harm::Join { node, neighbour })),
         Deed::Parts { neighbour } => add(events, Event::Damage(Harm::Part { node, neighbour })),
-        Deed::Takes { .. }
-        | Deed::Sends { .. }
-        | Deed::TakesAgain { .. }
+        Deed::TakesAgain { .. }
         | Deed::SendsAgain { .. }
         | Deed::Connects { .. }
         | Deed::Disconnects { .. } => Ok(()),
@@ -287,13 +281,7 @@ fn add_port<A: Allocator + Copy, B: Allocator>(
     requires neighbour_in { port.now.neighbour < (world_of world.now).net.nodes }
     ensures { OnOk result (events.new.items
         ≡ events.old.items ++ harms_in (port_harms node port.now.neighbour
-        ((world_of world.now).node node)
-        (record {
-          seq = port.now.seq;
-          last = port.now.last;
-          staged = port.now.staged;
-          copy = port.now.copy;
-        }) port.now.value)) }
+        ((world_of world.now).node node) (state_noted port.now) port.now.value)) }
 {
     add_harms(events, &port_harms(node, world.node(node), port))
 }
@@ -310,41 +298,13 @@ fn add_part<A: Allocator + Copy, B: Allocator>(
     ensures { OnOk result (events.new.items
         ≡ events.old.items ++ part_events (world_of world.now) queue.now node part.now) }
 {
-    match *part {
-        StatePart::Own { distance, parent } => {
+    match part_noted(world, node, part) {
+        PartNoted::Own { distance, parent } => {
             add_harm(events, &own_harm(node, world.node(node), distance, parent))
         }
-        StatePart::Port {
-            neighbour,
-            seq,
-            last,
-            staged,
-            copy,
-            value,
-        } if is_link(world, node, neighbour) => {
-            let port = PortNoted {
-                neighbour,
-                seq,
-                last,
-                staged,
-                copy,
-                value,
-            };
-            add_port(world, node, &port, events)
-        }
-        StatePart::Loan { lent, left, served } => {
-            add_desk(
-                world,
-                node,
-                queue,
-                &LoanNoted { lent, left, served },
-                events,
-            )
-        }
-        StatePart::Start { .. }
-        | StatePart::Port { .. }
-        | StatePart::Waits { .. }
-        | StatePart::Whole => Ok(()),
+        PartNoted::Port(port) => add_port(world, node, &port, events),
+        PartNoted::Loan(loan) => add_desk(world, node, queue, &loan, events),
+        PartNoted::Nothing => Ok(()),
     }
 }
 
@@ -378,25 +338,31 @@ pub fn is_ready<A: Allocator + Copy>(world: &Configuration<A>, node: u16, noted:
     }
 }
 
+/// Whether a frame that was taken may come next: one like it is under way. One that cannot be on its link
+/// always may.
+pub fn is_taken_ready<A: Allocator + Copy>(world: &Configuration<A>, passage: &Passage) -> bool
+    ensures { result ≡ is_deed_ready (world_of world.now) passage.now.to
+        (Takes passage.now.from passage.now.frame) }
+{
+    !is_of_link(world, passage) || place_of(world, passage).is_there
+}
+
+/// Whether a frame that was sent may come next: there is room for it. One that cannot be on its link
+/// always may.
+fn is_sent_ready<A: Allocator + Copy>(world: &Configuration<A>, passage: &Passage) -> bool
+    ensures { result ≡ is_deed_ready (world_of world.now) passage.now.from
+        (Sends passage.now.to passage.now.frame) }
+{
+    !is_of_link(world, passage) || has_room(world, passage.from, passage.to)
+}
+
 /// Whether a deed may come next.
 fn is_deed_ready<A: Allocator + Copy>(world: &Configuration<A>, node: u16, deed: &Deed) -> bool
     ensures { result ≡ is_deed_ready (world_of world.now) node deed.now }
 {
-    match deed {
-        Deed::Takes { from, frame } => {
-            !is_of_link(world, *from, node, frame) || place_of(world, *from, node, frame).is_there
-        }
-        Deed::Sends { to, frame } => {
-            !is_of_link(world, node, *to, frame) || has_room(world, node, *to)
-        }
-        Deed::Ticks
-        | Deed::TakesAgain { .. }
-        | Deed::SendsAgain { .. }
-        | Deed::Asks { .. }
-        | Deed::Leaves { .. }
-        | Deed::Joins { .. }
-        | Deed::Parts { .. }
-        | Deed::Connects { .. }
-        | Deed::Disconnects { .. } => true,
+    match *deed {
+        Deed::Takes { from, frame } => is_taken_ready(world, &Passage::new(from, node, frame)),
+        Deed::Sends { to, frame } => is_sent_ready(world, &Passage::new(node, to, frame)),
+        _ => true,
     }
 }

@@ -4,12 +4,15 @@ ghost use Rattle.configuration.specs.ConfigurationView.{world_of};
 ghost use Rattle.configuration.specs.node_core.View.{site_in, state_of};
 ghost use Rattle.record_gathering.specs.Fields.{differing, own_fields, port_fields, frame_fields};
 ghost use Rattle.record_gathering.specs.Fields.{loan_fields, taken_fields, part_fields, deed_fields};
-ghost use Rattle.record_gathering.specs.Entries.{is_of_link};
+ghost use Rattle.record_gathering.specs.Entries.{is_of_link, is_deed_ready};
 ghost use Rattle.record_gathering.specs.Fields.{fields_of, no_fields};
+ghost use Rattle.record_gathering.specs.Parts.{state_noted, part_noted};
+ghost use Rattle.flight_records.specs.declared.entry.Deed.TheVariants.{Takes};
 
-use crate::differences::{LoanNoted, PortNoted, same_truth};
-use crate::entries::{is_link, is_of_link};
-use crate::frames::{place_of, same_payload};
+use crate::differences::same_truth;
+use crate::entries::{is_of_link, is_taken_ready};
+use crate::frames::{Passage, same_payload};
+use crate::parts::{LoanNoted, PartNoted, PortNoted, part_noted};
 use configuration::Configuration;
 use configuration::node_core::Node;
 use flight_records::{Deed, Noted, StatePart};
@@ -73,12 +76,7 @@ fn own_fields<A: Allocator>(
 fn port_fields<A: Allocator>(node: &Node<A>, port: &PortNoted) -> [Option<Field>; 5]
     requires { port.now.neighbour < (site_in node.now).ranges.nodes }
     ensures { result ≡ port_fields port.now.neighbour (state_of node.now)
-        (record {
-          seq = port.now.seq;
-          last = port.now.last;
-          staged = port.now.staged;
-          copy = port.now.copy;
-        }) port.now.value }
+        (state_noted port.now) port.now.value }
 {
     let neighbour = port.neighbour;
     [
@@ -130,44 +128,22 @@ fn loan_fields<A: Allocator>(node: &Node<A>, queue: &[u16], loan: &LoanNoted) ->
     ]
 }
 
-/// A frame that was taken, unless one like it is under way.
+/// A frame that was taken, unless one like it is under way or it cannot be on its link.
 fn taken_fields<A: Allocator + Copy>(
     world: &Configuration<A>,
-    from: u16,
-    to: u16,
-    frame: &Frame,
+    passage: &Passage,
 ) -> [Option<Field>; 5]
-    requires from_in { from < (world_of world.now).net.nodes }
-    requires to_in { to < (world_of world.now).net.nodes }
-    ensures { result ≡ taken_fields (world_of world.now) from to frame.now }
+    ensures { result ≡ deed_fields (world_of world.now) passage.now.to
+        (Takes passage.now.from passage.now.frame) }
 {
+    let neighbour = passage.from;
     [
-        differing(
-            place_of(world, from, to, frame).is_there,
-            Field::Taken { neighbour: from },
-        ),
+        differing(is_taken_ready(world, passage), Field::Taken { neighbour }),
         None,
         None,
         None,
         None,
     ]
-}
-
-/// The same, if the frame may be on the link.
-fn linked_fields<A: Allocator + Copy>(
-    world: &Configuration<A>,
-    from: u16,
-    to: u16,
-    frame: &Frame,
-) -> [Option<Field>; 5]
-    ensures { result ≡ (if is_of_link (world_of world.now) from to frame.now
-        then taken_fields (world_of world.now) from to frame.now else no_fields) }
-{
-    if is_of_link(world, from, to, frame) {
-        taken_fields(world, from, to, frame)
-    } else {
-        [None; 5]
-    }
 }
 
 /// Of a part of a node's state, what is otherwise.
@@ -180,33 +156,11 @@ fn part_fields<A: Allocator + Copy>(
     requires { node < (world_of world.now).net.nodes }
     ensures { result ≡ part_fields (world_of world.now) queue.now node part.now }
 {
-    match *part {
-        StatePart::Own { distance, parent } => own_fields(world.node(node), distance, parent),
-        StatePart::Port {
-            neighbour,
-            seq,
-            last,
-            staged,
-            copy,
-            value,
-        } if is_link(world, node, neighbour) => {
-            let port = PortNoted {
-                neighbour,
-                seq,
-                last,
-                staged,
-                copy,
-                value,
-            };
-            port_fields(world.node(node), &port)
-        }
-        StatePart::Loan { lent, left, served } => {
-            loan_fields(world.node(node), queue, &LoanNoted { lent, left, served })
-        }
-        StatePart::Start { .. }
-        | StatePart::Port { .. }
-        | StatePart::Waits { .. }
-        | StatePart::Whole => [None; 5],
+    match part_noted(world, node, part) {
+        PartNoted::Own { distance, parent } => own_fields(world.node(node), distance, parent),
+        PartNoted::Port(port) => port_fields(world.node(node), &port),
+        PartNoted::Loan(loan) => loan_fields(world.node(node), queue, &loan),
+        PartNoted::Nothing => [None; 5],
     }
 }
 
@@ -219,20 +173,11 @@ fn deed_fields<A: Allocator + Copy>(
     ensures { result ≡ deed_fields (world_of world.now) node deed.now }
 {
     match *deed {
-        Deed::Takes { from, frame } => linked_fields(world, from, node, &frame),
-        Deed::Sends { to, frame } if is_of_link(world, node, to, &frame) => {
+        Deed::Takes { from, frame } => taken_fields(world, &Passage::new(from, node, frame)),
+        Deed::Sends { to, frame } if is_of_link(world, &Passage::new(node, to, frame)) => {
             frame_fields(world.node(node), to, &frame)
         }
-        Deed::Ticks
-        | Deed::Sends { .. }
-        | Deed::TakesAgain { .. }
-        | Deed::SendsAgain { .. }
-        | Deed::Asks { .. }
-        | Deed::Leaves { .. }
-        | Deed::Joins { .. }
-        | Deed::Parts { .. }
-        | Deed::Connects { .. }
-        | Deed::Disconnects { .. } => [None; 5],
+        _ => [None; 5],
     }
 }
 

@@ -9,6 +9,23 @@ use configuration::link_model::Item;
 use std::alloc::Allocator;
 use topology::{Frame, Payload};
 
+/// A frame on the link from a node to another one.
+#[derive(Clone, Copy, Debug, PartialEq, Eq)]
+pub struct Passage {
+    pub from: u16,
+    pub to: u16,
+    pub frame: Frame,
+}
+
+impl Passage {
+    /// A frame on this link.
+    pub fn new(from: u16, to: u16, frame: Frame) -> Passage
+        ensures { result ≡ record { from = from; to = to; frame = frame } }
+    {
+        Passage { from, to, frame }
+    }
+}
+
 /// How many items stand in front of the first one that is this frame, and whether there is one.
 #[derive(Clone, Copy, Debug, PartialEq, Eq)]
 pub struct Place {
@@ -42,22 +59,19 @@ fn is_frame(frame: &Frame, item: &Item) -> bool
     }
 }
 
-/// Where the earliest item is that is this frame, on the link between two nodes.
-pub fn place_of<A: Allocator + Copy>(
-    world: &Configuration<A>,
-    from: u16,
-    to: u16,
-    frame: &Frame,
-) -> Place
-    requires from_in { from < (world_of world.now).net.nodes }
-    requires to_in { to < (world_of world.now).net.nodes }
-    ensures in_front { result.in_front ≡ in_front frame.now ((world_of world.now).link from to) }
-    ensures is_there { result.is_there
-        ≡ is_under_way frame.now ((world_of world.now).link from to) }
+/// Where the earliest item is that is this frame, on its link.
+pub fn place_of<A: Allocator + Copy>(world: &Configuration<A>, passage: &Passage) -> Place
+    requires from_in { passage.now.from < (world_of world.now).net.nodes }
+    requires to_in { passage.now.to < (world_of world.now).net.nodes }
+    ensures in_front { result.in_front ≡ in_front passage.now.frame
+        ((world_of world.now).link passage.now.from passage.now.to) }
+    ensures is_there { result.is_there ≡ is_under_way passage.now.frame
+        ((world_of world.now).link passage.now.from passage.now.to) }
 {
+    let (from, to) = (passage.from, passage.to);
     let count = world.under_way(from, to);
     for index in 0..count {
-        if is_frame(frame, &world.item(from, to, index)) {
+        if is_frame(&passage.frame, &world.item(from, to, index)) {
             return Place {
                 in_front: index,
                 is_there: true,

@@ -34,6 +34,7 @@ mod frames;
 mod gathering;
 pub mod laws;
 mod order;
+mod parts;
 mod queue;
 
 pub use configuration;

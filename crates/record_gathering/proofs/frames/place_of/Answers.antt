@@ -7,20 +7,22 @@ use Rattle.record_gathering.proofs.frames.place_of.Goals as goal
 pub returns-then-is_frame-clause-in_front : goal.returns-then-is_frame-clause-in_front
 returns-then-is_frame-clause-in_front g c =
     let h = c.loop-index.invariant in
-    sym (place-here c.args.frame.now ((world_of c.args.world.now).link c.args.from c.args.to) c.loop-index.index c.item.result c.item.ensures h.in_front h.is_there
+    sym (place-here c.args.passage.now.frame ((world_of c.args.world.now).link c.args.passage.now.from c.args.passage.now.to)
+    c.loop-index.index c.item.result c.item.ensures h.in_front h.is_there
     (sym c.is_frame.ensures ∙ c.if-is_frame.true))
 
 pub returns-then-is_frame-clause-is_there : goal.returns-then-is_frame-clause-is_there
 returns-then-is_frame-clause-is_there g c =
     let h = c.loop-index.invariant in
-    sym (is-here c.args.frame.now ((world_of c.args.world.now).link c.args.from c.args.to) c.loop-index.index c.item.result c.item.ensures h.in_front h.is_there
+    sym (is-here c.args.passage.now.frame ((world_of c.args.world.now).link c.args.passage.now.from c.args.passage.now.to)
+    c.loop-index.index c.item.result c.item.ensures h.in_front h.is_there
     (sym c.is_frame.ensures ∙ c.if-is_frame.true))
 
 pub loop-index-preserved : goal.loop-index-preserved
 loop-index-preserved g c =
     let h = c.loop-index.invariant in
-    let f = c.args.frame.now in
-    let items = (world_of c.args.world.now).link c.args.from c.args.to in
+    let f = c.args.passage.now.frame in
+    let items = (world_of c.args.world.now).link c.args.passage.now.from c.args.passage.now.to in
     let other : is_frame f c.item.result ≡ false = sym c.is_frame.ensures ∙ c.if-is_frame.false in
     record {
       in_front = place-further f items c.loop-index.index c.item.result c.item.ensures h.in_front h.is_there other;
