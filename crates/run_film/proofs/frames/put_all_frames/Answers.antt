@@ -12,6 +12,3 @@ loop-from-preserved c =
 
 pub returns-clause-frames : goal.returns-clause-frames
 returns-clause-frames c = λ u below. c.loop-from.invariant.each u (omega (arith, below, c.nodes-from-end.ensures.nodes, c.loop-from-test.false, c.loop-from.auto.from-end))
-
-pub returns-clause-keeps : goal.returns-clause-keeps
-returns-clause-keeps c = c.loop-from.invariant.keeps

@@ -12,6 +12,3 @@ loop-to-preserved c =
 
 pub returns-clause-frames : goal.returns-clause-frames
 returns-clause-frames c = λ u below. c.loop-to.invariant.each u (omega (arith, below, c.nodes-to-end.ensures.nodes, c.loop-to-test.false, c.loop-to.auto.to-end))
-
-pub returns-clause-keeps : goal.returns-clause-keeps
-returns-clause-keeps c = c.loop-to.invariant.keeps

@@ -1,7 +1,6 @@
-use Rattle.std.proofs.Common.{ℕ, ◌<◌, ◌++◌, IsTrue, codes, decimal}
-use Rattle.run_film.specs.Beats.{film_of, joins_in}
+use Rattle.run_film.specs.Beats.{film_of}
 use Rattle.run_film.specs.Films.{drawn}
-use Rattle.run_film.specs.Symbols.{parents_in, HasEdge, HasFrame, IsDefined}
+use Rattle.run_film.specs.Symbols.{HasFrame}
 use Rattle.run_film.proofs.Films.{Grows}
 use Rattle.run_film.proofs.frames.put_frames_from.Given as goal
 

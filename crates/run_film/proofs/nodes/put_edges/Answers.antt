@@ -12,6 +12,3 @@ loop-w-preserved c =
 
 pub returns-clause-edges : goal.returns-clause-edges
 returns-clause-edges c = λ u below. c.loop-w.invariant.each u (omega (arith, below, c.nodes-w-end.ensures.nodes, c.loop-w-test.false, c.loop-w.auto.w-end))
-
-pub returns-clause-keeps : goal.returns-clause-keeps
-returns-clause-keeps c = c.loop-w.invariant.keeps

@@ -1,8 +1,8 @@
-use Rattle.std.proofs.Common.{ℕ, ◌<◌, ◌++◌, IsTrue, codes, decimal}
+use Rattle.std.proofs.Common.{ℕ, ◌<◌, IsTrue}
 use Rattle.run_film.specs.declared.track.Track.TheVariants.{Edge}
 use Rattle.run_film.specs.Beats.{film_of, joins_in}
 use Rattle.run_film.specs.Films.{drawn, IsPlayed}
-use Rattle.run_film.specs.Tracks.{pair_code, track_shown, waits_in}
+use Rattle.run_film.specs.Tracks.{track_shown}
 use Rattle.run_film.proofs.Films.{Grows}
 use Rattle.run_film.proofs.nodes.put_edges.Given as goal
 

@@ -12,6 +12,3 @@ loop-v-preserved c =
 
 pub returns-clause-edges : goal.returns-clause-edges
 returns-clause-edges c = λ u below. c.loop-v.invariant.each u (omega (arith, below, c.loop-v-test.false, c.loop-v.auto.v-end))
-
-pub returns-clause-keeps : goal.returns-clause-keeps
-returns-clause-keeps c = c.loop-v.invariant.keeps

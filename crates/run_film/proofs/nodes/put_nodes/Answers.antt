@@ -1,9 +1,9 @@
-use Rattle.std.proofs.Common.{ℕ, ◌<◌, arith}
+use Rattle.std.proofs.Common.{◌<◌, arith}
 use Rattle.run_film.specs.declared.track.Track.TheVariants.{Parent}
-use Rattle.run_film.specs.Beats.{film_of, joins_in}
+use Rattle.run_film.specs.Beats.{film_of}
 use Rattle.run_film.specs.Films.{drawn, Keeps}
 use Rattle.run_film.specs.Tracks.{track_shown}
-use Rattle.run_film.proofs.Films.{grows_more, grows_none, keeps_pushed, node_added, node_kept, played_here, played_kept, Grows}
+use Rattle.run_film.proofs.Films.{grows_more, grows_none, keeps_pushed, node_added, node_kept, played_here, played_kept}
 use Rattle.run_film.proofs.nodes.put_nodes.Goals as goal
 
 pub loop-v-init : goal.loop-v-init

@@ -1,8 +1,8 @@
-use Rattle.std.proofs.Common.{ℕ, ◌<◌, ◌++◌, IsTrue, codes, decimal}
-use Rattle.run_film.specs.Beats.{film_of, joins_in}
+use Rattle.std.proofs.Common.{IsTrue, codes}
+use Rattle.run_film.specs.Beats.{film_of}
 use Rattle.run_film.specs.Films.{drawn}
-use Rattle.run_film.specs.Symbols.{parents_in, HasEdge, HasFrame, IsDefined}
-use Rattle.run_film.specs.Tracks.{pair_code, track_shown, waits_in}
+use Rattle.run_film.specs.Symbols.{parents_in, IsDefined}
+use Rattle.run_film.specs.Tracks.{pair_code}
 use Rattle.run_film.proofs.Films.{Grows}
 use Rattle.run_film.proofs.symbols.put_arrows_of.Given as goal
 

@@ -12,6 +12,3 @@ loop-distance-preserved c =
 
 pub returns-clause-distances : goal.returns-clause-distances
 returns-clause-distances c = λ u below. c.loop-distance.invariant.each u (omega (arith, below, c.nodes-distance-end.ensures.nodes, c.loop-distance-test.false, c.loop-distance.auto.distance-end))
-
-pub returns-clause-keeps : goal.returns-clause-keeps
-returns-clause-keeps c = c.loop-distance.invariant.keeps

@@ -1,6 +1,6 @@
-use Rattle.std.proofs.Common.{ℕ, ◌<◌, ◌++◌, IsTrue, codes, decimal}
+use Rattle.std.proofs.Common.{◌++◌, codes, decimal}
 use Rattle.run_film.specs.Films.{drawn}
-use Rattle.run_film.specs.Symbols.{parents_in, HasEdge, HasFrame, IsDefined}
+use Rattle.run_film.specs.Symbols.{IsDefined}
 use Rattle.run_film.proofs.Films.{Grows}
 use Rattle.run_film.proofs.symbols.put_distances.Given as goal
 

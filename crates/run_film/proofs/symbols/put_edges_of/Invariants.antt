@@ -1,7 +1,7 @@
-use Rattle.std.proofs.Common.{ℕ, ◌<◌, ◌++◌, IsTrue, codes, decimal}
+use Rattle.std.proofs.Common.{IsTrue}
 use Rattle.run_film.specs.Beats.{film_of, joins_in}
 use Rattle.run_film.specs.Films.{drawn}
-use Rattle.run_film.specs.Symbols.{parents_in, HasEdge, HasFrame, IsDefined}
+use Rattle.run_film.specs.Symbols.{HasEdge}
 use Rattle.run_film.proofs.Films.{Grows}
 use Rattle.run_film.proofs.symbols.put_edges_of.Given as goal
 

@@ -12,6 +12,3 @@ loop-u-preserved c =
 
 pub returns-clause-waiting : goal.returns-clause-waiting
 returns-clause-waiting c = λ u below. c.loop-u.invariant.each u (omega (arith, below, c.nodes-u-end.ensures.nodes, c.loop-u-test.false, c.loop-u.auto.u-end))
-
-pub returns-clause-keeps : goal.returns-clause-keeps
-returns-clause-keeps c = c.loop-u.invariant.keeps

@@ -1,8 +1,8 @@
-use Rattle.std.proofs.Common.{ℕ, ◌<◌, ◌++◌, IsTrue, codes, decimal}
+use Rattle.std.proofs.Common.{IsTrue}
 use Rattle.run_film.specs.declared.track.Track.TheVariants.{Waiting}
-use Rattle.run_film.specs.Beats.{film_of, joins_in}
+use Rattle.run_film.specs.Beats.{film_of}
 use Rattle.run_film.specs.Films.{drawn, IsPlayed}
-use Rattle.run_film.specs.Tracks.{pair_code, track_shown, waits_in}
+use Rattle.run_film.specs.Tracks.{track_shown, waits_in}
 use Rattle.run_film.proofs.Films.{Grows}
 use Rattle.run_film.proofs.waiting.put_waiting_from.Given as goal
 
