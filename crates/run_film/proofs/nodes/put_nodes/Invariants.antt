@@ -8,7 +8,9 @@ use Rattle.run_film.proofs.nodes.put_nodes.Given as goal
 
 -- the arrows of the first nodes are drawn
 abbrev pub invariant-loop-v : goal.invariant-loop-v
-invariant-loop-v l = Grows (λ gs u. IsPlayed gs (track_shown (Parent u) (film_of l.plan.shown))) (drawn l.fn.groups.items) (drawn l.groups.items) l.v
+invariant-loop-v l =
+    Grows (λ gs u. IsPlayed gs (track_shown (Parent u) (film_of l.plan.shown)))
+    (drawn l.fn.groups.items) (drawn l.groups.items) l.v
 
 -- those of all are, and the first nodes
 abbrev pub invariant-loop-v-2 : goal.invariant-loop-v-2

@@ -6,4 +6,6 @@ use Rattle.run_film.proofs.symbols.put_distances.Given as goal
 
 -- the first distances have their symbols
 abbrev pub invariant-loop-distance : goal.invariant-loop-distance
-invariant-loop-distance l = Grows (λ gs d. IsDefined gs (codes "d" ++ decimal d)) (drawn l.fn.groups.items) (drawn l.groups.items) l.distance
+invariant-loop-distance l =
+    Grows (λ gs d. IsDefined gs (codes "d" ++ decimal d))
+    (drawn l.fn.groups.items) (drawn l.groups.items) l.distance
