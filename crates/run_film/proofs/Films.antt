@@ -85,6 +85,21 @@ pub next_below : (Q : List Grouped → ℕ → Type 0) → ((old new : List Grou
     → (old new : List Grouped) (v : ℕ) → Keeps old new → ((u : ℕ) → u < v → Q old u) → Q new v → (u : ℕ) → u < v + 1 → Q new u
 next_below Q kept old new v keeps before now = below_next (Q new) v (λ u below. kept old new u keeps (before u below)) now
 
+-- each number below one has what is asked of it, and the groups that were there at first stay
+pub record Grows (Q : List Grouped → ℕ → Type 0) (first now : List Grouped) (v : ℕ) : Type 0 where
+  pub each : (u : ℕ) → u < v → Q now u
+  pub keeps : Keeps first now
+
+pub grows_none : (Q : List Grouped → ℕ → Type 0) (groups : List Grouped) → Grows Q groups groups 0
+grows_none Q groups = record { each = λ u below. absurd (omega (arith, below)); keeps = keeps_itself groups }
+
+pub grows_more : (Q : List Grouped → ℕ → Type 0) → ((old new : List Grouped) (u : ℕ) → Keeps old new → Q old u → Q new u)
+    → (first old new : List Grouped) (v : ℕ) → Grows Q first old v → Keeps old new → Q new v → Grows Q first new (v + 1)
+grows_more Q kept first old new v before keeps now = record {
+  each = next_below Q kept old new v keeps before.each now;
+  keeps = keeps_on first old new before.keeps keeps;
+}
+
 -- ---- symbols
 
 pub defined_kept : (old new : List Grouped) (name : List ℕ) → Keeps old new → IsDefined old name → IsDefined new name

@@ -1,7 +1,8 @@
 -- What a film shows of a run.
-use Rattle.std.specs.Prelude.{◌≡◌, ◌<◌, ℕ, Bool, IsTrue, List, [], ◌∷◌, ◌++◌}
+use Rattle.std.specs.Prelude.{◌≡◌, ◌<◌, ℕ, Bool, IsTrue, List, [], ◌∷◌, ◌++◌, map}
 use Rattle.topology.specs.Network.{Network}
-use Rattle.svg_drawing.specs.Grouped.{Grouped}
+use Rattle.svg_drawing.specs.declared.element.Group.{Group}
+use Rattle.svg_drawing.specs.Grouped.{Grouped, grouped_of}
 use Rattle.run_film.specs.declared.track.Track.TheVariants.{Mark, Distance, Parent, Ticket, Strike, Damage, Sweeps, Edge, Frame, Waiting}
 use Rattle.run_film.specs.Beats.{Film, joins_in}
 use Rattle.run_film.specs.Symbols.{is_framed, HasSymbols}
@@ -50,6 +51,10 @@ pub record ShowsFilm (groups : List Grouped) (film : Film) (net : Network) : Typ
   pub symbols : HasSymbols groups film net
 
 -- ---- what the steps add
+
+-- what groups of the code show
+abbrev pub drawn : List Group → List Grouped
+drawn groups = map grouped_of groups
 
 -- all groups that were there stay, in front of others
 abbrev pub Keeps : List Grouped → List Grouped → Type 0

@@ -1,10 +1,10 @@
 //! The frames: each is a dot that travels along the half of its edge on which an event shows it, and rests in the
 //! middle while it is under way.
-ghost use Rattle.std.specs.Prelude.{◌≡◌, ◌<◌, ℕ, IfOk, OnOk, IsTrue, codes, map};
+ghost use Rattle.std.specs.Prelude.{◌≡◌, ◌<◌, ℕ, IfOk, OnOk, IsTrue, codes};
 ghost use Rattle.std.specs.List.{list_any};
 ghost use Rattle.svg_drawing.specs.Grouped.{grouped_of};
 ghost use Rattle.run_film.specs.Beats.{film_of};
-ghost use Rattle.run_film.specs.Films.{Keeps};
+ghost use Rattle.run_film.specs.Films.{drawn, Keeps};
 ghost use Rattle.run_film.specs.Shapes.{symbol_shown};
 ghost use Rattle.run_film.specs.Symbols.{deed_code, done_in, is_done, is_framed};
 ghost use Rattle.run_film.specs.Symbols.{HasFrame, HasFrames, IsDefined};
@@ -12,6 +12,7 @@ ghost use Rattle.run_film.specs.Tracks.{pair_code};
 
 use crate::curve::{between_of, first_quarter, last_quarter, middle_of};
 use crate::pace::Shown;
+use crate::plan::Plan;
 use crate::shapes::{outline, symbol};
 use crate::stage::Stage;
 use crate::symbols::put_symbol;
@@ -22,7 +23,6 @@ use run_recording::{MOST_FRAMED, Still};
 use std::alloc::{AllocError, Global};
 use std::fmt::Write;
 use svg_drawing::{Element, Group, Point};
-use topology::Net;
 
 /// For how many beats a dot travels at most; then it rests where it has come to.
 const MOST_TRAVELLED: usize = 10;
@@ -39,55 +39,36 @@ pub enum Deed {
 }
 
 /// What the last event of some still does with a frame, if the network is small enough to show it.
-pub fn put_frame_symbols(
-    alloc: Global,
-    groups: &mut Vec<Group>,
-    net: &Net,
-    stage: &Stage,
-    shown: Shown<'_>,
-) -> Result<(), AllocError>
-    ensures frames { OnOk result (IsTrue (is_framed net.now)
-        → HasFrames (map grouped_of groups.new.items) (film_of shown.entry) net.now) }
-    ensures keeps { OnOk result (Keeps (map grouped_of groups.old.items) (map grouped_of groups.new.items)) }
+pub fn put_frame_symbols(plan: Plan<'_>, groups: &mut Vec<Group>) -> Result<(), AllocError>
+    ensures frames { OnOk result (IsTrue (is_framed plan.entry.net.now)
+        → HasFrames (drawn groups.new.items) (film_of plan.entry.shown) plan.entry.net.now) }
+    ensures keeps { OnOk result (Keeps (drawn groups.old.items) (drawn groups.new.items)) }
 {
-    if net.nodes() <= MOST_FRAMED {
-        put_all_frames(alloc, groups, net, stage, shown)?;
+    if plan.net.nodes() <= MOST_FRAMED {
+        put_all_frames(plan, groups)?;
     }
     Ok(())
 }
 
 /// What the last event of some still does with a frame.
-fn put_all_frames(
-    alloc: Global,
-    groups: &mut Vec<Group>,
-    net: &Net,
-    stage: &Stage,
-    shown: Shown<'_>,
-) -> Result<(), AllocError>
-    ensures frames { OnOk result (HasFrames (map grouped_of groups.new.items) (film_of shown.entry) net.now) }
-    ensures keeps { OnOk result (Keeps (map grouped_of groups.old.items) (map grouped_of groups.new.items)) }
+fn put_all_frames(plan: Plan<'_>, groups: &mut Vec<Group>) -> Result<(), AllocError>
+    ensures frames { OnOk result (HasFrames (drawn groups.new.items) (film_of plan.entry.shown) plan.entry.net.now) }
+    ensures keeps { OnOk result (Keeps (drawn groups.old.items) (drawn groups.new.items)) }
 {
-    for from in 0..net.nodes() {
-        put_frames_from(alloc, groups, net, stage, shown, from)?;
+    for from in 0..plan.net.nodes() {
+        put_frames_from(plan, groups, from)?;
     }
     Ok(())
 }
 
 /// The same for the frames from a node.
-fn put_frames_from(
-    alloc: Global,
-    groups: &mut Vec<Group>,
-    net: &Net,
-    stage: &Stage,
-    shown: Shown<'_>,
-    from: u16,
-) -> Result<(), AllocError>
-    ensures frames { OnOk result ((to : ℕ) → to < net.now.nodes
-        → HasFrame (map grouped_of groups.new.items) (film_of shown.entry) from to) }
-    ensures keeps { OnOk result (Keeps (map grouped_of groups.old.items) (map grouped_of groups.new.items)) }
+fn put_frames_from(plan: Plan<'_>, groups: &mut Vec<Group>, from: u16) -> Result<(), AllocError>
+    ensures frames { OnOk result ((to : ℕ) → to < plan.entry.net.now.nodes
+        → HasFrame (drawn groups.new.items) (film_of plan.entry.shown) from to) }
+    ensures keeps { OnOk result (Keeps (drawn groups.old.items) (drawn groups.new.items)) }
 {
-    for to in 0..net.nodes() {
-        put_frames_between(alloc, groups, stage, shown, from, to)?;
+    for to in 0..plan.net.nodes() {
+        put_frames_between(plan, groups, from, to)?;
     }
     Ok(())
 }
@@ -95,39 +76,35 @@ fn put_frames_from(
 /// The same for the frames from a node to another: one that is sent goes to the middle of the edge, one
 /// that is taken comes from there, one that waits rests there, and a cross stands there if one is lost.
 fn put_frames_between(
-    alloc: Global,
+    plan: Plan<'_>,
     groups: &mut Vec<Group>,
-    stage: &Stage,
-    shown: Shown<'_>,
     from: u16,
     to: u16,
 ) -> Result<(), AllocError>
-    ensures frames { OnOk result (HasFrame (map grouped_of groups.new.items) (film_of shown.entry) from to) }
-    ensures keeps { OnOk result (Keeps (map grouped_of groups.old.items) (map grouped_of groups.new.items)) }
+    ensures frames { OnOk result (HasFrame (drawn groups.new.items) (film_of plan.entry.shown) from to) }
+    ensures keeps { OnOk result (Keeps (drawn groups.old.items) (drawn groups.new.items)) }
 {
-    put_frame(alloc, groups, stage, shown, Deed::Sent, from, to)?;
-    put_frame(alloc, groups, stage, shown, Deed::Taken, from, to)?;
-    put_frame(alloc, groups, stage, shown, Deed::Lost, from, to)?;
-    put_waiting_symbol(alloc, groups, stage, shown, from, to)?;
+    put_frame(plan, groups, Deed::Sent, from, to)?;
+    put_frame(plan, groups, Deed::Taken, from, to)?;
+    put_frame(plan, groups, Deed::Lost, from, to)?;
+    put_waiting_symbol(plan, groups, from, to)?;
     Ok(())
 }
 
 /// What is done with a frame from a node to another, if the last event of some still does it.
 fn put_frame(
-    alloc: Global,
+    plan: Plan<'_>,
     groups: &mut Vec<Group>,
-    stage: &Stage,
-    shown: Shown<'_>,
     deed: Deed,
     from: u16,
     to: u16,
 ) -> Result<(), AllocError>
-    ensures frame { OnOk result (IsTrue (done_in (film_of shown.entry) deed from to)
-        → IsDefined (map grouped_of groups.new.items) (pair_code (deed_code deed) from to)) }
-    ensures keeps { OnOk result (Keeps (map grouped_of groups.old.items) (map grouped_of groups.new.items)) }
+    ensures frame { OnOk result (IsTrue (done_in (film_of plan.entry.shown) deed from to)
+        → IsDefined (drawn groups.new.items) (pair_code (deed_code deed) from to)) }
+    ensures keeps { OnOk result (Keeps (drawn groups.old.items) (drawn groups.new.items)) }
 {
-    if is_done_in(shown, deed, from, to) {
-        put_symbol(groups, frame_symbol(alloc, stage, shown, deed, from, to)?)?;
+    if is_done_in(plan.shown, deed, from, to) {
+        put_symbol(groups, frame_symbol(plan, deed, from, to)?)?;
     }
     Ok(())
 }
@@ -159,90 +136,62 @@ fn any_does(stills: &[Still], deed: Deed, u: u16, v: u16) -> bool
 }
 
 /// The symbol of what is done with a frame from a node to another.
-fn frame_symbol(
-    alloc: Global,
-    stage: &Stage,
-    shown: Shown<'_>,
-    deed: Deed,
-    from: u16,
-    to: u16,
-) -> Result<Group, AllocError>
-    ensures { IfOk result (λ group. (grouped_of group).element
-        ≡ symbol_shown (pair_code (deed_code deed) from to)) }
+fn frame_symbol(plan: Plan<'_>, deed: Deed, from: u16, to: u16) -> Result<Group, AllocError>
+    ensures { IfOk result (λ group. (grouped_of group).element ≡ symbol_shown (pair_code (deed_code deed) from to)) }
 {
     match deed {
-        Deed::Sent => sent_frame(alloc, stage, shown, from, to),
-        Deed::Taken => taken_frame(alloc, stage, shown, from, to),
-        Deed::Lost => loss(alloc, stage, from, to),
+        Deed::Sent => sent_frame(plan, from, to),
+        Deed::Taken => taken_frame(plan, from, to),
+        Deed::Lost => loss(plan.alloc, plan.stage, from, to),
     }
 }
 
 /// A frame that is sent: it goes from a node to the middle of the line to another.
-fn sent_frame(
-    alloc: Global,
-    stage: &Stage,
-    shown: Shown<'_>,
-    from: u16,
-    to: u16,
-) -> Result<Group, AllocError>
-    ensures { IfOk result (λ group. (grouped_of group).element
-        ≡ symbol_shown (pair_code (codes "o") from to)) }
+fn sent_frame(plan: Plan<'_>, from: u16, to: u16) -> Result<Group, AllocError>
+    ensures { IfOk result (λ group. (grouped_of group).element ≡ symbol_shown (pair_code (codes "o") from to)) }
 {
     let travel = Travel {
         deed: Deed::Sent,
         from,
         to,
-        start: stage.at(from),
-        between: between_of(stage, from, to),
-        end: middle_of(stage, from, to),
+        start: plan.stage.at(from),
+        between: between_of(plan.stage, from, to),
+        end: middle_of(plan.stage, from, to),
     };
-    let name = format!(in alloc; "o{from}-{to}")?;
-    let steps = first_quarter(alloc, stage, from, to)?;
-    frame(alloc, shown, travel, name.as_str(), steps.as_str())
+    let name = format!(in plan.alloc; "o{from}-{to}")?;
+    let steps = first_quarter(plan.alloc, plan.stage, from, to)?;
+    frame(plan, travel, name.as_str(), steps.as_str())
 }
 
 /// A frame that is taken: it goes from the middle of the line from a node to another to that one.
-fn taken_frame(
-    alloc: Global,
-    stage: &Stage,
-    shown: Shown<'_>,
-    from: u16,
-    to: u16,
-) -> Result<Group, AllocError>
-    ensures { IfOk result (λ group. (grouped_of group).element
-        ≡ symbol_shown (pair_code (codes "i") from to)) }
+fn taken_frame(plan: Plan<'_>, from: u16, to: u16) -> Result<Group, AllocError>
+    ensures { IfOk result (λ group. (grouped_of group).element ≡ symbol_shown (pair_code (codes "i") from to)) }
 {
     let travel = Travel {
         deed: Deed::Taken,
         from,
         to,
-        start: middle_of(stage, from, to),
-        between: between_of(stage, to, from),
-        end: stage.at(to),
+        start: middle_of(plan.stage, from, to),
+        between: between_of(plan.stage, to, from),
+        end: plan.stage.at(to),
     };
-    let name = format!(in alloc; "i{from}-{to}")?;
-    let steps = last_quarter(alloc, stage, from, to)?;
-    frame(alloc, shown, travel, name.as_str(), steps.as_str())
+    let name = format!(in plan.alloc; "i{from}-{to}")?;
+    let steps = last_quarter(plan.alloc, plan.stage, from, to)?;
+    frame(plan, travel, name.as_str(), steps.as_str())
 }
 
 /// A frame as a dot at the end of the way that it has come. It travels while the film plays, and stands
 /// between if nothing plays.
-fn frame(
-    alloc: Global,
-    shown: Shown<'_>,
-    travel: Travel,
-    name: &str,
-    steps: &str,
-) -> Result<Group, AllocError>
+fn frame(plan: Plan<'_>, travel: Travel, name: &str, steps: &str) -> Result<Group, AllocError>
     ensures { IfOk result (λ group. (grouped_of group).element ≡ symbol_shown name.now) }
 {
-    let id = format!(in alloc; "{name}w")?;
-    let way = outline(alloc, steps, "way", "#22262a", 2)?
-        .with(alloc, "marker-end", "url(#f)")?
-        .with(alloc, "id", id.as_str())?;
-    symbol(alloc, name)?
+    let id = format!(in plan.alloc; "{name}w")?;
+    let way = outline(plan.alloc, steps, "way", "#22262a", 2)?
+        .with(plan.alloc, "marker-end", "url(#f)")?
+        .with(plan.alloc, "id", id.as_str())?;
+    symbol(plan.alloc, name)?
         .holding(way)?
-        .holding(travel.animation(alloc, shown, id.as_str())?)
+        .holding(travel.animation(plan.alloc, plan.shown, id.as_str())?)
 }
 
 /// How a dot travels in each still whose last event does this with a frame.
@@ -364,8 +313,7 @@ fn push_time(text: &mut String, shown: Shown<'_>, halves: usize) -> Result<(), A
 
 /// A cross where a frame from a node to another is lost.
 fn loss(alloc: Global, stage: &Stage, from: u16, to: u16) -> Result<Group, AllocError>
-    ensures { IfOk result (λ group. (grouped_of group).element
-        ≡ symbol_shown (pair_code (codes "x") from to)) }
+    ensures { IfOk result (λ group. (grouped_of group).element ≡ symbol_shown (pair_code (codes "x") from to)) }
 {
     let name = format!(in alloc; "x{from}-{to}")?;
     let Point { x, y } = middle_of(stage, from, to);

@@ -24,6 +24,7 @@ mod head;
 mod nodes;
 mod pace;
 mod page;
+mod plan;
 mod playing;
 mod shapes;
 mod stage;

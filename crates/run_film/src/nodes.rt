@@ -1,14 +1,13 @@
 //! The edges, the frames and the nodes.
-ghost use Rattle.std.specs.Prelude.{◌≡◌, ◌∷◌, ◌++◌, ◌<◌, ℕ, [], OnOk, IsTrue, map};
-ghost use Rattle.svg_drawing.specs.Grouped.{grouped_of};
+ghost use Rattle.std.specs.Prelude.{◌≡◌, ◌∷◌, ◌++◌, ◌<◌, ℕ, [], OnOk, IsTrue};
 ghost use Rattle.run_film.specs.declared.track.Track.TheVariants.{Parent, Edge};
 ghost use Rattle.run_film.specs.declared.track.Track.TheVariants.{Sweeps, Damage};
 ghost use Rattle.run_film.specs.Beats.{film_of, joins_in};
-ghost use Rattle.run_film.specs.Films.{AddsNode, IsPlayed, Keeps, ShowsEdges, ShowsFrames, ShowsNodes};
+ghost use Rattle.run_film.specs.Films.{drawn, AddsNode, IsPlayed, Keeps, ShowsEdges, ShowsFrames, ShowsNodes};
 ghost use Rattle.run_film.specs.Symbols.{is_framed};
 ghost use Rattle.run_film.specs.Tracks.{track_shown};
 
-use crate::pace::Shown;
+use crate::plan::Plan;
 use crate::stage::Stage;
 use crate::tickets::ticket_place;
 use crate::track::Track;
@@ -17,152 +16,110 @@ use crate::words::words;
 use run_recording::MOST_FRAMED;
 use std::alloc::{AllocError, Global};
 use svg_drawing::{Group, Point, Px};
-use topology::Net;
 
 /// Where symbols stand that are drawn at their places.
 pub const ORIGIN: Point = Point { x: Px(0), y: Px(0) };
 
 /// Draws the edges that some still has.
-pub fn put_edges(
-    alloc: Global,
-    groups: &mut Vec<Group>,
-    net: &Net,
-    shown: Shown<'_>,
-) -> Result<(), AllocError>
-    ensures edges { OnOk result (ShowsEdges (map grouped_of groups.new.items) (film_of shown.entry) net.now) }
-    ensures keeps { OnOk result (Keeps (map grouped_of groups.old.items) (map grouped_of groups.new.items)) }
+pub fn put_edges(plan: Plan<'_>, groups: &mut Vec<Group>) -> Result<(), AllocError>
+    ensures edges { OnOk result (ShowsEdges (drawn groups.new.items) (film_of plan.entry.shown) plan.entry.net.now) }
+    ensures keeps { OnOk result (Keeps (drawn groups.old.items) (drawn groups.new.items)) }
 {
-    for w in 0..net.nodes() {
-        put_edges_of(alloc, groups, shown, w)?;
+    for w in 0..plan.net.nodes() {
+        put_edges_of(plan, groups, w)?;
     }
     Ok(())
 }
 
 /// Draws those between a node and one of a smaller id.
-fn put_edges_of(
-    alloc: Global,
-    groups: &mut Vec<Group>,
-    shown: Shown<'_>,
-    w: u16,
-) -> Result<(), AllocError>
-    ensures edges { OnOk result ((v : ℕ) → v < w → IsTrue (joins_in (film_of shown.entry) v w)
-        → IsPlayed (map grouped_of groups.new.items) (track_shown (Edge v w) (film_of shown.entry))) }
-    ensures keeps { OnOk result (Keeps (map grouped_of groups.old.items) (map grouped_of groups.new.items)) }
+fn put_edges_of(plan: Plan<'_>, groups: &mut Vec<Group>, w: u16) -> Result<(), AllocError>
+    ensures edges { OnOk result ((v : ℕ) → v < w → IsTrue (joins_in (film_of plan.entry.shown) v w)
+        → IsPlayed (drawn groups.new.items) (track_shown (Edge v w) (film_of plan.entry.shown))) }
+    ensures keeps { OnOk result (Keeps (drawn groups.old.items) (drawn groups.new.items)) }
 {
     for v in 0..w {
-        put_edge(alloc, groups, shown, v, w)?;
+        put_edge(plan, groups, v, w)?;
     }
     Ok(())
 }
 
 /// Draws the edge between two nodes, if some still has it.
-fn put_edge(
-    alloc: Global,
-    groups: &mut Vec<Group>,
-    shown: Shown<'_>,
-    v: u16,
-    w: u16,
-) -> Result<(), AllocError>
-    ensures edge { OnOk result (IsTrue (joins_in (film_of shown.entry) v w)
-        → IsPlayed (map grouped_of groups.new.items) (track_shown (Edge v w) (film_of shown.entry))) }
-    ensures keeps { OnOk result (Keeps (map grouped_of groups.old.items) (map grouped_of groups.new.items)) }
+fn put_edge(plan: Plan<'_>, groups: &mut Vec<Group>, v: u16, w: u16) -> Result<(), AllocError>
+    ensures edge { OnOk result (IsTrue (joins_in (film_of plan.entry.shown) v w)
+        → IsPlayed (drawn groups.new.items) (track_shown (Edge v w) (film_of plan.entry.shown))) }
+    ensures keeps { OnOk result (Keeps (drawn groups.old.items) (drawn groups.new.items)) }
 {
-    if shown.joins(v, w) {
-        put_track(alloc, groups, shown, Track::Edge(v, w), ORIGIN)?;
+    if plan.shown.joins(v, w) {
+        put_track(plan, groups, Track::Edge(v, w), ORIGIN)?;
     }
     Ok(())
 }
 
 /// Draws a part of the film at a place.
 pub fn put_track(
-    alloc: Global,
+    plan: Plan<'_>,
     groups: &mut Vec<Group>,
-    shown: Shown<'_>,
     track: Track,
     at: Point,
 ) -> Result<(), AllocError>
-    ensures { OnOk result (map grouped_of groups.new.items
-        ≡ map grouped_of groups.old.items ++ track_shown track (film_of shown.entry) at.x.0 at.y.0 ∷ []) }
+    ensures { OnOk result (drawn groups.new.items
+        ≡ drawn groups.old.items ++ track_shown track (film_of plan.entry.shown) at.x.0 at.y.0 ∷ []) }
 {
-    groups.push(track.group(alloc, shown, at.x.0, at.y.0)?)?;
+    groups.push(track.group(plan.alloc, plan.shown, at.x.0, at.y.0)?)?;
     Ok(())
 }
 
 /// Draws the frames, if the network is small enough.
-pub fn put_frames(
-    alloc: Global,
-    groups: &mut Vec<Group>,
-    net: &Net,
-    shown: Shown<'_>,
-) -> Result<(), AllocError>
-    ensures frames { OnOk result (IsTrue (is_framed net.now)
-        → ShowsFrames (map grouped_of groups.new.items) (film_of shown.entry) net.now) }
-    ensures keeps { OnOk result (Keeps (map grouped_of groups.old.items) (map grouped_of groups.new.items)) }
+pub fn put_frames(plan: Plan<'_>, groups: &mut Vec<Group>) -> Result<(), AllocError>
+    ensures frames { OnOk result (IsTrue (is_framed plan.entry.net.now)
+        → ShowsFrames (drawn groups.new.items) (film_of plan.entry.shown) plan.entry.net.now) }
+    ensures keeps { OnOk result (Keeps (drawn groups.old.items) (drawn groups.new.items)) }
 {
-    if net.nodes() <= MOST_FRAMED {
-        put_all_waiting(alloc, groups, net, shown)?;
-        put_track(alloc, groups, shown, Track::Frame, ORIGIN)?;
+    if plan.net.nodes() <= MOST_FRAMED {
+        put_all_waiting(plan, groups)?;
+        put_track(plan, groups, Track::Frame, ORIGIN)?;
     }
     Ok(())
 }
 
 /// Says how many sweeps there were, and whether there was damage.
-pub fn put_said(
-    alloc: Global,
-    groups: &mut Vec<Group>,
-    stage: &Stage,
-    shown: Shown<'_>,
-) -> Result<(), AllocError>
-    ensures sweeps { OnOk result (IsPlayed (map grouped_of groups.new.items) (track_shown Sweeps (film_of shown.entry))) }
-    ensures damage { OnOk result (IsPlayed (map grouped_of groups.new.items) (track_shown Damage (film_of shown.entry))) }
-    ensures keeps { OnOk result (Keeps (map grouped_of groups.old.items) (map grouped_of groups.new.items)) }
+pub fn put_said(plan: Plan<'_>, groups: &mut Vec<Group>) -> Result<(), AllocError>
+    ensures sweeps { OnOk result (IsPlayed (drawn groups.new.items) (track_shown Sweeps (film_of plan.entry.shown))) }
+    ensures damage { OnOk result (IsPlayed (drawn groups.new.items) (track_shown Damage (film_of plan.entry.shown))) }
+    ensures keeps { OnOk result (Keeps (drawn groups.old.items) (drawn groups.new.items)) }
 {
-    let y = stage.floor + Px(20);
-    put_track(alloc, groups, shown, Track::Sweeps, Point { x: Px(40), y })?;
-    let x = stage.width - Px(110);
-    put_track(alloc, groups, shown, Track::Damage, Point { x, y })?;
+    let y = plan.stage.floor + Px(20);
+    put_track(plan, groups, Track::Sweeps, Point { x: Px(40), y })?;
+    let x = plan.stage.width - Px(110);
+    put_track(plan, groups, Track::Damage, Point { x, y })?;
     Ok(())
 }
 
 /// Draws the nodes, and below them the arrow of each towards its parent.
-pub fn put_nodes(
-    alloc: Global,
-    groups: &mut Vec<Group>,
-    net: &Net,
-    stage: &Stage,
-    shown: Shown<'_>,
-) -> Result<(), AllocError>
-    ensures nodes { OnOk result (ShowsNodes (map grouped_of groups.new.items) (film_of shown.entry) net.now) }
-    ensures keeps { OnOk result (Keeps (map grouped_of groups.old.items) (map grouped_of groups.new.items)) }
+pub fn put_nodes(plan: Plan<'_>, groups: &mut Vec<Group>) -> Result<(), AllocError>
+    ensures nodes { OnOk result (ShowsNodes (drawn groups.new.items) (film_of plan.entry.shown) plan.entry.net.now) }
+    ensures keeps { OnOk result (Keeps (drawn groups.old.items) (drawn groups.new.items)) }
 {
-    for v in 0..net.nodes() {
-        put_track(alloc, groups, shown, Track::Parent(v), ORIGIN)?;
+    for v in 0..plan.net.nodes() {
+        put_track(plan, groups, Track::Parent(v), ORIGIN)?;
     }
-    for v in 0..net.nodes() {
-        put_node(alloc, groups, net, stage, shown, v)?;
+    for v in 0..plan.net.nodes() {
+        put_node(plan, groups, v)?;
     }
     Ok(())
 }
 
 /// Draws a node: how it stands, its distance, the ticket that it lends to, and what strikes it.
-fn put_node(
-    alloc: Global,
-    groups: &mut Vec<Group>,
-    net: &Net,
-    stage: &Stage,
-    shown: Shown<'_>,
-    v: u16,
-) -> Result<(), AllocError>
-    ensures { OnOk result (AddsNode (map grouped_of groups.old.items)
-        (map grouped_of groups.new.items) (film_of shown.entry) v) }
+fn put_node(plan: Plan<'_>, groups: &mut Vec<Group>, v: u16) -> Result<(), AllocError>
+    ensures { OnOk result (AddsNode (drawn groups.old.items) (drawn groups.new.items) (film_of plan.entry.shown) v) }
 {
-    let at = stage.at(v);
-    let beside = ticket_place(net, stage, v);
-    put_track(alloc, groups, shown, Track::Mark(v), at)?;
-    put_track(alloc, groups, shown, Track::Distance(v), at)?;
-    put_track(alloc, groups, shown, Track::Ticket(v), beside)?;
-    put_track(alloc, groups, shown, Track::Strike(v), at)?;
-    groups.push(node_name(alloc, stage, v)?)?;
+    let at = plan.stage.at(v);
+    let beside = ticket_place(plan.net, plan.stage, v);
+    put_track(plan, groups, Track::Mark(v), at)?;
+    put_track(plan, groups, Track::Distance(v), at)?;
+    put_track(plan, groups, Track::Ticket(v), beside)?;
+    put_track(plan, groups, Track::Strike(v), at)?;
+    groups.push(node_name(plan.alloc, plan.stage, v)?)?;
     Ok(())
 }
 

@@ -1,11 +1,10 @@
 //! A whole film.
-ghost use Rattle.std.specs.Prelude.{◌≡◌, ◌≤◌, Some, IfOk, OnOk, length, map};
+ghost use Rattle.std.specs.Prelude.{◌≡◌, ◌≤◌, Some, IfOk, OnOk, length};
 ghost use Rattle.run_recording.specs.film_stills.declared.still.Still.{Still};
 ghost use Rattle.run_recording.specs.film_stills.Reels.{ReelView};
 ghost use Rattle.svg_drawing.specs.Grouped.{scene_shown};
 ghost use Rattle.run_film.specs.Beats.{film_of};
-ghost use Rattle.svg_drawing.specs.Grouped.{grouped_of};
-ghost use Rattle.run_film.specs.Films.{Keeps, ShowsFilm, ShowsParts};
+ghost use Rattle.run_film.specs.Films.{drawn, Keeps, ShowsFilm, ShowsParts};
 ghost use Rattle.run_film.specs.Pages.{ShowsPage};
 
 use crate::counts::counts;
@@ -13,6 +12,7 @@ use crate::head::{Said, attributes, head};
 use crate::nodes::{put_edges, put_frames, put_nodes, put_said};
 use crate::pace::{EMPTY, Pace, Shown};
 use crate::page::{controls, page_head};
+use crate::plan::Plan;
 use crate::stage::Stage;
 use crate::symbols::put_symbols;
 use run_recording::{Recording, Reel, Still, first_visits};
@@ -32,8 +32,7 @@ pub fn film(
         → reel.opening ≡ Some opening
         → IfOk result (λ scene. ShowsFilm (scene_shown scene)
         (record { opening = opening; later = reel.stills; pace = pace }) net.now) }
-    ensures few { (reel : ReelView) → recording.now.reel ≡ Some reel
-        → length reel.stills ≤ reel.limit }
+    ensures few { (reel : ReelView) → recording.now.reel ≡ Some reel → length reel.stills ≤ reel.limit }
 {
     let empty = EMPTY;
     scene(alloc, net, recording, shown_of(recording, &empty, pace))
@@ -50,8 +49,7 @@ pub fn page(
         → reel.opening ≡ Some opening
         → IfOk result (λ page. ShowsPage page
         (record { opening = opening; later = reel.stills; pace = pace }) net.now) }
-    ensures few { (reel : ReelView) → recording.now.reel ≡ Some reel
-        → length reel.stills ≤ reel.limit }
+    ensures few { (reel : ReelView) → recording.now.reel ≡ Some reel → length reel.stills ≤ reel.limit }
 {
     let empty = EMPTY;
     let shown = shown_of(recording, &empty, pace);
@@ -67,8 +65,7 @@ fn shown_of<'a>(recording: &'a Recording, empty: &'a Still, pace: Pace) -> Shown
     ensures shown { (reel : ReelView) (opening : Still) → recording.now.reel ≡ Some reel
         → reel.opening ≡ Some opening
         → film_of result ≡ record { opening = opening; later = reel.stills; pace = pace } }
-    ensures few { (reel : ReelView) → recording.now.reel ≡ Some reel
-        → length reel.stills ≤ reel.limit }
+    ensures few { (reel : ReelView) → recording.now.reel ≡ Some reel → length reel.stills ≤ reel.limit }
 {
     match recording.reel() {
         Some(reel) => Shown::new(opening_of(reel, empty), reel.stills(), pace),
@@ -104,10 +101,16 @@ fn scene(
         stills: shown.later().len().saturating_add(1),
         crowded: recording.reel().is_some_and(|reel| reel.is_crowded()),
     };
+    let plan = Plan {
+        alloc,
+        net,
+        stage: &stage,
+        shown,
+    };
     let mut groups = head(alloc, &stage, said)?;
     groups.extend(counts(alloc, &stage, shown)?)?;
-    put_symbols(alloc, &mut groups, net, &stage, shown)?;
-    put_parts(alloc, &mut groups, net, &stage, shown)?;
+    put_symbols(plan, &mut groups)?;
+    put_parts(plan, &mut groups)?;
     Ok(Scene {
         attributes: attributes(alloc, &stage)?,
         groups,
@@ -115,19 +118,13 @@ fn scene(
 }
 
 /// Draws what changes from still to still.
-fn put_parts(
-    alloc: Global,
-    groups: &mut Vec<Group>,
-    net: &Net,
-    stage: &Stage,
-    shown: Shown<'_>,
-) -> Result<(), AllocError>
-    ensures plays { OnOk result (ShowsParts (map grouped_of groups.new.items) (film_of shown.entry) net.now) }
-    ensures keeps { OnOk result (Keeps (map grouped_of groups.old.items) (map grouped_of groups.new.items)) }
+fn put_parts(plan: Plan<'_>, groups: &mut Vec<Group>) -> Result<(), AllocError>
+    ensures plays { OnOk result (ShowsParts (drawn groups.new.items) (film_of plan.entry.shown) plan.entry.net.now) }
+    ensures keeps { OnOk result (Keeps (drawn groups.old.items) (drawn groups.new.items)) }
 {
-    put_said(alloc, groups, stage, shown)?;
-    put_edges(alloc, groups, net, shown)?;
-    put_frames(alloc, groups, net, shown)?;
-    put_nodes(alloc, groups, net, stage, shown)?;
+    put_said(plan, groups)?;
+    put_edges(plan, groups)?;
+    put_frames(plan, groups)?;
+    put_nodes(plan, groups)?;
     Ok(())
 }

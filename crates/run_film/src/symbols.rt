@@ -1,10 +1,10 @@
 //! The symbols of which a film is made: each has a short name, and is drawn where a part shows it.
-ghost use Rattle.std.specs.Prelude.{◌≡◌, ◌<◌, ℕ, ◌++◌, ◌∷◌, [], IfOk, OnOk, IsTrue, map, codes};
+ghost use Rattle.std.specs.Prelude.{◌≡◌, ◌<◌, ℕ, ◌++◌, ◌∷◌, [], IfOk, OnOk, IsTrue, codes};
 ghost use Rattle.std.specs.Prelude.{List, decimal};
 ghost use Rattle.std.specs.List.{list_any};
 ghost use Rattle.svg_drawing.specs.Grouped.{grouped_of};
 ghost use Rattle.run_film.specs.Beats.{film_of, joins_in};
-ghost use Rattle.run_film.specs.Films.{Keeps};
+ghost use Rattle.run_film.specs.Films.{drawn, Keeps};
 ghost use Rattle.run_film.specs.Shapes.{symbol_shown};
 ghost use Rattle.run_film.specs.Symbols.{has_parent, parents_in, HasArrows, HasDistances, HasEdges};
 ghost use Rattle.run_film.specs.Symbols.{HasEdge, HasMarks, HasSymbols, IsDefined};
@@ -13,6 +13,7 @@ ghost use Rattle.run_film.specs.Tracks.{pair_code};
 use crate::curve::{half, whole};
 use crate::frames::put_frame_symbols;
 use crate::pace::Shown;
+use crate::plan::Plan;
 use crate::shapes::{circle, form, outline, symbol};
 use crate::stage::Stage;
 use crate::track::{is_named, look_of};
@@ -38,39 +39,26 @@ const RING: &str = "M-20 0a20 20 0 1 0 40 0a20 20 0 1 0 -40 0";
 const BOLT: &str = "M-18 -42l14 0l-6 12l9 0l-19 24l5 -18l-9 0z";
 
 /// Adds the symbols of a film.
-pub fn put_symbols(
-    alloc: Global,
-    groups: &mut Vec<Group>,
-    net: &Net,
-    stage: &Stage,
-    shown: Shown<'_>,
-) -> Result<(), AllocError>
-    ensures { OnOk result (HasSymbols (map grouped_of groups.new.items)
-        (film_of shown.entry) net.now) }
+pub fn put_symbols(plan: Plan<'_>, groups: &mut Vec<Group>) -> Result<(), AllocError>
+    ensures { OnOk result (HasSymbols (drawn groups.new.items) (film_of plan.entry.shown) plan.entry.net.now) }
 {
-    put_others(alloc, groups, net, stage, shown)?;
-    put_marks(alloc, groups)?;
-    put_distances(alloc, groups, net)?;
-    put_arrows(alloc, groups, net, stage, shown)?;
-    put_edges(alloc, groups, net, stage, shown)?;
-    put_frame_symbols(alloc, groups, net, stage, shown)?;
+    put_others(plan, groups)?;
+    put_marks(plan.alloc, groups)?;
+    put_distances(plan.alloc, groups, plan.net)?;
+    put_arrows(plan, groups)?;
+    put_edges(plan, groups)?;
+    put_frame_symbols(plan, groups)?;
     Ok(())
 }
 
 /// Those of tickets and of sweeps, and what stands at the ends of lines.
-fn put_others(
-    alloc: Global,
-    groups: &mut Vec<Group>,
-    net: &Net,
-    stage: &Stage,
-    shown: Shown<'_>,
-) -> Result<(), AllocError> {
-    let head = form(alloc, "M-8 -6L4 0L-8 6z", "blue", "#0b5394")?;
-    groups.push(line_end(alloc, "h", head)?)?;
-    let dot = circle(alloc, MIDDLE, 6, "dot", "#22262a")?;
-    groups.push(line_end(alloc, "f", dot)?)?;
-    put_tickets(alloc, groups, net, stage, shown)?;
-    put_sweeps(alloc, groups, net, shown)
+fn put_others(plan: Plan<'_>, groups: &mut Vec<Group>) -> Result<(), AllocError> {
+    let head = form(plan.alloc, "M-8 -6L4 0L-8 6z", "blue", "#0b5394")?;
+    groups.push(line_end(plan.alloc, "h", head)?)?;
+    let dot = circle(plan.alloc, MIDDLE, 6, "dot", "#22262a")?;
+    groups.push(line_end(plan.alloc, "f", dot)?)?;
+    put_tickets(plan, groups)?;
+    put_sweeps(plan, groups)
 }
 
 /// A symbol that holds one element.
@@ -83,7 +71,7 @@ fn symbol_of(alloc: Global, name: &str, element: Element) -> Result<Group, Alloc
 /// The four ways in which a node stands, told apart by their outlines too: settled plain, wrong with
 /// dashes, privileged with two circles, lending in a frame; what strikes a node, damage, and nothing.
 fn put_marks(alloc: Global, groups: &mut Vec<Group>) -> Result<(), AllocError>
-    ensures marks { OnOk result (HasMarks (map grouped_of groups.new.items)) }
+    ensures marks { OnOk result (HasMarks (drawn groups.new.items)) }
 {
     put_symbol(groups, settled(alloc)?)?;
     put_symbol(groups, wrong(alloc)?)?;
@@ -104,8 +92,8 @@ fn put_marks(alloc: Global, groups: &mut Vec<Group>) -> Result<(), AllocError>
 /// Adds a symbol.
 pub fn put_symbol(groups: &mut Vec<Group>, group: Group) -> Result<(), AllocError>
     ensures defined { OnOk result ((name : List ℕ) → (grouped_of group).element ≡ symbol_shown name
-        → IsDefined (map grouped_of groups.new.items) name) }
-    ensures keeps { OnOk result (Keeps (map grouped_of groups.old.items) (map grouped_of groups.new.items)) }
+        → IsDefined (drawn groups.new.items) name) }
+    ensures keeps { OnOk result (Keeps (drawn groups.old.items) (drawn groups.new.items)) }
 {
     groups.push(group)?;
     Ok(())
@@ -148,8 +136,8 @@ fn lending(alloc: Global) -> Result<Group, AllocError>
 
 /// The number of each distance that a node may have.
 fn put_distances(alloc: Global, groups: &mut Vec<Group>, net: &Net) -> Result<(), AllocError>
-    ensures distances { OnOk result (HasDistances (map grouped_of groups.new.items) net.now) }
-    ensures keeps { OnOk result (Keeps (map grouped_of groups.old.items) (map grouped_of groups.new.items)) }
+    ensures distances { OnOk result (HasDistances (drawn groups.new.items) net.now) }
+    ensures keeps { OnOk result (Keeps (drawn groups.old.items) (drawn groups.new.items)) }
 {
     for distance in 0..net.nodes() + 1 {
         put_distance(alloc, groups, distance)?;
@@ -159,17 +147,15 @@ fn put_distances(alloc: Global, groups: &mut Vec<Group>, net: &Net) -> Result<()
 
 /// The number of a distance.
 fn put_distance(alloc: Global, groups: &mut Vec<Group>, distance: u16) -> Result<(), AllocError>
-    ensures distance { OnOk result (IsDefined (map grouped_of groups.new.items)
-        (codes "d" ++ decimal distance)) }
-    ensures keeps { OnOk result (Keeps (map grouped_of groups.old.items) (map grouped_of groups.new.items)) }
+    ensures distance { OnOk result (IsDefined (drawn groups.new.items) (codes "d" ++ decimal distance)) }
+    ensures keeps { OnOk result (Keeps (drawn groups.old.items) (drawn groups.new.items)) }
 {
     put_symbol(groups, distance_text(alloc, distance)?)
 }
 
 /// The number of a distance, in the middle of a node.
 fn distance_text(alloc: Global, distance: u16) -> Result<Group, AllocError>
-    ensures { IfOk result (λ group. (grouped_of group).element
-        ≡ symbol_shown (codes "d" ++ decimal distance)) }
+    ensures { IfOk result (λ group. (grouped_of group).element ≡ symbol_shown (codes "d" ++ decimal distance)) }
 {
     let name = format!(in alloc; "d{distance}")?;
     let number = format!(in alloc; "{distance}")?;
@@ -181,58 +167,37 @@ fn distance_text(alloc: Global, distance: u16) -> Result<Group, AllocError>
 }
 
 /// The arrow from each node to each parent that it has in some still.
-fn put_arrows(
-    alloc: Global,
-    groups: &mut Vec<Group>,
-    net: &Net,
-    stage: &Stage,
-    shown: Shown<'_>,
-) -> Result<(), AllocError>
-    ensures arrows { OnOk result (HasArrows (map grouped_of groups.new.items)
-        (film_of shown.entry) net.now) }
-    ensures keeps { OnOk result (Keeps (map grouped_of groups.old.items) (map grouped_of groups.new.items)) }
+fn put_arrows(plan: Plan<'_>, groups: &mut Vec<Group>) -> Result<(), AllocError>
+    ensures arrows { OnOk result (HasArrows (drawn groups.new.items) (film_of plan.entry.shown) plan.entry.net.now) }
+    ensures keeps { OnOk result (Keeps (drawn groups.old.items) (drawn groups.new.items)) }
 {
-    for v in 0..net.nodes() {
-        put_arrows_of(alloc, groups, net, stage, shown, v)?;
+    for v in 0..plan.net.nodes() {
+        put_arrows_of(plan, groups, v)?;
     }
     Ok(())
 }
 
 /// Those of a node.
-fn put_arrows_of(
-    alloc: Global,
-    groups: &mut Vec<Group>,
-    net: &Net,
-    stage: &Stage,
-    shown: Shown<'_>,
-    v: u16,
-) -> Result<(), AllocError>
-    ensures arrows { OnOk result ((w : ℕ) → w < net.now.nodes
-        → IsTrue (parents_in (film_of shown.entry) v w)
-        → IsDefined (map grouped_of groups.new.items) (pair_code (codes "a") v w)) }
-    ensures keeps { OnOk result (Keeps (map grouped_of groups.old.items) (map grouped_of groups.new.items)) }
+fn put_arrows_of(plan: Plan<'_>, groups: &mut Vec<Group>, v: u16) -> Result<(), AllocError>
+    ensures arrows { OnOk result ((w : ℕ) → w < plan.entry.net.now.nodes
+        → IsTrue (parents_in (film_of plan.entry.shown) v w)
+        → IsDefined (drawn groups.new.items) (pair_code (codes "a") v w)) }
+    ensures keeps { OnOk result (Keeps (drawn groups.old.items) (drawn groups.new.items)) }
 {
-    for w in 0..net.nodes() {
-        put_arrow(alloc, groups, stage, shown, v, w)?;
+    for w in 0..plan.net.nodes() {
+        put_arrow(plan, groups, v, w)?;
     }
     Ok(())
 }
 
 /// The arrow from a node to another, if that is its parent in some still.
-fn put_arrow(
-    alloc: Global,
-    groups: &mut Vec<Group>,
-    stage: &Stage,
-    shown: Shown<'_>,
-    v: u16,
-    w: u16,
-) -> Result<(), AllocError>
-    ensures arrow { OnOk result (IsTrue (parents_in (film_of shown.entry) v w)
-        → IsDefined (map grouped_of groups.new.items) (pair_code (codes "a") v w)) }
-    ensures keeps { OnOk result (Keeps (map grouped_of groups.old.items) (map grouped_of groups.new.items)) }
+fn put_arrow(plan: Plan<'_>, groups: &mut Vec<Group>, v: u16, w: u16) -> Result<(), AllocError>
+    ensures arrow { OnOk result (IsTrue (parents_in (film_of plan.entry.shown) v w)
+        → IsDefined (drawn groups.new.items) (pair_code (codes "a") v w)) }
+    ensures keeps { OnOk result (Keeps (drawn groups.old.items) (drawn groups.new.items)) }
 {
-    if is_parent(shown, v, w) {
-        put_symbol(groups, arrow(alloc, stage, v, w)?)?;
+    if is_parent(plan.shown, v, w) {
+        put_symbol(groups, arrow(plan.alloc, plan.stage, v, w)?)?;
     }
     Ok(())
 }
@@ -260,8 +225,7 @@ fn has_parent(still: &Still, v: u16, parent: u16) -> bool
 
 /// The arrow from a node to a parent.
 fn arrow(alloc: Global, stage: &Stage, v: u16, parent: u16) -> Result<Group, AllocError>
-    ensures { IfOk result (λ group. (grouped_of group).element
-        ≡ symbol_shown (pair_code (codes "a") v parent)) }
+    ensures { IfOk result (λ group. (grouped_of group).element ≡ symbol_shown (pair_code (codes "a") v parent)) }
 {
     let name = format!(in alloc; "a{v}-{parent}")?;
     let steps = half(alloc, stage, v, parent)?;
@@ -274,80 +238,52 @@ fn arrow(alloc: Global, stage: &Stage, v: u16, parent: u16) -> Result<Group, All
 }
 
 /// The lines of each edge that some still has.
-fn put_edges(
-    alloc: Global,
-    groups: &mut Vec<Group>,
-    net: &Net,
-    stage: &Stage,
-    shown: Shown<'_>,
-) -> Result<(), AllocError>
-    ensures edges { OnOk result (HasEdges (map grouped_of groups.new.items)
-        (film_of shown.entry) net.now) }
-    ensures keeps { OnOk result (Keeps (map grouped_of groups.old.items) (map grouped_of groups.new.items)) }
+fn put_edges(plan: Plan<'_>, groups: &mut Vec<Group>) -> Result<(), AllocError>
+    ensures edges { OnOk result (HasEdges (drawn groups.new.items) (film_of plan.entry.shown) plan.entry.net.now) }
+    ensures keeps { OnOk result (Keeps (drawn groups.old.items) (drawn groups.new.items)) }
 {
-    for w in 0..net.nodes() {
-        put_edges_of(alloc, groups, stage, shown, w)?;
+    for w in 0..plan.net.nodes() {
+        put_edges_of(plan, groups, w)?;
     }
     Ok(())
 }
 
 /// Those between a node and one of a smaller id.
-fn put_edges_of(
-    alloc: Global,
-    groups: &mut Vec<Group>,
-    stage: &Stage,
-    shown: Shown<'_>,
-    w: u16,
-) -> Result<(), AllocError>
-    ensures edges { OnOk result ((v : ℕ) → v < w → IsTrue (joins_in (film_of shown.entry) v w)
-        → HasEdge (map grouped_of groups.new.items) v w) }
-    ensures keeps { OnOk result (Keeps (map grouped_of groups.old.items) (map grouped_of groups.new.items)) }
+fn put_edges_of(plan: Plan<'_>, groups: &mut Vec<Group>, w: u16) -> Result<(), AllocError>
+    ensures edges { OnOk result ((v : ℕ) → v < w → IsTrue (joins_in (film_of plan.entry.shown) v w)
+        → HasEdge (drawn groups.new.items) v w) }
+    ensures keeps { OnOk result (Keeps (drawn groups.old.items) (drawn groups.new.items)) }
 {
     for v in 0..w {
-        put_edge(alloc, groups, stage, shown, v, w)?;
+        put_edge(plan, groups, v, w)?;
     }
     Ok(())
 }
 
 /// The lines of the edge between two nodes, if some still has it: a thin one, and a strong one for the
 /// time in which it is one of the true tree.
-fn put_edge(
-    alloc: Global,
-    groups: &mut Vec<Group>,
-    stage: &Stage,
-    shown: Shown<'_>,
-    v: u16,
-    w: u16,
-) -> Result<(), AllocError>
-    ensures edge { OnOk result (IsTrue (joins_in (film_of shown.entry) v w)
-        → HasEdge (map grouped_of groups.new.items) v w) }
-    ensures keeps { OnOk result (Keeps (map grouped_of groups.old.items) (map grouped_of groups.new.items)) }
+fn put_edge(plan: Plan<'_>, groups: &mut Vec<Group>, v: u16, w: u16) -> Result<(), AllocError>
+    ensures edge { OnOk result (IsTrue (joins_in (film_of plan.entry.shown) v w)
+        → HasEdge (drawn groups.new.items) v w) }
+    ensures keeps { OnOk result (Keeps (drawn groups.old.items) (drawn groups.new.items)) }
 {
-    if shown.joins(v, w) {
-        put_symbol(groups, edge(alloc, stage, "e", 2, v, w)?)?;
-        put_symbol(groups, edge(alloc, stage, "b", 5, v, w)?)?;
+    if plan.shown.joins(v, w) {
+        put_symbol(groups, edge(plan, "e", 2, v, w)?)?;
+        put_symbol(groups, edge(plan, "b", 5, v, w)?)?;
     }
     Ok(())
 }
 
 /// The line of an edge, under a name that begins so.
-fn edge(
-    alloc: Global,
-    stage: &Stage,
-    start: &str,
-    width: u32,
-    v: u16,
-    w: u16,
-) -> Result<Group, AllocError>
-    ensures { IfOk result (λ group. (grouped_of group).element
-        ≡ symbol_shown (pair_code start.now v w)) }
+fn edge(plan: Plan<'_>, start: &str, width: u32, v: u16, w: u16) -> Result<Group, AllocError>
+    ensures { IfOk result (λ group. (grouped_of group).element ≡ symbol_shown (pair_code start.now v w)) }
 {
-    let name = format!(in alloc; "{start}{v}-{w}")?;
-    let steps = whole(alloc, stage, v, w)?;
+    let name = format!(in plan.alloc; "{start}{v}-{w}")?;
+    let steps = whole(plan.alloc, plan.stage, v, w)?;
     symbol_of(
-        alloc,
+        plan.alloc,
         name.as_str(),
-        outline(alloc, steps.as_str(), "edge", "#b4bac0", width)?,
+        outline(plan.alloc, steps.as_str(), "edge", "#b4bac0", width)?,
     )
 }
 
@@ -369,21 +305,16 @@ fn line_end(alloc: Global, name: &str, drawn: Element) -> Result<Group, AllocErr
 }
 
 /// The words of each ticket that a node lends to in some still, of the first so many.
-fn put_tickets(
-    alloc: Global,
-    groups: &mut Vec<Group>,
-    net: &Net,
-    stage: &Stage,
-    shown: Shown<'_>,
-) -> Result<(), AllocError> {
-    let mut tickets: Vec<u16> = Vec::new(alloc);
-    note_tickets(&mut tickets, net, shown.opening())?;
-    for still in shown.later() {
-        note_tickets(&mut tickets, net, still)?;
+fn put_tickets(plan: Plan<'_>, groups: &mut Vec<Group>) -> Result<(), AllocError> {
+    let mut tickets: Vec<u16> = Vec::new(plan.alloc);
+    note_tickets(&mut tickets, plan.net, plan.shown.opening())?;
+    for still in plan.shown.later() {
+        note_tickets(&mut tickets, plan.net, still)?;
     }
     for ticket in tickets.as_slice() {
-        let name = format!(in alloc; "t{ticket}")?;
-        groups.push(symbol_of(alloc, name.as_str(), ticket_text(alloc, stage, *ticket)?)?)?;
+        let name = format!(in plan.alloc; "t{ticket}")?;
+        let text = ticket_text(plan.alloc, plan.stage, *ticket)?;
+        groups.push(symbol_of(plan.alloc, name.as_str(), text)?)?;
     }
     Ok(())
 }
@@ -421,21 +352,16 @@ fn ticket_text(alloc: Global, stage: &Stage, ticket: u16) -> Result<Element, All
 }
 
 /// The text of each number of sweeps that some still has.
-fn put_sweeps(
-    alloc: Global,
-    groups: &mut Vec<Group>,
-    net: &Net,
-    shown: Shown<'_>,
-) -> Result<(), AllocError> {
-    let mut counts: Vec<u64> = Vec::new(alloc);
-    counts.push(shown.opening().sweeps)?;
-    for still in shown.later() {
+fn put_sweeps(plan: Plan<'_>, groups: &mut Vec<Group>) -> Result<(), AllocError> {
+    let mut counts: Vec<u64> = Vec::new(plan.alloc);
+    counts.push(plan.shown.opening().sweeps)?;
+    for still in plan.shown.later() {
         if counts.iter().all(|other| *other != still.sweeps) {
             counts.push(still.sweeps)?;
         }
     }
     for sweeps in counts.as_slice() {
-        groups.push(sweeps_text(alloc, net, *sweeps)?)?;
+        groups.push(sweeps_text(plan.alloc, plan.net, *sweeps)?)?;
     }
     Ok(())
 }

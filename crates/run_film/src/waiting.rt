@@ -1,10 +1,10 @@
 //! Frames that wait: they are under way, and the last event did not just send them.
-ghost use Rattle.std.specs.Prelude.{◌≡◌, ◌<◌, ℕ, IfOk, OnOk, IsTrue, codes, map};
+ghost use Rattle.std.specs.Prelude.{◌≡◌, ◌<◌, ℕ, IfOk, OnOk, IsTrue, codes};
 ghost use Rattle.std.specs.List.{list_any};
 ghost use Rattle.svg_drawing.specs.Grouped.{grouped_of};
 ghost use Rattle.run_film.specs.declared.track.Track.TheVariants.{Waiting};
 ghost use Rattle.run_film.specs.Beats.{film_of};
-ghost use Rattle.run_film.specs.Films.{IsPlayed, Keeps};
+ghost use Rattle.run_film.specs.Films.{drawn, IsPlayed, Keeps};
 ghost use Rattle.run_film.specs.Shapes.{symbol_shown};
 ghost use Rattle.run_film.specs.Symbols.{IsDefined};
 ghost use Rattle.run_film.specs.Tracks.{frames_between, is_waiting, pair_code, sends, track_shown};
@@ -13,6 +13,7 @@ ghost use Rattle.run_film.specs.Tracks.{waits_in};
 use crate::curve::waiting_place;
 use crate::nodes::{ORIGIN, put_track};
 use crate::pace::Shown;
+use crate::plan::Plan;
 use crate::shapes::{circle, symbol};
 use crate::stage::Stage;
 use crate::symbols::put_symbol;
@@ -21,7 +22,6 @@ use run_recording::Still;
 use run_recording::run_model::Event;
 use std::alloc::{AllocError, Global};
 use svg_drawing::Group;
-use topology::Net;
 
 /// Whether a frame waits on its way from a node to another: one is under way besides the one that the last event
 /// of the still sends.
@@ -65,27 +65,24 @@ fn any_waits(stills: &[Still], u: u16, v: u16) -> bool
 
 /// The symbol of a frame that waits between two nodes, if one does in some still.
 pub fn put_waiting_symbol(
-    alloc: Global,
+    plan: Plan<'_>,
     groups: &mut Vec<Group>,
-    stage: &Stage,
-    shown: Shown<'_>,
     u: u16,
     v: u16,
 ) -> Result<(), AllocError>
-    ensures waiting { OnOk result (IsTrue (waits_in (film_of shown.entry) u v)
-        → IsDefined (map grouped_of groups.new.items) (pair_code (codes "m") u v)) }
-    ensures keeps { OnOk result (Keeps (map grouped_of groups.old.items) (map grouped_of groups.new.items)) }
+    ensures waiting { OnOk result (IsTrue (waits_in (film_of plan.entry.shown) u v)
+        → IsDefined (drawn groups.new.items) (pair_code (codes "m") u v)) }
+    ensures keeps { OnOk result (Keeps (drawn groups.old.items) (drawn groups.new.items)) }
 {
-    if waits_in(shown, u, v) {
-        put_symbol(groups, waiting_symbol(alloc, stage, u, v)?)?;
+    if waits_in(plan.shown, u, v) {
+        put_symbol(groups, waiting_symbol(plan.alloc, plan.stage, u, v)?)?;
     }
     Ok(())
 }
 
 /// A dot that rests, however many frames wait.
 fn waiting_symbol(alloc: Global, stage: &Stage, u: u16, v: u16) -> Result<Group, AllocError>
-    ensures { IfOk result (λ group. (grouped_of group).element
-        ≡ symbol_shown (pair_code (codes "m") u v)) }
+    ensures { IfOk result (λ group. (grouped_of group).element ≡ symbol_shown (pair_code (codes "m") u v)) }
 {
     let name = format!(in alloc; "m{u}-{v}")?;
     let dot = circle(alloc, waiting_place(stage, u, v), 4, "dot", "#22262a")?;
@@ -93,55 +90,38 @@ fn waiting_symbol(alloc: Global, stage: &Stage, u: u16, v: u16) -> Result<Group,
 }
 
 /// Draws the frames that wait between any two nodes in some still.
-pub fn put_all_waiting(
-    alloc: Global,
-    groups: &mut Vec<Group>,
-    net: &Net,
-    shown: Shown<'_>,
-) -> Result<(), AllocError>
-    ensures waiting { OnOk result ((u : ℕ) → u < net.now.nodes → (v : ℕ) → v < net.now.nodes
-        → IsTrue (waits_in (film_of shown.entry) u v)
-        → IsPlayed (map grouped_of groups.new.items) (track_shown (Waiting u v) (film_of shown.entry))) }
-    ensures keeps { OnOk result (Keeps (map grouped_of groups.old.items) (map grouped_of groups.new.items)) }
+pub fn put_all_waiting(plan: Plan<'_>, groups: &mut Vec<Group>) -> Result<(), AllocError>
+    ensures waiting { OnOk result ((u : ℕ) → u < plan.entry.net.now.nodes → (v : ℕ) → v < plan.entry.net.now.nodes
+        → IsTrue (waits_in (film_of plan.entry.shown) u v)
+        → IsPlayed (drawn groups.new.items) (track_shown (Waiting u v) (film_of plan.entry.shown))) }
+    ensures keeps { OnOk result (Keeps (drawn groups.old.items) (drawn groups.new.items)) }
 {
-    for u in 0..net.nodes() {
-        put_waiting_from(alloc, groups, net, shown, u)?;
+    for u in 0..plan.net.nodes() {
+        put_waiting_from(plan, groups, u)?;
     }
     Ok(())
 }
 
 /// Those that wait on their way from a node.
-fn put_waiting_from(
-    alloc: Global,
-    groups: &mut Vec<Group>,
-    net: &Net,
-    shown: Shown<'_>,
-    u: u16,
-) -> Result<(), AllocError>
-    ensures waiting { OnOk result ((v : ℕ) → v < net.now.nodes → IsTrue (waits_in (film_of shown.entry) u v)
-        → IsPlayed (map grouped_of groups.new.items) (track_shown (Waiting u v) (film_of shown.entry))) }
-    ensures keeps { OnOk result (Keeps (map grouped_of groups.old.items) (map grouped_of groups.new.items)) }
+fn put_waiting_from(plan: Plan<'_>, groups: &mut Vec<Group>, u: u16) -> Result<(), AllocError>
+    ensures waiting { OnOk result ((v : ℕ) → v < plan.entry.net.now.nodes → IsTrue (waits_in (film_of plan.entry.shown) u v)
+        → IsPlayed (drawn groups.new.items) (track_shown (Waiting u v) (film_of plan.entry.shown))) }
+    ensures keeps { OnOk result (Keeps (drawn groups.old.items) (drawn groups.new.items)) }
 {
-    for v in 0..net.nodes() {
-        put_waiting(alloc, groups, shown, u, v)?;
+    for v in 0..plan.net.nodes() {
+        put_waiting(plan, groups, u, v)?;
     }
     Ok(())
 }
 
 /// Those that wait on their way from a node to another.
-fn put_waiting(
-    alloc: Global,
-    groups: &mut Vec<Group>,
-    shown: Shown<'_>,
-    u: u16,
-    v: u16,
-) -> Result<(), AllocError>
-    ensures waiting { OnOk result (IsTrue (waits_in (film_of shown.entry) u v)
-        → IsPlayed (map grouped_of groups.new.items) (track_shown (Waiting u v) (film_of shown.entry))) }
-    ensures keeps { OnOk result (Keeps (map grouped_of groups.old.items) (map grouped_of groups.new.items)) }
+fn put_waiting(plan: Plan<'_>, groups: &mut Vec<Group>, u: u16, v: u16) -> Result<(), AllocError>
+    ensures waiting { OnOk result (IsTrue (waits_in (film_of plan.entry.shown) u v)
+        → IsPlayed (drawn groups.new.items) (track_shown (Waiting u v) (film_of plan.entry.shown))) }
+    ensures keeps { OnOk result (Keeps (drawn groups.old.items) (drawn groups.new.items)) }
 {
-    if waits_in(shown, u, v) {
-        put_track(alloc, groups, shown, Track::Waiting(u, v), ORIGIN)?;
+    if waits_in(plan.shown, u, v) {
+        put_track(plan, groups, Track::Waiting(u, v), ORIGIN)?;
     }
     Ok(())
 }

@@ -1,8 +1,3 @@
-use Rattle.std.proofs.Common.{IsTrue, map}
-use Rattle.svg_drawing.specs.Grouped.{grouped_of}
-use Rattle.run_film.specs.Beats.{film_of}
-use Rattle.run_film.specs.Symbols.{deed_code, done_in, IsDefined}
-use Rattle.run_film.specs.Tracks.{pair_code}
 use Rattle.run_film.proofs.Films.{defined_kept, each_deed, keeps_on}
 use Rattle.run_film.proofs.frames.put_frames_between.Goals as goal
 

@@ -1,26 +1,14 @@
-use Rattle.std.proofs.Common.{◌≡◌, ℕ, ◌<◌, IsTrue, List, map, arith}
-use Rattle.svg_drawing.specs.Grouped.{Grouped, grouped_of}
-use Rattle.run_film.specs.declared.track.Track.TheVariants.{Edge, Parent}
-use Rattle.run_film.specs.Beats.{film_of, joins_in}
-use Rattle.run_film.specs.Films.{IsPlayed, Keeps, ShowsNode}
-use Rattle.run_film.specs.Tracks.{track_shown}
-use Rattle.run_film.proofs.Films.{keeps_itself, keeps_on, keeps_pushed, next_below, node_added, node_kept, played_here, played_kept}
+use Rattle.std.proofs.Common.{arith}
+use Rattle.run_film.proofs.Films.{played_kept, grows_more, grows_none}
 use Rattle.run_film.proofs.nodes.put_edges_of.Goals as goal
 
 pub loop-v-init : goal.loop-v-init
-loop-v-init c = (λ u below. absurd (omega (arith, below)), keeps_itself _)
+loop-v-init c = grows_none _ _
 
 pub loop-v-preserved : goal.loop-v-preserved
 loop-v-preserved c =
-    let film = film_of c.args.shown in (
-      next_below (λ gs u. IsTrue (joins_in film u c.args.w) → IsPlayed gs (track_shown (Edge u c.args.w) film))
-          (λ old new u keeps was there. played_kept old new _ keeps (was there))
-          _ _ c.loop-v.v c.in_ok-put_edge.ensures.keeps c.loop-v.invariant.0 c.in_ok-put_edge.ensures.edge,
-      keeps_on _ _ _ c.loop-v.invariant.1 c.in_ok-put_edge.ensures.keeps,
-    )
+    grows_more _ (λ old new u keeps was there. played_kept old new _ keeps (was there)) _ _ _ _ c.loop-v.invariant
+    c.in_ok-put_edge.ensures.keeps c.in_ok-put_edge.ensures.edge
 
 pub returns-clause-edges : goal.returns-clause-edges
-returns-clause-edges c = λ v below. c.loop-v.invariant.0 v (omega (arith, below, c.loop-v-test.false, c.loop-v.auto.v-end))
-
-pub returns-clause-keeps : goal.returns-clause-keeps
-returns-clause-keeps c = c.loop-v.invariant.1
+returns-clause-edges c = λ u below. c.loop-v.invariant.each u (omega (arith, below, c.loop-v-test.false, c.loop-v.auto.v-end))

@@ -1,13 +1,13 @@
-use Rattle.std.proofs.Common.{ℕ, ◌<◌, IsTrue, map}
-use Rattle.svg_drawing.specs.Grouped.{grouped_of}
+use Rattle.std.proofs.Common.{IsTrue}
 use Rattle.run_film.specs.declared.track.Track.TheVariants.{Edge}
 use Rattle.run_film.specs.Beats.{film_of, joins_in}
-use Rattle.run_film.specs.Films.{IsPlayed, Keeps}
+use Rattle.run_film.specs.Films.{drawn, IsPlayed}
 use Rattle.run_film.specs.Tracks.{track_shown}
+use Rattle.run_film.proofs.Films.{Grows}
 use Rattle.run_film.proofs.nodes.put_edges_of.Given as goal
 
 -- those to the first nodes are drawn
 abbrev pub invariant-loop-v : goal.invariant-loop-v
 invariant-loop-v l =
-    ((u : ℕ) → u < l.v → IsTrue (joins_in (film_of l.shown) u l.w) → IsPlayed (map grouped_of l.groups.items) (track_shown (Edge u l.w) (film_of l.shown)))
-    × Keeps (map grouped_of l.fn.groups.items) (map grouped_of l.groups.items)
+    Grows (λ gs u. IsTrue (joins_in (film_of l.plan.shown) u l.w) → IsPlayed gs (track_shown (Edge u l.w) (film_of l.plan.shown)))
+    (drawn l.fn.groups.items) (drawn l.groups.items) l.v

@@ -1,26 +1,14 @@
-use Rattle.std.proofs.Common.{◌≡◌, ℕ, ◌<◌, ◌++◌, IsTrue, List, map, codes, decimal, arith}
-use Rattle.svg_drawing.specs.Grouped.{Grouped, grouped_of}
-use Rattle.run_film.specs.Beats.{film_of, joins_in}
-use Rattle.run_film.specs.Films.{Keeps}
-use Rattle.run_film.specs.Symbols.{parents_in, IsDefined}
-use Rattle.run_film.specs.Tracks.{pair_code}
-use Rattle.run_film.proofs.Films.{defined_here, defined_kept, keeps_itself, keeps_on, keeps_pushed, next_below}
+use Rattle.std.proofs.Common.{arith}
+use Rattle.run_film.proofs.Films.{defined_kept, grows_more, grows_none}
 use Rattle.run_film.proofs.symbols.put_arrows.Goals as goal
 
 pub loop-v-init : goal.loop-v-init
-loop-v-init c = (λ u below. absurd (omega (arith, below)), keeps_itself _)
+loop-v-init c = grows_none _ _
 
 pub loop-v-preserved : goal.loop-v-preserved
 loop-v-preserved c =
-    let film = film_of c.args.shown in (
-      next_below (λ gs u. (w : ℕ) → w < c.args.net.now.nodes → IsTrue (parents_in film u w) → IsDefined gs (pair_code (codes "a") u w))
-          (λ old new u keeps was w below there. defined_kept old new _ keeps (was w below there))
-          _ _ c.loop-v.v c.in_ok-put_arrows_of.ensures.keeps c.loop-v.invariant.0 c.in_ok-put_arrows_of.ensures.arrows,
-      keeps_on _ _ _ c.loop-v.invariant.1 c.in_ok-put_arrows_of.ensures.keeps,
-    )
+    grows_more _ (λ old new u keeps was w below there. defined_kept old new _ keeps (was w below there)) _ _ _ _ c.loop-v.invariant
+    c.in_ok-put_arrows_of.ensures.keeps c.in_ok-put_arrows_of.ensures.arrows
 
 pub returns-clause-arrows : goal.returns-clause-arrows
-returns-clause-arrows c = λ v below. c.loop-v.invariant.0 v (omega (arith, below, c.nodes-v-end.ensures.nodes, c.loop-v-test.false, c.loop-v.auto.v-end))
-
-pub returns-clause-keeps : goal.returns-clause-keeps
-returns-clause-keeps c = c.loop-v.invariant.1
+returns-clause-arrows c = λ u below. c.loop-v.invariant.each u (omega (arith, below, c.nodes-v-end.ensures.nodes, c.loop-v-test.false, c.loop-v.auto.v-end))
