@@ -37,17 +37,27 @@ fn holds(text: &[u8], part: &[u8]) -> bool {
     text.windows(part.len().max(1)).any(|window| window == part)
 }
 
+/// The text of the picture that shows a recording.
+fn picture(alloc: Global, recording: &Recording) -> Result<Vec<u8>, Fail> {
+    let net = two(alloc)?;
+    let scene = draw_layered(alloc, &net, recording)?;
+    Ok(spelled(alloc, &scene)?)
+}
+
 /// Three columns, each 24 wide, begin at 142. The lanes of two nodes and the curves end at 328, so that of the
 /// loans stands at 450, and that of the ring at 436. Every loan has the privilege at all three moments; from
 /// the second column on the ring has two tokens.
 #[test]
 fn lanes_are_as_high_as_what_stands(rt: HostRuntime) -> Result<(), Fail> {
-    let alloc = rt.alloc();
-    let recording = layered(alloc)?;
-    let net = two(alloc)?;
-    let picture = spelled(alloc, &draw_layered(alloc, &net, &recording)?)?;
+    let recording = layered(rt.alloc())?;
+    let picture = picture(rt.alloc(), &recording)?;
+    has_lanes(picture.as_slice())
+}
+
+/// The lanes of the loans and of the ring, and the height of the whole.
+fn has_lanes(picture: &[u8]) -> Result<(), Fail> {
     let loans = b"M142 450V442H166V442H190V442H214V450z";
-    is_expected(&holds(picture.as_slice(), loans), &true)?;
-    is_expected(&holds(picture.as_slice(), b"V436H190V436H214V436z"), &true)?;
-    is_expected(&holds(picture.as_slice(), b"height=\"464\""), &true)
+    is_expected(&holds(picture, loans), &true)?;
+    is_expected(&holds(picture, b"V436H190V436H214V436z"), &true)?;
+    is_expected(&holds(picture, b"height=\"464\""), &true)
 }
