@@ -192,6 +192,41 @@ fn make_turns(
     }
 }
 
+/// The doors of a network's nodes, with connections that make this mistake, if any.
+fn stage_of(
+    alloc: Global,
+    shape: Shape,
+    mistake: Option<Mistake>,
+    draws: &mut Draws,
+) -> Result<Stage, Fail> {
+    let (nodes, capacity, _, _) = shape;
+    // The sender may still hold one of the frames under way on a link, whole or in part.
+    let room = (capacity as usize).saturating_sub(1) * 22;
+    Ok(Stage::new(alloc, nodes, room, mistake, draws)?)
+}
+
+/// A world of the network whose parts are scrambled by a seed.
+fn scrambled(alloc: Global, net: &Net, seed: u64) -> Result<Replay, Fail> {
+    let mut replay = Replay::new(alloc, net)?;
+    match replay.scramble(alloc, seed) {
+        Ok(()) => Ok(replay),
+        Err(wrong) => Err(Fail::new(format_args!("{wrong:?}"))),
+    }
+}
+
+/// Runs a network with a seed over these doors.
+fn run_over(
+    alloc: Global,
+    net: &Net,
+    stage: &Stage,
+    draws: &mut Draws,
+    seed: u64,
+) -> Result<Ending, Fail> {
+    let mut replay = scrambled(alloc, net, seed)?;
+    let mut runs = runs_of(alloc, net, &replay, manner(seed), stage)?;
+    Ok(make_turns(runs.as_mut_slice(), stage, &mut replay, draws))
+}
+
 /// Runs a network with a seed, and connections that make this mistake, if any.
 pub fn run_seed(
     alloc: Global,
@@ -202,13 +237,6 @@ pub fn run_seed(
     let (nodes, capacity, lease, edges) = shape;
     let net = Net::make(alloc, nodes as i64, 0, capacity as i64, lease, edges)?;
     let mut draws = Draws::new(seed);
-    // The sender may still hold one of the frames under way on a link, whole or in part.
-    let room = (capacity as usize).saturating_sub(1) * 22;
-    let stage = Stage::new(alloc, nodes, room, mistake, &mut draws)?;
-    let mut replay = Replay::new(alloc, &net)?;
-    if let Err(wrong) = replay.scramble(alloc, seed) {
-        return Err(Fail::new(format_args!("{wrong:?}")));
-    }
-    let mut runs = runs_of(alloc, &net, &replay, manner(seed), &stage)?;
-    Ok(make_turns(runs.as_mut_slice(), &stage, &mut replay, &mut draws))
+    let stage = stage_of(alloc, shape, mistake, &mut draws)?;
+    run_over(alloc, &net, &stage, &mut draws, seed)
 }
