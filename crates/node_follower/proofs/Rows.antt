@@ -1,6 +1,7 @@
 -- Accounts and states that are small enough to see through.
 use Rattle.std.proofs.Common.{◌≡◌, ℕ, List, true, false, [], ◌∷◌, Some, None, refl, ap, sym, ◌∙◌}
 use Rattle.std.proofs.lemmas.List.Elements.{All-nil}
+use Rattle.topology.specs.Network.{Network}
 use Rattle.topology.specs.declared.frame.Frame.{Frame}
 use Rattle.flight_records.specs.declared.entry.Deed.TheVariants.{Ticks, Takes, Asks, Connects}
 use Rattle.flight_records.specs.declared.entry.StatePart.TheVariants.{Start, Own, Waits, Loan, Whole}
@@ -8,7 +9,7 @@ use Rattle.accounts.specs.Deeds as account
 use Rattle.node_core.specs.Site.{Site}
 use Rattle.node_core.specs.State.{LocalState, default_node}
 use Rattle.topology.specs.declared.frame.Ranges.{Ranges}
-use Rattle.node_follower.specs.Following.{account_of, LeadElsewhere}
+use Rattle.node_follower.specs.Following.{account_of, FitsNetwork, LeadElsewhere}
 use Rattle.node_follower.specs.Parts.{state_parts}
 
 abbrev frame : Frame
@@ -45,3 +46,23 @@ asks-elsewhere own last leads same =
 -- no deeds lead a node to where it stands
 not-without_deeds : LeadElsewhere (record middle { neighbours = [] }) [] start start → ⊥
 not-without_deeds h = h (All-nil _) start refl ((refl, refl, refl), All-nil _)
+
+-- node 1 of a line of three that becomes a triangle: 5 is 2*1 + 3, and 13 is 6*(3-1) + 1
+abbrev triangle : Network
+triangle = record { nodes = 3; root = 0; capacity = 1; lease = 0; edges = (0, 1) ∷ (1, 2) ∷ (0, 2) ∷ [] }
+
+fits-triangle : FitsNetwork triangle middle
+fits-triangle = refl
+
+-- another root, if this node is it neither before nor after
+fits-root : FitsNetwork (record triangle { root = 2 }) middle
+fits-root = refl
+
+fits_not-own_root : FitsNetwork (record triangle { root = 1 }) middle → ⊥
+fits_not-own_root e = let same : true ≡ false = ap (λ s. s.is_root) e in absurd cc
+
+fits_not-lease : FitsNetwork (record triangle { lease = 4 }) middle → ⊥
+fits_not-lease e = let same : ◌≡◌ {A = ℕ} 4 0 = ap (λ s. s.lease) e in absurd cc
+
+fits_not-nodes : FitsNetwork (record triangle { nodes = 4 }) middle → ⊥
+fits_not-nodes e = let same : ◌≡◌ {A = ℕ} 4 3 = ap (λ s. s.ranges.nodes) e in absurd cc

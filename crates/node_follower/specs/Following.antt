@@ -54,7 +54,7 @@ LeadElsewhere site ds from to =
     All (λ d. IsTrue (is_own_account d)) ds → (last : LocalState)
     → account.Leads site (account_of ds) from last → ¬ AreSame site.neighbours last to
 
--- But for its neighbours, the site is that of this node in the network: that has as many nodes, and the
--- same root, capacity and lease.
+-- But for its neighbours, the site is that of this node in the network. So that has as many nodes, and the
+-- same capacity and lease. Of its root a node knows only whether it is the root itself.
 abbrev pub FitsNetwork : Network → Site → Type 0
 FitsNetwork net site = site_of net site.id ≡ record site { neighbours = neighbours_of net site.id }

@@ -173,8 +173,9 @@ impl<A: Allocator + Copy> Follower<A> {
             && desk_stands_as(&self.node, node)
     }
 
-    /// Has the neighbours that its node has in this network from now on, if it is of a network with the
-    /// same nodes, root, capacity and lease; else the answer is no, and nothing has changed.
+    /// Has the neighbours that its node has in this network from now on, if that has as many nodes, the
+    /// same capacity and lease, and this node for its root if it was the root before, and only then. Else
+    /// the answer is no, and nothing has changed.
     pub fn rewire(&mut self, net: &Net) -> bool
         ensures answer { IsTrue result ↔ FitsNetwork net.now (site_in self.old) }
         ensures site { IsTrue result
@@ -188,7 +189,8 @@ impl<A: Allocator + Copy> Follower<A> {
         true
     }
 
-    /// Whether it is of a network with the same nodes, root, capacity and lease.
+    /// Whether the network has as many nodes, the same capacity and lease, and this node for its root if it
+    /// is the root, and only then.
     fn is_of(&self, net: &Net) -> bool
         ensures { IsTrue result ↔ FitsNetwork net.now (site_in self.now) }
     {

@@ -154,8 +154,9 @@ impl<A: Allocator + Copy> NodeRecorder<A> {
     }
 
     /// The node has the neighbours that it has in this network from now on, and stands as it does: its
-    /// whole state is noted before its next deeds. If deeds still wait, or the network has other nodes,
-    /// another root, capacity or lease, nothing changes.
+    /// whole state is noted before its next deeds. If deeds still wait, nothing changes, and neither if the
+    /// network has more or fewer nodes, another capacity or lease, or if the node would become its root or
+    /// cease to be it.
     pub fn rewire<B: Allocator>(&mut self, net: &Net, node: &Node<B>)
         ensures pages { (self.new.pages ≡ self.old.pages) × (self.new.network ≡ self.old.network) }
         ensures backlog { self.new.backlog ≡ self.old.backlog }

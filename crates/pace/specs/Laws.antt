@@ -33,7 +33,7 @@ HoldsEnd =
 
 -- the frame with which a call is out is a call for a neighbour that heard it as often in a row, if it
 -- came there soon after the one before it
-abbrev pub CallsAreHeard : Type 0
-CallsAreHeard =
+abbrev pub EndsAgreeOnCalls : Type 0
+EndsAgreeOnCalls =
     (times : ℕ) (calls : Calling) → calls ≢ Done → calls_after times calls ≡ Done
     → hearing_of times true ≡ hearing.Call

@@ -1,5 +1,5 @@
 //! Laws of a node's pace, each the contract of a function that does nothing.
-ghost use Rattle.pace.specs.Laws.{CallsAreHeard, EachPortIsGiven, TicksGoOn, HoldsEnd};
+ghost use Rattle.pace.specs.Laws.{EachPortIsGiven, EndsAgreeOnCalls, TicksGoOn, HoldsEnd};
 
 /// Whatever the fields hold, as after damage to them: each port is given a frame once the
 /// repetition time is over, a tick is left out for a lease alone and for 2 milliseconds at most,
@@ -11,8 +11,10 @@ pub fn damage_costs_time_alone()
     ensures holds { HoldsEnd }
 {}
 
-/// A call for haste is not out before a neighbour has heard it: what counts the frames that are given
-/// and what counts those that come agree on which frame is the call.
-pub fn a_call_that_is_out_was_heard()
-    ensures { CallsAreHeard }
+/// Who gives frames and who hears them agree on which frame is the call. The frame with which a call is
+/// out is a call for a neighbour that has counted as many equal frames in a row, if it came there soon
+/// after the one before it. A neighbour that missed one of them, or that it reached late, may not hear
+/// the call; the node that waits calls again.
+pub fn both_ends_agree_on_the_call()
+    ensures { EndsAgreeOnCalls }
 {}

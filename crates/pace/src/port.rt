@@ -15,7 +15,8 @@ const QUESTION: u32 = 2;
 const CALL: u32 = 4;
 
 /// It is one if it came so soon after the frame before it, in microseconds, and within half of the
-/// repetition time. A frame that is given again because that time is over comes later.
+/// repetition time. From a neighbour with the same repetition time, a frame that is given again
+/// because that time is over comes later.
 const SOON: u64 = 4_000;
 
 /// What a node sees at one of its ports.

@@ -1,15 +1,19 @@
 -- Fields of two nodes, of which nothing has happened.
-use Rattle.std.proofs.Common.{◌≡◌, true, [], ◌∷◌, Some, None, refl}
+use Rattle.std.proofs.Common.{◌≡◌, ◌<◌, ℕ, true, [], ◌∷◌, Some, None, refl, arith}
 use Rattle.topology.specs.Network.{Network}
 use Rattle.topology.specs.Ranges.{ranges_of}
 use Rattle.topology.specs.declared.frame.Frame.{Frame}
 use Rattle.flight_records.specs.declared.entry.Noted.TheVariants as noted
+use Rattle.flight_records.specs.declared.entry.StatePart.{StatePart}
 use Rattle.flight_records.specs.declared.entry.StatePart.TheVariants as part
 use Rattle.flight_records.specs.declared.entry.Deed.TheVariants as deed
 use Rattle.configuration.specs.node_core.State.{default_node}
 use Rattle.configuration.specs.run_model.World.{World}
 use Rattle.record_gathering.specs.Fields.{fields_of, no_fields, Differs}
+use Rattle.record_gathering.specs.Parts.{part_noted, IsPortOfNode}
 use Rattle.record_gathering.specs.declared.fields.Field.TheVariants as field
+use Rattle.record_gathering.specs.declared.parts.PartNoted.{PartNoted}
+use Rattle.record_gathering.specs.declared.parts.PartNoted.TheVariants as said
 
 abbrev pair : Network
 pair = record { nodes = 2; root = 0; capacity = 2; lease = 0; edges = (0, 1) ∷ [] }
@@ -58,3 +62,33 @@ not-other d = d refl
 
 not-said : Differs fresh [] 1 (noted.State (part.Own 1 None)) field.Served → ⊥
 not-said d = d
+
+-- a part says where the node's port to a neighbour stands, and nothing of a port to a node that is none
+abbrev about : ℕ → StatePart
+about neighbour = part.Port neighbour 3 4 frame.payload frame.payload 5
+
+abbrev said-about : ℕ → PartNoted
+said-about neighbour = said.Port (record {
+  neighbour = neighbour;
+  seq = 3;
+  last = 4;
+  staged = frame.payload;
+  copy = frame.payload;
+  value = 5;
+})
+
+part-neighbour : part_noted fresh 1 (about 0) ≡ said-about 0
+part-neighbour = refl
+
+part_not-itself : part_noted fresh 1 (about 1) ≡ said-about 1 → ⊥
+part_not-itself e = absurd cc
+
+part-waits : part_noted fresh 1 (part.Waits 7) ≡ said.Nothing
+part-waits = refl
+
+-- of two nodes, 1 is one and 2 is none
+port-of_node : IsPortOfNode 2 (said-about 1)
+port-of_node = omega arith
+
+port_not-of_node : IsPortOfNode 2 (said-about 2) → ⊥
+port_not-of_node below = omega arith

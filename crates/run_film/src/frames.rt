@@ -11,8 +11,8 @@ ghost use Rattle.run_film.specs.Symbols.{HasFrame, HasFrames, IsDefined};
 ghost use Rattle.run_film.specs.Tracks.{pair_code};
 
 use crate::curve::{between_of, first_quarter, last_quarter, middle_of};
+use crate::material::Material;
 use crate::pace::Shown;
-use crate::plan::Plan;
 use crate::shapes::{outline, symbol};
 use crate::stage::Stage;
 use crate::symbols::put_symbol;
@@ -39,36 +39,40 @@ pub enum Deed {
 }
 
 /// What the last event of some still does with a frame, if the network is small enough to show it.
-pub fn put_frame_symbols(plan: Plan<'_>, groups: &mut Vec<Group>) -> Result<(), AllocError>
-    ensures frames { OnOk result (IsTrue (is_framed plan.entry.net.now)
-        → HasFrames (drawn groups.new.items) (film_of plan.entry.shown) plan.entry.net.now) }
+pub fn put_frame_symbols(material: Material<'_>, groups: &mut Vec<Group>) -> Result<(), AllocError>
+    ensures frames { OnOk result (IsTrue (is_framed material.entry.net.now)
+        → HasFrames (drawn groups.new.items) (film_of material.entry.shown) material.entry.net.now) }
     ensures keeps { OnOk result (Keeps (drawn groups.old.items) (drawn groups.new.items)) }
 {
-    if plan.net.nodes() <= MOST_FRAMED {
-        put_all_frames(plan, groups)?;
+    if material.net.nodes() <= MOST_FRAMED {
+        put_all_frames(material, groups)?;
     }
     Ok(())
 }
 
 /// What the last event of some still does with a frame.
-fn put_all_frames(plan: Plan<'_>, groups: &mut Vec<Group>) -> Result<(), AllocError>
-    ensures frames { OnOk result (HasFrames (drawn groups.new.items) (film_of plan.entry.shown) plan.entry.net.now) }
+fn put_all_frames(material: Material<'_>, groups: &mut Vec<Group>) -> Result<(), AllocError>
+    ensures frames { OnOk result (HasFrames (drawn groups.new.items) (film_of material.entry.shown) material.entry.net.now) }
     ensures keeps { OnOk result (Keeps (drawn groups.old.items) (drawn groups.new.items)) }
 {
-    for from in 0..plan.net.nodes() {
-        put_frames_from(plan, groups, from)?;
+    for from in 0..material.net.nodes() {
+        put_frames_from(material, groups, from)?;
     }
     Ok(())
 }
 
 /// The same for the frames from a node.
-fn put_frames_from(plan: Plan<'_>, groups: &mut Vec<Group>, from: u16) -> Result<(), AllocError>
-    ensures frames { OnOk result ((to : ℕ) → to < plan.entry.net.now.nodes
-        → HasFrame (drawn groups.new.items) (film_of plan.entry.shown) from to) }
+fn put_frames_from(
+    material: Material<'_>,
+    groups: &mut Vec<Group>,
+    from: u16,
+) -> Result<(), AllocError>
+    ensures frames { OnOk result ((to : ℕ) → to < material.entry.net.now.nodes
+        → HasFrame (drawn groups.new.items) (film_of material.entry.shown) from to) }
     ensures keeps { OnOk result (Keeps (drawn groups.old.items) (drawn groups.new.items)) }
 {
-    for to in 0..plan.net.nodes() {
-        put_frames_between(plan, groups, from, to)?;
+    for to in 0..material.net.nodes() {
+        put_frames_between(material, groups, from, to)?;
     }
     Ok(())
 }
@@ -76,35 +80,35 @@ fn put_frames_from(plan: Plan<'_>, groups: &mut Vec<Group>, from: u16) -> Result
 /// The same for the frames from a node to another: one that is sent goes to the middle of the edge, one
 /// that is taken comes from there, one that waits rests there, and a cross stands there if one is lost.
 fn put_frames_between(
-    plan: Plan<'_>,
+    material: Material<'_>,
     groups: &mut Vec<Group>,
     from: u16,
     to: u16,
 ) -> Result<(), AllocError>
-    ensures frames { OnOk result (HasFrame (drawn groups.new.items) (film_of plan.entry.shown) from to) }
+    ensures frames { OnOk result (HasFrame (drawn groups.new.items) (film_of material.entry.shown) from to) }
     ensures keeps { OnOk result (Keeps (drawn groups.old.items) (drawn groups.new.items)) }
 {
-    put_frame(plan, groups, Deed::Sent, from, to)?;
-    put_frame(plan, groups, Deed::Taken, from, to)?;
-    put_frame(plan, groups, Deed::Lost, from, to)?;
-    put_waiting_symbol(plan, groups, from, to)?;
+    put_frame(material, groups, Deed::Sent, from, to)?;
+    put_frame(material, groups, Deed::Taken, from, to)?;
+    put_frame(material, groups, Deed::Lost, from, to)?;
+    put_waiting_symbol(material, groups, from, to)?;
     Ok(())
 }
 
 /// What is done with a frame from a node to another, if the last event of some still does it.
 fn put_frame(
-    plan: Plan<'_>,
+    material: Material<'_>,
     groups: &mut Vec<Group>,
     deed: Deed,
     from: u16,
     to: u16,
 ) -> Result<(), AllocError>
-    ensures frame { OnOk result (IsTrue (done_in (film_of plan.entry.shown) deed from to)
+    ensures frame { OnOk result (IsTrue (done_in (film_of material.entry.shown) deed from to)
         → IsDefined (drawn groups.new.items) (pair_code (deed_code deed) from to)) }
     ensures keeps { OnOk result (Keeps (drawn groups.old.items) (drawn groups.new.items)) }
 {
-    if is_done_in(plan.shown, deed, from, to) {
-        put_symbol(groups, frame_symbol(plan, deed, from, to)?)?;
+    if is_done_in(material.shown, deed, from, to) {
+        put_symbol(groups, frame_symbol(material, deed, from, to)?)?;
     }
     Ok(())
 }
@@ -136,62 +140,69 @@ fn any_does(stills: &[Still], deed: Deed, u: u16, v: u16) -> bool
 }
 
 /// The symbol of what is done with a frame from a node to another.
-fn frame_symbol(plan: Plan<'_>, deed: Deed, from: u16, to: u16) -> Result<Group, AllocError>
+fn frame_symbol(material: Material<'_>, deed: Deed, from: u16, to: u16) -> Result<Group, AllocError>
     ensures { IfOk result (λ group. (grouped_of group).element ≡ symbol_shown (pair_code (deed_code deed) from to)) }
 {
     match deed {
-        Deed::Sent => sent_frame(plan, from, to),
-        Deed::Taken => taken_frame(plan, from, to),
-        Deed::Lost => loss(plan.alloc, plan.stage, from, to),
+        Deed::Sent => sent_frame(material, from, to),
+        Deed::Taken => taken_frame(material, from, to),
+        Deed::Lost => loss(material.alloc, material.stage, from, to),
     }
 }
 
 /// A frame that is sent: it goes from a node to the middle of the line to another.
-fn sent_frame(plan: Plan<'_>, from: u16, to: u16) -> Result<Group, AllocError>
+fn sent_frame(material: Material<'_>, from: u16, to: u16) -> Result<Group, AllocError>
     ensures { IfOk result (λ group. (grouped_of group).element ≡ symbol_shown (pair_code (codes "o") from to)) }
 {
     let travel = Travel {
         deed: Deed::Sent,
         from,
         to,
-        start: plan.stage.at(from),
-        between: between_of(plan.stage, from, to),
-        end: middle_of(plan.stage, from, to),
+        start: material.stage.at(from),
+        between: between_of(material.stage, from, to),
+        end: middle_of(material.stage, from, to),
     };
-    let name = format!(in plan.alloc; "o{from}-{to}")?;
-    let steps = first_quarter(plan.alloc, plan.stage, from, to)?;
-    frame(plan, travel, name.as_str(), steps.as_str())
+    let name = format!(in material.alloc; "o{from}-{to}")?;
+    let steps = first_quarter(material.alloc, material.stage, from, to)?;
+    frame(material, travel, name.as_str(), steps.as_str())
 }
 
 /// A frame that is taken: it goes from the middle of the line from a node to another to that one.
-fn taken_frame(plan: Plan<'_>, from: u16, to: u16) -> Result<Group, AllocError>
+fn taken_frame(material: Material<'_>, from: u16, to: u16) -> Result<Group, AllocError>
     ensures { IfOk result (λ group. (grouped_of group).element ≡ symbol_shown (pair_code (codes "i") from to)) }
 {
     let travel = Travel {
         deed: Deed::Taken,
         from,
         to,
-        start: middle_of(plan.stage, from, to),
-        between: between_of(plan.stage, to, from),
-        end: plan.stage.at(to),
+        start: middle_of(material.stage, from, to),
+        between: between_of(material.stage, to, from),
+        end: material.stage.at(to),
     };
-    let name = format!(in plan.alloc; "i{from}-{to}")?;
-    let steps = last_quarter(plan.alloc, plan.stage, from, to)?;
-    frame(plan, travel, name.as_str(), steps.as_str())
+    let name = format!(in material.alloc; "i{from}-{to}")?;
+    let steps = last_quarter(material.alloc, material.stage, from, to)?;
+    frame(material, travel, name.as_str(), steps.as_str())
 }
 
 /// A frame as a dot at the end of the way that it has come. It travels while the film plays, and stands
 /// between if nothing plays.
-fn frame(plan: Plan<'_>, travel: Travel, name: &str, steps: &str) -> Result<Group, AllocError>
+fn frame(
+    material: Material<'_>,
+    travel: Travel,
+    name: &str,
+    steps: &str,
+) -> Result<Group, AllocError>
     ensures { IfOk result (λ group. (grouped_of group).element ≡ symbol_shown name.now) }
 {
-    let id = format!(in plan.alloc; "{name}w")?;
-    let way = outline(plan.alloc, steps, "way", "#22262a", 2)?
-        .with(plan.alloc, "marker-end", "url(#f)")?
-        .with(plan.alloc, "id", id.as_str())?;
-    symbol(plan.alloc, name)?
-        .holding(way)?
-        .holding(travel.animation(plan.alloc, plan.shown, id.as_str())?)
+    let id = format!(in material.alloc; "{name}w")?;
+    let way = outline(material.alloc, steps, "way", "#22262a", 2)?
+        .with(material.alloc, "marker-end", "url(#f)")?
+        .with(material.alloc, "id", id.as_str())?;
+    symbol(material.alloc, name)?.holding(way)?.holding(travel.animation(
+        material.alloc,
+        material.shown,
+        id.as_str(),
+    )?)
 }
 
 /// How a dot travels in each still whose last event does this with a frame.

@@ -7,7 +7,7 @@ ghost use Rattle.run_film.specs.Films.{drawn, AddsNode, IsPlayed, Keeps, ShowsEd
 ghost use Rattle.run_film.specs.Symbols.{is_framed};
 ghost use Rattle.run_film.specs.Tracks.{track_shown};
 
-use crate::plan::Plan;
+use crate::material::Material;
 use crate::stage::Stage;
 use crate::tickets::ticket_place;
 use crate::track::Track;
@@ -21,105 +21,110 @@ use svg_drawing::{Group, Point, Px};
 pub const ORIGIN: Point = Point { x: Px(0), y: Px(0) };
 
 /// Draws the edges that some still has.
-pub fn put_edges(plan: Plan<'_>, groups: &mut Vec<Group>) -> Result<(), AllocError>
-    ensures edges { OnOk result (ShowsEdges (drawn groups.new.items) (film_of plan.entry.shown) plan.entry.net.now) }
+pub fn put_edges(material: Material<'_>, groups: &mut Vec<Group>) -> Result<(), AllocError>
+    ensures edges { OnOk result (ShowsEdges (drawn groups.new.items) (film_of material.entry.shown) material.entry.net.now) }
     ensures keeps { OnOk result (Keeps (drawn groups.old.items) (drawn groups.new.items)) }
 {
-    for w in 0..plan.net.nodes() {
-        put_edges_of(plan, groups, w)?;
+    for w in 0..material.net.nodes() {
+        put_edges_of(material, groups, w)?;
     }
     Ok(())
 }
 
 /// Draws those between a node and one of a smaller id.
-fn put_edges_of(plan: Plan<'_>, groups: &mut Vec<Group>, w: u16) -> Result<(), AllocError>
-    ensures edges { OnOk result ((v : ℕ) → v < w → IsTrue (joins_in (film_of plan.entry.shown) v w)
-        → IsPlayed (drawn groups.new.items) (track_shown (Edge v w) (film_of plan.entry.shown))) }
+fn put_edges_of(material: Material<'_>, groups: &mut Vec<Group>, w: u16) -> Result<(), AllocError>
+    ensures edges { OnOk result ((v : ℕ) → v < w → IsTrue (joins_in (film_of material.entry.shown) v w)
+        → IsPlayed (drawn groups.new.items) (track_shown (Edge v w) (film_of material.entry.shown))) }
     ensures keeps { OnOk result (Keeps (drawn groups.old.items) (drawn groups.new.items)) }
 {
     for v in 0..w {
-        put_edge(plan, groups, v, w)?;
+        put_edge(material, groups, v, w)?;
     }
     Ok(())
 }
 
 /// Draws the edge between two nodes, if some still has it.
-fn put_edge(plan: Plan<'_>, groups: &mut Vec<Group>, v: u16, w: u16) -> Result<(), AllocError>
-    ensures edge { OnOk result (IsTrue (joins_in (film_of plan.entry.shown) v w)
-        → IsPlayed (drawn groups.new.items) (track_shown (Edge v w) (film_of plan.entry.shown))) }
+fn put_edge(
+    material: Material<'_>,
+    groups: &mut Vec<Group>,
+    v: u16,
+    w: u16,
+) -> Result<(), AllocError>
+    ensures edge { OnOk result (IsTrue (joins_in (film_of material.entry.shown) v w)
+        → IsPlayed (drawn groups.new.items) (track_shown (Edge v w) (film_of material.entry.shown))) }
     ensures keeps { OnOk result (Keeps (drawn groups.old.items) (drawn groups.new.items)) }
 {
-    if plan.shown.joins(v, w) {
-        put_track(plan, groups, Track::Edge(v, w), ORIGIN)?;
+    if material.shown.joins(v, w) {
+        put_track(material, groups, Track::Edge(v, w), ORIGIN)?;
     }
     Ok(())
 }
 
 /// Draws a part of the film at a place.
 pub fn put_track(
-    plan: Plan<'_>,
+    material: Material<'_>,
     groups: &mut Vec<Group>,
     track: Track,
     at: Point,
 ) -> Result<(), AllocError>
     ensures { OnOk result (drawn groups.new.items
-        ≡ drawn groups.old.items ++ track_shown track (film_of plan.entry.shown) at.x.0 at.y.0 ∷ []) }
+        ≡ drawn groups.old.items ++ track_shown track (film_of material.entry.shown) at.x.0 at.y.0 ∷ []) }
 {
-    groups.push(track.group(plan.alloc, plan.shown, at.x.0, at.y.0)?)?;
+    groups.push(track.group(material.alloc, material.shown, at.x.0, at.y.0)?)?;
     Ok(())
 }
 
 /// Draws the frames, if the network is small enough.
-pub fn put_frames(plan: Plan<'_>, groups: &mut Vec<Group>) -> Result<(), AllocError>
-    ensures frames { OnOk result (IsTrue (is_framed plan.entry.net.now)
-        → ShowsFrames (drawn groups.new.items) (film_of plan.entry.shown) plan.entry.net.now) }
+pub fn put_frames(material: Material<'_>, groups: &mut Vec<Group>) -> Result<(), AllocError>
+    ensures frames { OnOk result (IsTrue (is_framed material.entry.net.now)
+        → ShowsFrames (drawn groups.new.items) (film_of material.entry.shown) material.entry.net.now) }
     ensures keeps { OnOk result (Keeps (drawn groups.old.items) (drawn groups.new.items)) }
 {
-    if plan.net.nodes() <= MOST_FRAMED {
-        put_all_waiting(plan, groups)?;
-        put_track(plan, groups, Track::Frame, ORIGIN)?;
+    if material.net.nodes() <= MOST_FRAMED {
+        put_all_waiting(material, groups)?;
+        put_track(material, groups, Track::Frame, ORIGIN)?;
     }
     Ok(())
 }
 
 /// Says how many sweeps there were, and whether there was damage.
-pub fn put_said(plan: Plan<'_>, groups: &mut Vec<Group>) -> Result<(), AllocError>
-    ensures sweeps { OnOk result (IsPlayed (drawn groups.new.items) (track_shown Sweeps (film_of plan.entry.shown))) }
-    ensures damage { OnOk result (IsPlayed (drawn groups.new.items) (track_shown Damage (film_of plan.entry.shown))) }
+pub fn put_said(material: Material<'_>, groups: &mut Vec<Group>) -> Result<(), AllocError>
+    ensures sweeps { OnOk result (IsPlayed (drawn groups.new.items) (track_shown Sweeps (film_of material.entry.shown))) }
+    ensures damage { OnOk result (IsPlayed (drawn groups.new.items) (track_shown Damage (film_of material.entry.shown))) }
     ensures keeps { OnOk result (Keeps (drawn groups.old.items) (drawn groups.new.items)) }
 {
-    let y = plan.stage.floor + Px(20);
-    put_track(plan, groups, Track::Sweeps, Point { x: Px(40), y })?;
-    let x = plan.stage.width - Px(110);
-    put_track(plan, groups, Track::Damage, Point { x, y })?;
+    let y = material.stage.floor + Px(20);
+    put_track(material, groups, Track::Sweeps, Point { x: Px(40), y })?;
+    let x = material.stage.width - Px(110);
+    put_track(material, groups, Track::Damage, Point { x, y })?;
     Ok(())
 }
 
 /// Draws the nodes, and below them the arrow of each towards its parent.
-pub fn put_nodes(plan: Plan<'_>, groups: &mut Vec<Group>) -> Result<(), AllocError>
-    ensures nodes { OnOk result (ShowsNodes (drawn groups.new.items) (film_of plan.entry.shown) plan.entry.net.now) }
+pub fn put_nodes(material: Material<'_>, groups: &mut Vec<Group>) -> Result<(), AllocError>
+    ensures nodes { OnOk result (ShowsNodes (drawn groups.new.items) (film_of material.entry.shown) material.entry.net.now) }
     ensures keeps { OnOk result (Keeps (drawn groups.old.items) (drawn groups.new.items)) }
 {
-    for v in 0..plan.net.nodes() {
-        put_track(plan, groups, Track::Parent(v), ORIGIN)?;
+    for v in 0..material.net.nodes() {
+        put_track(material, groups, Track::Parent(v), ORIGIN)?;
     }
-    for v in 0..plan.net.nodes() {
-        put_node(plan, groups, v)?;
+    for v in 0..material.net.nodes() {
+        put_node(material, groups, v)?;
     }
     Ok(())
 }
 
 /// Draws a node: how it stands, its distance, the ticket that it lends to, and what strikes it.
-fn put_node(plan: Plan<'_>, groups: &mut Vec<Group>, v: u16) -> Result<(), AllocError>
-    ensures { OnOk result (AddsNode (drawn groups.old.items) (drawn groups.new.items) (film_of plan.entry.shown) v) }
+fn put_node(material: Material<'_>, groups: &mut Vec<Group>, v: u16) -> Result<(), AllocError>
+    ensures { OnOk result (AddsNode (drawn groups.old.items) (drawn groups.new.items) (film_of material.entry.shown) v) }
 {
-    let at = plan.stage.at(v);
-    let beside = ticket_place(plan.net, plan.stage, v);
-    put_track(plan, groups, Track::Mark(v), at)?;
-    put_track(plan, groups, Track::Distance(v), at)?;
-    put_track(plan, groups, Track::Ticket(v), beside)?;
-    put_track(plan, groups, Track::Strike(v), at)?;
-    groups.push(node_name(plan.alloc, plan.stage, v)?)?;
+    let at = material.stage.at(v);
+    let beside = ticket_place(material.net, material.stage, v);
+    put_track(material, groups, Track::Mark(v), at)?;
+    put_track(material, groups, Track::Distance(v), at)?;
+    put_track(material, groups, Track::Ticket(v), beside)?;
+    put_track(material, groups, Track::Strike(v), at)?;
+    groups.push(node_name(material.alloc, material.stage, v)?)?;
     Ok(())
 }
 

@@ -9,10 +9,10 @@ ghost use Rattle.run_film.specs.Pages.{ShowsPage};
 
 use crate::counts::counts;
 use crate::head::{Said, attributes, head};
+use crate::material::Material;
 use crate::nodes::{put_edges, put_frames, put_nodes, put_said};
 use crate::pace::{EMPTY, Pace, Shown};
 use crate::page::{controls, page_head};
-use crate::plan::Plan;
 use crate::stage::Stage;
 use crate::symbols::put_symbols;
 use run_recording::{Recording, Reel, Still, first_visits};
@@ -101,7 +101,7 @@ fn scene(
         stills: shown.later().len().saturating_add(1),
         crowded: recording.reel().is_some_and(|reel| reel.is_crowded()),
     };
-    let plan = Plan {
+    let material = Material {
         alloc,
         net,
         stage: &stage,
@@ -109,8 +109,8 @@ fn scene(
     };
     let mut groups = head(alloc, &stage, said)?;
     groups.extend(counts(alloc, &stage, shown)?)?;
-    put_symbols(plan, &mut groups)?;
-    put_parts(plan, &mut groups)?;
+    put_symbols(material, &mut groups)?;
+    put_parts(material, &mut groups)?;
     Ok(Scene {
         attributes: attributes(alloc, &stage)?,
         groups,
@@ -118,13 +118,13 @@ fn scene(
 }
 
 /// Draws what changes from still to still.
-fn put_parts(plan: Plan<'_>, groups: &mut Vec<Group>) -> Result<(), AllocError>
-    ensures plays { OnOk result (ShowsParts (drawn groups.new.items) (film_of plan.entry.shown) plan.entry.net.now) }
+fn put_parts(material: Material<'_>, groups: &mut Vec<Group>) -> Result<(), AllocError>
+    ensures plays { OnOk result (ShowsParts (drawn groups.new.items) (film_of material.entry.shown) material.entry.net.now) }
     ensures keeps { OnOk result (Keeps (drawn groups.old.items) (drawn groups.new.items)) }
 {
-    put_said(plan, groups)?;
-    put_edges(plan, groups)?;
-    put_frames(plan, groups)?;
-    put_nodes(plan, groups)?;
+    put_said(material, groups)?;
+    put_edges(material, groups)?;
+    put_frames(material, groups)?;
+    put_nodes(material, groups)?;
     Ok(())
 }

@@ -12,8 +12,8 @@ ghost use Rattle.run_film.specs.Tracks.{pair_code};
 
 use crate::curve::{half, whole};
 use crate::frames::put_frame_symbols;
+use crate::material::Material;
 use crate::pace::Shown;
-use crate::plan::Plan;
 use crate::shapes::{circle, form, outline, symbol};
 use crate::stage::Stage;
 use crate::track::{is_named, look_of};
@@ -39,26 +39,26 @@ const RING: &str = "M-20 0a20 20 0 1 0 40 0a20 20 0 1 0 -40 0";
 const BOLT: &str = "M-18 -42l14 0l-6 12l9 0l-19 24l5 -18l-9 0z";
 
 /// Adds the symbols of a film.
-pub fn put_symbols(plan: Plan<'_>, groups: &mut Vec<Group>) -> Result<(), AllocError>
-    ensures { OnOk result (HasSymbols (drawn groups.new.items) (film_of plan.entry.shown) plan.entry.net.now) }
+pub fn put_symbols(material: Material<'_>, groups: &mut Vec<Group>) -> Result<(), AllocError>
+    ensures { OnOk result (HasSymbols (drawn groups.new.items) (film_of material.entry.shown) material.entry.net.now) }
 {
-    put_others(plan, groups)?;
-    put_marks(plan.alloc, groups)?;
-    put_distances(plan.alloc, groups, plan.net)?;
-    put_arrows(plan, groups)?;
-    put_edges(plan, groups)?;
-    put_frame_symbols(plan, groups)?;
+    put_others(material, groups)?;
+    put_marks(material.alloc, groups)?;
+    put_distances(material.alloc, groups, material.net)?;
+    put_arrows(material, groups)?;
+    put_edges(material, groups)?;
+    put_frame_symbols(material, groups)?;
     Ok(())
 }
 
 /// Those of tickets and of sweeps, and what stands at the ends of lines.
-fn put_others(plan: Plan<'_>, groups: &mut Vec<Group>) -> Result<(), AllocError> {
-    let head = form(plan.alloc, "M-8 -6L4 0L-8 6z", "blue", "#0b5394")?;
-    groups.push(line_end(plan.alloc, "h", head)?)?;
-    let dot = circle(plan.alloc, MIDDLE, 6, "dot", "#22262a")?;
-    groups.push(line_end(plan.alloc, "f", dot)?)?;
-    put_tickets(plan, groups)?;
-    put_sweeps(plan, groups)
+fn put_others(material: Material<'_>, groups: &mut Vec<Group>) -> Result<(), AllocError> {
+    let head = form(material.alloc, "M-8 -6L4 0L-8 6z", "blue", "#0b5394")?;
+    groups.push(line_end(material.alloc, "h", head)?)?;
+    let dot = circle(material.alloc, MIDDLE, 6, "dot", "#22262a")?;
+    groups.push(line_end(material.alloc, "f", dot)?)?;
+    put_tickets(material, groups)?;
+    put_sweeps(material, groups)
 }
 
 /// A symbol that holds one element.
@@ -167,37 +167,42 @@ fn distance_text(alloc: Global, distance: u16) -> Result<Group, AllocError>
 }
 
 /// The arrow from each node to each parent that it has in some still.
-fn put_arrows(plan: Plan<'_>, groups: &mut Vec<Group>) -> Result<(), AllocError>
-    ensures arrows { OnOk result (HasArrows (drawn groups.new.items) (film_of plan.entry.shown) plan.entry.net.now) }
+fn put_arrows(material: Material<'_>, groups: &mut Vec<Group>) -> Result<(), AllocError>
+    ensures arrows { OnOk result (HasArrows (drawn groups.new.items) (film_of material.entry.shown) material.entry.net.now) }
     ensures keeps { OnOk result (Keeps (drawn groups.old.items) (drawn groups.new.items)) }
 {
-    for v in 0..plan.net.nodes() {
-        put_arrows_of(plan, groups, v)?;
+    for v in 0..material.net.nodes() {
+        put_arrows_of(material, groups, v)?;
     }
     Ok(())
 }
 
 /// Those of a node.
-fn put_arrows_of(plan: Plan<'_>, groups: &mut Vec<Group>, v: u16) -> Result<(), AllocError>
-    ensures arrows { OnOk result ((w : ℕ) → w < plan.entry.net.now.nodes
-        → IsTrue (parents_in (film_of plan.entry.shown) v w)
+fn put_arrows_of(material: Material<'_>, groups: &mut Vec<Group>, v: u16) -> Result<(), AllocError>
+    ensures arrows { OnOk result ((w : ℕ) → w < material.entry.net.now.nodes
+        → IsTrue (parents_in (film_of material.entry.shown) v w)
         → IsDefined (drawn groups.new.items) (pair_code (codes "a") v w)) }
     ensures keeps { OnOk result (Keeps (drawn groups.old.items) (drawn groups.new.items)) }
 {
-    for w in 0..plan.net.nodes() {
-        put_arrow(plan, groups, v, w)?;
+    for w in 0..material.net.nodes() {
+        put_arrow(material, groups, v, w)?;
     }
     Ok(())
 }
 
 /// The arrow from a node to another, if that is its parent in some still.
-fn put_arrow(plan: Plan<'_>, groups: &mut Vec<Group>, v: u16, w: u16) -> Result<(), AllocError>
-    ensures arrow { OnOk result (IsTrue (parents_in (film_of plan.entry.shown) v w)
+fn put_arrow(
+    material: Material<'_>,
+    groups: &mut Vec<Group>,
+    v: u16,
+    w: u16,
+) -> Result<(), AllocError>
+    ensures arrow { OnOk result (IsTrue (parents_in (film_of material.entry.shown) v w)
         → IsDefined (drawn groups.new.items) (pair_code (codes "a") v w)) }
     ensures keeps { OnOk result (Keeps (drawn groups.old.items) (drawn groups.new.items)) }
 {
-    if is_parent(plan.shown, v, w) {
-        put_symbol(groups, arrow(plan.alloc, plan.stage, v, w)?)?;
+    if is_parent(material.shown, v, w) {
+        put_symbol(groups, arrow(material.alloc, material.stage, v, w)?)?;
     }
     Ok(())
 }
@@ -238,52 +243,63 @@ fn arrow(alloc: Global, stage: &Stage, v: u16, parent: u16) -> Result<Group, All
 }
 
 /// The lines of each edge that some still has.
-fn put_edges(plan: Plan<'_>, groups: &mut Vec<Group>) -> Result<(), AllocError>
-    ensures edges { OnOk result (HasEdges (drawn groups.new.items) (film_of plan.entry.shown) plan.entry.net.now) }
+fn put_edges(material: Material<'_>, groups: &mut Vec<Group>) -> Result<(), AllocError>
+    ensures edges { OnOk result (HasEdges (drawn groups.new.items) (film_of material.entry.shown) material.entry.net.now) }
     ensures keeps { OnOk result (Keeps (drawn groups.old.items) (drawn groups.new.items)) }
 {
-    for w in 0..plan.net.nodes() {
-        put_edges_of(plan, groups, w)?;
+    for w in 0..material.net.nodes() {
+        put_edges_of(material, groups, w)?;
     }
     Ok(())
 }
 
 /// Those between a node and one of a smaller id.
-fn put_edges_of(plan: Plan<'_>, groups: &mut Vec<Group>, w: u16) -> Result<(), AllocError>
-    ensures edges { OnOk result ((v : ℕ) → v < w → IsTrue (joins_in (film_of plan.entry.shown) v w)
+fn put_edges_of(material: Material<'_>, groups: &mut Vec<Group>, w: u16) -> Result<(), AllocError>
+    ensures edges { OnOk result ((v : ℕ) → v < w → IsTrue (joins_in (film_of material.entry.shown) v w)
         → HasEdge (drawn groups.new.items) v w) }
     ensures keeps { OnOk result (Keeps (drawn groups.old.items) (drawn groups.new.items)) }
 {
     for v in 0..w {
-        put_edge(plan, groups, v, w)?;
+        put_edge(material, groups, v, w)?;
     }
     Ok(())
 }
 
 /// The lines of the edge between two nodes, if some still has it: a thin one, and a strong one for the
 /// time in which it is one of the true tree.
-fn put_edge(plan: Plan<'_>, groups: &mut Vec<Group>, v: u16, w: u16) -> Result<(), AllocError>
-    ensures edge { OnOk result (IsTrue (joins_in (film_of plan.entry.shown) v w)
+fn put_edge(
+    material: Material<'_>,
+    groups: &mut Vec<Group>,
+    v: u16,
+    w: u16,
+) -> Result<(), AllocError>
+    ensures edge { OnOk result (IsTrue (joins_in (film_of material.entry.shown) v w)
         → HasEdge (drawn groups.new.items) v w) }
     ensures keeps { OnOk result (Keeps (drawn groups.old.items) (drawn groups.new.items)) }
 {
-    if plan.shown.joins(v, w) {
-        put_symbol(groups, edge(plan, "e", 2, v, w)?)?;
-        put_symbol(groups, edge(plan, "b", 5, v, w)?)?;
+    if material.shown.joins(v, w) {
+        put_symbol(groups, edge(material, "e", 2, v, w)?)?;
+        put_symbol(groups, edge(material, "b", 5, v, w)?)?;
     }
     Ok(())
 }
 
 /// The line of an edge, under a name that begins so.
-fn edge(plan: Plan<'_>, start: &str, width: u32, v: u16, w: u16) -> Result<Group, AllocError>
+fn edge(
+    material: Material<'_>,
+    start: &str,
+    width: u32,
+    v: u16,
+    w: u16,
+) -> Result<Group, AllocError>
     ensures { IfOk result (λ group. (grouped_of group).element ≡ symbol_shown (pair_code start.now v w)) }
 {
-    let name = format!(in plan.alloc; "{start}{v}-{w}")?;
-    let steps = whole(plan.alloc, plan.stage, v, w)?;
+    let name = format!(in material.alloc; "{start}{v}-{w}")?;
+    let steps = whole(material.alloc, material.stage, v, w)?;
     symbol_of(
-        plan.alloc,
+        material.alloc,
         name.as_str(),
-        outline(plan.alloc, steps.as_str(), "edge", "#b4bac0", width)?,
+        outline(material.alloc, steps.as_str(), "edge", "#b4bac0", width)?,
     )
 }
 
@@ -305,16 +321,16 @@ fn line_end(alloc: Global, name: &str, drawn: Element) -> Result<Group, AllocErr
 }
 
 /// The words of each ticket that a node lends to in some still, of the first so many.
-fn put_tickets(plan: Plan<'_>, groups: &mut Vec<Group>) -> Result<(), AllocError> {
-    let mut tickets: Vec<u16> = Vec::new(plan.alloc);
-    note_tickets(&mut tickets, plan.net, plan.shown.opening())?;
-    for still in plan.shown.later() {
-        note_tickets(&mut tickets, plan.net, still)?;
+fn put_tickets(material: Material<'_>, groups: &mut Vec<Group>) -> Result<(), AllocError> {
+    let mut tickets: Vec<u16> = Vec::new(material.alloc);
+    note_tickets(&mut tickets, material.net, material.shown.opening())?;
+    for still in material.shown.later() {
+        note_tickets(&mut tickets, material.net, still)?;
     }
     for ticket in tickets.as_slice() {
-        let name = format!(in plan.alloc; "t{ticket}")?;
-        let text = ticket_text(plan.alloc, plan.stage, *ticket)?;
-        groups.push(symbol_of(plan.alloc, name.as_str(), text)?)?;
+        let name = format!(in material.alloc; "t{ticket}")?;
+        let text = ticket_text(material.alloc, material.stage, *ticket)?;
+        groups.push(symbol_of(material.alloc, name.as_str(), text)?)?;
     }
     Ok(())
 }
@@ -352,16 +368,16 @@ fn ticket_text(alloc: Global, stage: &Stage, ticket: u16) -> Result<Element, All
 }
 
 /// The text of each number of sweeps that some still has.
-fn put_sweeps(plan: Plan<'_>, groups: &mut Vec<Group>) -> Result<(), AllocError> {
-    let mut counts: Vec<u64> = Vec::new(plan.alloc);
-    counts.push(plan.shown.opening().sweeps)?;
-    for still in plan.shown.later() {
+fn put_sweeps(material: Material<'_>, groups: &mut Vec<Group>) -> Result<(), AllocError> {
+    let mut counts: Vec<u64> = Vec::new(material.alloc);
+    counts.push(material.shown.opening().sweeps)?;
+    for still in material.shown.later() {
         if counts.iter().all(|other| *other != still.sweeps) {
             counts.push(still.sweeps)?;
         }
     }
     for sweeps in counts.as_slice() {
-        groups.push(sweeps_text(plan.alloc, plan.net, *sweeps)?)?;
+        groups.push(sweeps_text(material.alloc, material.net, *sweeps)?)?;
     }
     Ok(())
 }

@@ -11,9 +11,9 @@ ghost use Rattle.run_film.specs.Tracks.{frames_between, is_waiting, pair_code, s
 ghost use Rattle.run_film.specs.Tracks.{waits_in};
 
 use crate::curve::waiting_place;
+use crate::material::Material;
 use crate::nodes::{ORIGIN, put_track};
 use crate::pace::Shown;
-use crate::plan::Plan;
 use crate::shapes::{circle, symbol};
 use crate::stage::Stage;
 use crate::symbols::put_symbol;
@@ -65,17 +65,20 @@ fn any_waits(stills: &[Still], u: u16, v: u16) -> bool
 
 /// The symbol of a frame that waits between two nodes, if one does in some still.
 pub fn put_waiting_symbol(
-    plan: Plan<'_>,
+    material: Material<'_>,
     groups: &mut Vec<Group>,
     u: u16,
     v: u16,
 ) -> Result<(), AllocError>
-    ensures waiting { OnOk result (IsTrue (waits_in (film_of plan.entry.shown) u v)
+    ensures waiting { OnOk result (IsTrue (waits_in (film_of material.entry.shown) u v)
         → IsDefined (drawn groups.new.items) (pair_code (codes "m") u v)) }
     ensures keeps { OnOk result (Keeps (drawn groups.old.items) (drawn groups.new.items)) }
 {
-    if waits_in(plan.shown, u, v) {
-        put_symbol(groups, waiting_symbol(plan.alloc, plan.stage, u, v)?)?;
+    if waits_in(material.shown, u, v) {
+        put_symbol(
+            groups,
+            waiting_symbol(material.alloc, material.stage, u, v)?,
+        )?;
     }
     Ok(())
 }
@@ -90,38 +93,47 @@ fn waiting_symbol(alloc: Global, stage: &Stage, u: u16, v: u16) -> Result<Group,
 }
 
 /// Draws the frames that wait between any two nodes in some still.
-pub fn put_all_waiting(plan: Plan<'_>, groups: &mut Vec<Group>) -> Result<(), AllocError>
-    ensures waiting { OnOk result ((u : ℕ) → u < plan.entry.net.now.nodes → (v : ℕ) → v < plan.entry.net.now.nodes
-        → IsTrue (waits_in (film_of plan.entry.shown) u v)
-        → IsPlayed (drawn groups.new.items) (track_shown (Waiting u v) (film_of plan.entry.shown))) }
+pub fn put_all_waiting(material: Material<'_>, groups: &mut Vec<Group>) -> Result<(), AllocError>
+    ensures waiting { OnOk result ((u : ℕ) → u < material.entry.net.now.nodes → (v : ℕ) → v < material.entry.net.now.nodes
+        → IsTrue (waits_in (film_of material.entry.shown) u v)
+        → IsPlayed (drawn groups.new.items) (track_shown (Waiting u v) (film_of material.entry.shown))) }
     ensures keeps { OnOk result (Keeps (drawn groups.old.items) (drawn groups.new.items)) }
 {
-    for u in 0..plan.net.nodes() {
-        put_waiting_from(plan, groups, u)?;
+    for u in 0..material.net.nodes() {
+        put_waiting_from(material, groups, u)?;
     }
     Ok(())
 }
 
 /// Those that wait on their way from a node.
-fn put_waiting_from(plan: Plan<'_>, groups: &mut Vec<Group>, u: u16) -> Result<(), AllocError>
-    ensures waiting { OnOk result ((v : ℕ) → v < plan.entry.net.now.nodes → IsTrue (waits_in (film_of plan.entry.shown) u v)
-        → IsPlayed (drawn groups.new.items) (track_shown (Waiting u v) (film_of plan.entry.shown))) }
+fn put_waiting_from(
+    material: Material<'_>,
+    groups: &mut Vec<Group>,
+    u: u16,
+) -> Result<(), AllocError>
+    ensures waiting { OnOk result ((v : ℕ) → v < material.entry.net.now.nodes → IsTrue (waits_in (film_of material.entry.shown) u v)
+        → IsPlayed (drawn groups.new.items) (track_shown (Waiting u v) (film_of material.entry.shown))) }
     ensures keeps { OnOk result (Keeps (drawn groups.old.items) (drawn groups.new.items)) }
 {
-    for v in 0..plan.net.nodes() {
-        put_waiting(plan, groups, u, v)?;
+    for v in 0..material.net.nodes() {
+        put_waiting(material, groups, u, v)?;
     }
     Ok(())
 }
 
 /// Those that wait on their way from a node to another.
-fn put_waiting(plan: Plan<'_>, groups: &mut Vec<Group>, u: u16, v: u16) -> Result<(), AllocError>
-    ensures waiting { OnOk result (IsTrue (waits_in (film_of plan.entry.shown) u v)
-        → IsPlayed (drawn groups.new.items) (track_shown (Waiting u v) (film_of plan.entry.shown))) }
+fn put_waiting(
+    material: Material<'_>,
+    groups: &mut Vec<Group>,
+    u: u16,
+    v: u16,
+) -> Result<(), AllocError>
+    ensures waiting { OnOk result (IsTrue (waits_in (film_of material.entry.shown) u v)
+        → IsPlayed (drawn groups.new.items) (track_shown (Waiting u v) (film_of material.entry.shown))) }
     ensures keeps { OnOk result (Keeps (drawn groups.old.items) (drawn groups.new.items)) }
 {
-    if waits_in(plan.shown, u, v) {
-        put_track(plan, groups, Track::Waiting(u, v), ORIGIN)?;
+    if waits_in(material.shown, u, v) {
+        put_track(material, groups, Track::Waiting(u, v), ORIGIN)?;
     }
     Ok(())
 }

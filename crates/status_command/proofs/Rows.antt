@@ -66,14 +66,17 @@ minute-said : minute_after 1500
 minute-said = refl
 
 -- a reader that is gone is no failure of the output; a full disk is
-written_not-gone : why_not_written kind.BrokenPipe ≡ Closed
-written_not-gone = refl
+unwritten-gone : why_not_written kind.BrokenPipe ≡ Closed
+unwritten-gone = refl
 
-written_not-full : why_not_written kind.StorageFull ≡ Output
-written_not-full = refl
+unwritten-full : why_not_written kind.StorageFull ≡ Output
+unwritten-full = refl
 
-written_not-memory : why_not_written kind.OutOfMemory ≡ Memory
-written_not-memory = refl
+unwritten-memory : why_not_written kind.OutOfMemory ≡ Memory
+unwritten-memory = refl
+
+unwritten_not-full : why_not_written kind.StorageFull ≡ Closed → ⊥
+unwritten_not-full e = absurd cc
 
 status-gone : notice_status Closed ≡ 141
 status-gone = refl

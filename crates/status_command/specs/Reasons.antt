@@ -26,8 +26,8 @@ why_not_written kind.BrokenPipe = Closed
 why_not_written kind.OutOfMemory = Memory
 why_not_written _ = Output
 
--- The exit status after a notice. A reader that is gone is that of a process that the signal for it
--- ended: 128 and 13, its number.
+-- The exit status after a notice: 1. If the reader is gone, it is 141, which a shell shows for a process
+-- that SIGPIPE ended: 128, and 13, the number of that signal.
 abbrev pub notice_status : Notice → ℕ
 notice_status Closed = 141
 notice_status _ = 1

@@ -7,7 +7,7 @@ use network_file::NetworkFault;
 use std::io::ErrorKind;
 use std::{fmt, io};
 
-/// The status if the reader of standard output is gone, as after the signal for that.
+/// The status if the reader of standard output is gone: a shell shows it for a process that SIGPIPE ended.
 const READER_GONE: u8 = 141;
 
 /// Why nothing is shown of the nodes. Printed, it is the message without the program's name.

@@ -9,6 +9,6 @@ use Rattle.run_film.proofs.nodes.put_edges.Given as goal
 -- the edges of the first nodes are drawn
 abbrev pub invariant-loop-w : goal.invariant-loop-w
 invariant-loop-w l =
-    Grows (λ gs u. (v : ℕ) → v < u → IsTrue (joins_in (film_of l.plan.shown) v u)
-    → IsPlayed gs (track_shown (Edge v u) (film_of l.plan.shown)))
+    Grows (λ gs u. (v : ℕ) → v < u → IsTrue (joins_in (film_of l.material.shown) v u)
+    → IsPlayed gs (track_shown (Edge v u) (film_of l.material.shown)))
     (drawn l.fn.groups.items) (drawn l.groups.items) l.w

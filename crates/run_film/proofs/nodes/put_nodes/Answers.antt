@@ -12,7 +12,7 @@ loop-v-init c = grows_none _ _
 pub loop-v-preserved : goal.loop-v-preserved
 loop-v-preserved c =
     grows_more _ (λ old new u keeps was. played_kept old new _ keeps was) _ _ _ _ c.loop-v.invariant (keeps_pushed _ _ _ c.in_ok-put_track.ensures)
-    (played_here _ _ (track_shown (Parent c.loop-v.v) (film_of c.args.plan.shown)) _ _ c.in_ok-put_track.ensures)
+    (played_here _ _ (track_shown (Parent c.loop-v.v) (film_of c.args.material.shown)) _ _ c.in_ok-put_track.ensures)
 
 pub loop-v-2-init : goal.loop-v-2-init
 loop-v-2-init c = (
@@ -22,10 +22,10 @@ loop-v-2-init c = (
 
 pub loop-v-2-preserved : goal.loop-v-2-preserved
 loop-v-2-preserved c =
-    let film = film_of c.args.plan.shown in
+    let film = film_of c.args.material.shown in
     let adds = c.in_ok-put_node.ensures in
     let keeps : Keeps (drawn c.loop-v-2.groups.items) (drawn c.put_node.new.groups.items) = (_, adds.are) in
-    let within : c.loop-v-2.v < c.args.plan.net.now.nodes = omega (arith, c.nodes-v-end-2.ensures.nodes, c.loop-v-2-test.true) in (
+    let within : c.loop-v-2.v < c.args.material.net.now.nodes = omega (arith, c.nodes-v-end-2.ensures.nodes, c.loop-v-2-test.true) in (
       λ u below. played_kept _ _ _ keeps (c.loop-v-2.invariant.0 u below),
       grows_more _ (λ old new u keeps was. node_kept old new film u keeps was) _ _ _ _ c.loop-v-2.invariant.1 keeps
           (node_added _ _ film c.loop-v-2.v adds (c.loop-v-2.invariant.0 c.loop-v-2.v within)),

@@ -9,11 +9,11 @@ use Rattle.run_film.proofs.nodes.put_nodes.Given as goal
 -- the arrows of the first nodes are drawn
 abbrev pub invariant-loop-v : goal.invariant-loop-v
 invariant-loop-v l =
-    Grows (λ gs u. IsPlayed gs (track_shown (Parent u) (film_of l.plan.shown)))
+    Grows (λ gs u. IsPlayed gs (track_shown (Parent u) (film_of l.material.shown)))
     (drawn l.fn.groups.items) (drawn l.groups.items) l.v
 
 -- those of all are, and the first nodes
 abbrev pub invariant-loop-v-2 : goal.invariant-loop-v-2
 invariant-loop-v-2 l =
-    ((u : ℕ) → u < l.plan.net.now.nodes → IsPlayed (drawn l.groups.items) (track_shown (Parent u) (film_of l.plan.shown)))
-    × Grows (λ gs u. ShowsNode gs (film_of l.plan.shown) u) (drawn l.fn.groups.items) (drawn l.groups.items) l.v
+    ((u : ℕ) → u < l.material.net.now.nodes → IsPlayed (drawn l.groups.items) (track_shown (Parent u) (film_of l.material.shown)))
+    × Grows (λ gs u. ShowsNode gs (film_of l.material.shown) u) (drawn l.fn.groups.items) (drawn l.groups.items) l.v

@@ -9,6 +9,6 @@ use Rattle.run_film.proofs.symbols.put_arrows.Given as goal
 -- the arrows of the first nodes have their symbols
 abbrev pub invariant-loop-v : goal.invariant-loop-v
 invariant-loop-v l =
-    Grows (λ gs u. (w : ℕ) → w < l.plan.net.now.nodes → IsTrue (parents_in (film_of l.plan.shown) u w)
+    Grows (λ gs u. (w : ℕ) → w < l.material.net.now.nodes → IsTrue (parents_in (film_of l.material.shown) u w)
     → IsDefined gs (pair_code (codes "a") u w))
     (drawn l.fn.groups.items) (drawn l.groups.items) l.v

@@ -9,5 +9,5 @@ use Rattle.run_film.proofs.symbols.put_arrows_of.Given as goal
 -- those to the first nodes have their symbols
 abbrev pub invariant-loop-w : goal.invariant-loop-w
 invariant-loop-w l =
-    Grows (λ gs u. IsTrue (parents_in (film_of l.plan.shown) l.v u) → IsDefined gs (pair_code (codes "a") l.v u))
+    Grows (λ gs u. IsTrue (parents_in (film_of l.material.shown) l.v u) → IsDefined gs (pair_code (codes "a") l.v u))
     (drawn l.fn.groups.items) (drawn l.groups.items) l.w

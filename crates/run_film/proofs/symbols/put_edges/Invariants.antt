@@ -8,5 +8,5 @@ use Rattle.run_film.proofs.symbols.put_edges.Given as goal
 -- the edges of the first nodes have their symbols
 abbrev pub invariant-loop-w : goal.invariant-loop-w
 invariant-loop-w l =
-    Grows (λ gs u. (v : ℕ) → v < u → IsTrue (joins_in (film_of l.plan.shown) v u) → HasEdge gs v u)
+    Grows (λ gs u. (v : ℕ) → v < u → IsTrue (joins_in (film_of l.material.shown) v u) → HasEdge gs v u)
     (drawn l.fn.groups.items) (drawn l.groups.items) l.w

@@ -8,5 +8,5 @@ use Rattle.run_film.proofs.symbols.put_edges_of.Given as goal
 -- those to the first nodes have their symbols
 abbrev pub invariant-loop-v : goal.invariant-loop-v
 invariant-loop-v l =
-    Grows (λ gs u. IsTrue (joins_in (film_of l.plan.shown) u l.w) → HasEdge gs u l.w)
+    Grows (λ gs u. IsTrue (joins_in (film_of l.material.shown) u l.w) → HasEdge gs u l.w)
     (drawn l.fn.groups.items) (drawn l.groups.items) l.v

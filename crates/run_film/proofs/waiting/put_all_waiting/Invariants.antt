@@ -9,6 +9,6 @@ use Rattle.run_film.proofs.waiting.put_all_waiting.Given as goal
 -- those from the first nodes are drawn
 abbrev pub invariant-loop-u : goal.invariant-loop-u
 invariant-loop-u l =
-    Grows (λ gs u. (v : ℕ) → v < l.plan.net.now.nodes → IsTrue (waits_in (film_of l.plan.shown) u v)
-    → IsPlayed gs (track_shown (Waiting u v) (film_of l.plan.shown)))
+    Grows (λ gs u. (v : ℕ) → v < l.material.net.now.nodes → IsTrue (waits_in (film_of l.material.shown) u v)
+    → IsPlayed gs (track_shown (Waiting u v) (film_of l.material.shown)))
     (drawn l.fn.groups.items) (drawn l.groups.items) l.u

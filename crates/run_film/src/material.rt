@@ -1,12 +1,12 @@
-//! By what a film is drawn.
+//! What a film is drawn from.
 use crate::pace::Shown;
 use crate::stage::Stage;
 use std::alloc::Global;
 use topology::Net;
 
-/// What each step goes by that draws a part of a film: the network, where its nodes stand, and the stills.
+/// What each part of a film is drawn from: the network, where its nodes stand, and the stills.
 #[derive(Clone, Copy)]
-pub struct Plan<'a> {
+pub struct Material<'a> {
     /// Where memory comes from.
     pub alloc: Global,
     /// The network.
