@@ -8,6 +8,8 @@ pub mod Noting
 pub mod Remembering
 pub mod Turning
 pub mod Loose
+pub mod GoingOut
+pub mod BeingRead
 pub mod Accounts
 pub mod Lives
 pub mod Saying

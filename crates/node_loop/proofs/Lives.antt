@@ -38,6 +38,9 @@ is-or-not : (b : Bool) → (b ≡ true) ⊎ (b ≡ false)
 is-or-not true = inl refl
 is-or-not false = inr refl
 
+pub there : {P : Type 0} (s : Slab (Client P)) (k : ℕ) (old : Client P) → Some old ≡ get s k → IsSome (get s k)
+there s k old e = subst (λ x. IsSome x) e refl
+
 module _ {P : Type 0} (gave took : P → Option (List ℕ)) (counts : P → Counts) where
   pub stays-at : (x : Option (Client P)) → LivesAt gave took counts x x
   stays-at None = tt
@@ -65,9 +68,6 @@ module _ {P : Type 0} (gave took : P → Option (List ℕ)) (counts : P → Coun
   later-at bytes None y f = gone-at None y f.0
   later-at bytes (Some a) None f = tt
   later-at bytes (Some a) (Some b) (f, same) = Gives_later bytes f same
-
-  there : (s : Slab (Client P)) (k : ℕ) (old : Client P) → Some old ≡ get s k → IsSome (get s k)
-  there s k old e = subst (λ x. IsSome x) e refl
 
   -- a client whose pipe lives on is written back to its place
   pub touched-here : (s : Slab (Client P)) (k : ℕ) (old new : Client P) → Some old ≡ get s k → Lives gave took counts old.pipe new.pipe

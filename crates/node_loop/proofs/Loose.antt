@@ -8,7 +8,7 @@ use Rattle.node_loop.specs.declared.port.NodePort.{NodePort}
 use Rattle.node_loop.specs.LinkSights.{link_at}
 use Rattle.node_loop.specs.Loose.{AreKept, AreLoose, is_linked}
 use Rattle.node_loop.proofs.Hearing.{others-set}
-use Rattle.node_loop.proofs.Speaking.{apart, below-or-from, below-or-last, none-below}
+use Rattle.node_loop.proofs.Speaking.{apart, below-or-from, below-or-last, none-below, none-there}
 
 module _ {P : Type 0} where
   unlinked : (q : NodePort P) → q.link.pipe ≡ None → q.greeting ≡ None → is_linked (Some q) ≡ false
@@ -65,9 +65,6 @@ module _ {P : Type 0} where
         | inr (inl less) ↦ rw (slice_get-append_left ports (q ∷ []) w less) (so w not)
         | inr (inr more) ↦ rw (slice_get-append_right ports (q ∷ []) w (w - length ports) (omega arith), slice_get_past (q ∷ []) (w - length ports) (omega arith)) refl
       ]
-
-none-there : (w : ℕ) → Contains {X = ℕ} [] w → ⊥
-none-there w (i, below, e) = omega (arith, below)
 
 left-of : (a b : Bool) → (a || b) ≡ false → a ≡ false
 left-of false b e = refl

@@ -2,6 +2,7 @@
 use Rattle.std.proofs.Common.{◌≡◌, ◌≢◌, ◌∙◌, ℕ, Bool, true, false, if◌then◌else◌, List, [], ◌∷◌, ◌++◌, Option, None, Some, codes, refl, sym, subst, ap, inl, inr, arith, append-nil}
 use Rattle.std.specs.Prelude.{option_map}
 use Rattle.std.proofs.lemmas.Grind.{common_steps}
+use Rattle.byte_streams.specs.Streams.{Rose}
 use Rattle.slab.specs.Slab.{get}
 use Rattle.lock_desk.specs.Desk.{ask_fault, is_stranger}
 use Rattle.lock_desk.specs.declared.act.DeskAct.{DeskAct}
@@ -12,13 +13,17 @@ use Rattle.lock_desk.specs.declared.fault.AskFault.{AskFault}
 use Rattle.lock_desk.specs.declared.fault.AskFault.TheVariants.{Full, Twice}
 use Rattle.node_core.specs.Site.{Site}
 use Rattle.node_core.specs.State.{LocalState}
+use Rattle.socket_links.specs.Counts.{Counts}
 use Rattle.socket_links.specs.Pipes.{GoesOn}
 use Rattle.node_loop.specs.declared.clients.Client.{Client}
 use Rattle.node_loop.specs.declared.clients.Clients.{Clients}
 use Rattle.node_loop.specs.Answers.{answer_text, lock_answer}
 use Rattle.node_loop.specs.Clients.{answers_of, is_connected, IsReported, Reports}
-use Rattle.node_loop.specs.Said.{answers_to, AreAnswered, HasAnswered, IsSaid, NothingSaid, said, SaidAt, SaidTo, TurnSays}
-use Rattle.node_loop.proofs.Lives.{admits-none}
+use Rattle.node_loop.specs.Lives.{GoesOutAt}
+use Rattle.node_loop.specs.Said.{answers_to, AreAnswered, AttendSays, HasAnswered, IsSaid, NothingSaid, said, SaidAt, SaidTo, TurnSays, WritesOut}
+use Rattle.node_loop.proofs.BeingRead.{read-gone}
+use Rattle.node_loop.proofs.GoingOut.{out-nothing}
+use Rattle.node_loop.proofs.Lives.{admits-none, stay}
 use Rattle.node_loop.proofs.Saying.{is-said-join, nothing-same, reported-said}
 
 abbrev bytes-of : Option (List ℕ) → List ℕ
@@ -97,26 +102,72 @@ not-granted site (x ∷ lines) e =
 answers-two : (site : Site) (s : LocalState) → answers_to site 3 ((Unknown, s) ∷ ((Unknown, s) ∷ [])) ≡ codes "unknown\nunknown\n"
 answers-two site s = refl
 
-module _ {P A : Type 0} (took : P → Option (List ℕ)) (site : Site) (old new : Clients P A) (a b : Client P) where
+rose_not-same : ¬ Rose 5 5
+rose_not-same (inl more) = omega (arith, more)
+rose_not-same (inr most) = grind (arith, most)
+
+module _ {P A : Type 0} (gave took : P → Option (List ℕ)) (counts : P → Counts) (site : Site) (old new : Clients P A) (a b : Client P) where
   nothing-still : NothingSaid took old old
   nothing-still = nothing-same took old old refl refl
 
   answered-still : AreAnswered took site old old
   answered-still t = ([], nothing-still t)
 
-  has-answered : HasAnswered took site old old
-  has-answered = record { came = old; admits = admits-none old; answers = answered-still }
+  -- nobody is connected
+  abbrev IsAlone : Clients P A → Type 0
+  IsAlone clients = (t : ℕ) → get clients.table t ≡ None
+
+  has-answered : IsAlone old → HasAnswered gave took counts site old old
+  has-answered alone = record {
+    came = old;
+    admits = admits-none old;
+    answers = answered-still;
+    reads = λ t few. read-gone gave took counts (get old.table t) (get old.table t) (alone t);
+  }
 
   said-to-reported : Reports (codes "full\n") 3 old new → SaidTo took (codes "full\n") 3 old new
   said-to-reported reports = reported-said took (codes "full\n") 3 old new reports
 
-  -- a turn in which nothing is said
-  turn-quiet : TurnSays took site Quiet old old
-  turn-quiet = record { heard = old; acted = old; answers = has-answered; reported = refl; goes_out = nothing-still }
+  -- nothing waits for anybody
+  abbrev NoneWaits : Clients P A → Type 0
+  NoneWaits clients = (t : ℕ) → answers_of clients t ≡ []
 
-  -- and one in which a client hears that it lost the lock
-  turn-lost : Reports (codes "lost\n") 3 old new → TurnSays took site (Lost 3) old new
-  turn-lost reports = record { heard = old; acted = new; answers = has-answered; reported = reports; goes_out = nothing-same took new new refl refl }
+  writes-nothing : (clients : Clients P A) → NoneWaits clients → WritesOut gave took counts clients clients
+  writes-nothing clients none = record {
+    lives = stay gave took counts clients clients refl;
+    says_nothing = nothing-same took clients clients refl refl;
+    goes_out = λ t. out-nothing counts (get clients.table t) (get clients.table t) (answers_of clients t) (answers_of clients t) (none t);
+  }
+
+  -- a turn in which nothing is said
+  turn-quiet : IsAlone old → NoneWaits old → TurnSays gave took counts site Quiet old old
+  turn-quiet alone none = record { heard = old; acted = old; answers = has-answered alone; reported = refl; writes = writes-nothing old none }
+
+  -- one in which a client hears that it lost the lock
+  turn-lost : HasAnswered gave took counts site old old → Reports (codes "lost\n") 3 old new → WritesOut gave took counts new new → TurnSays gave took counts site (Lost 3) old new
+  turn-lost answers reports writes = record { heard = old; acted = new; answers = answers; reported = reports; writes = writes }
+
+  attend-quiet : IsAlone old → NoneWaits old → AttendSays gave took counts site old old
+  attend-quiet alone none = record { heard = old; answers = has-answered alone; writes = writes-nothing old none }
+
+  -- an answer of which a part goes out, and one that a full pipe does not take
+  out-part : GoesOutAt counts (Some a) (codes "lost\n") (Some b) (codes "st\n")
+  out-part = inr (inl (omega arith))
+
+  out-full : (counts a.pipe).later ≡ 4 → (counts b.pipe).later ≡ 5 → GoesOutAt counts (Some a) (codes "x") (Some b) (codes "x")
+  out-full was is = inr (inr (inl (omega (arith, was, is))))
+
+  -- one to which nobody wrote
+  out_not-left : (counts a.pipe).later ≡ 5 → ¬ GoesOutAt counts (Some a) (codes "x") (Some a) (codes "x")
+  out_not-left five (inl none) = absurd cc
+  out_not-left five (inr (inl less)) = omega (arith, less)
+  out_not-left five (inr (inr rose)) = rose_not-same (subst (λ n. Rose n n) five rose)
+
+  writes_not-left : get old.table 3 ≡ Some a → answers_of old 3 ≡ codes "x" → (counts a.pipe).later ≡ 5 → ¬ WritesOut gave took counts old old
+  writes_not-left there waits five writes =
+      let out = writes.goes_out 3 in
+      let here = subst (λ xs. GoesOutAt counts (get old.table 3) xs (get old.table 3) xs) waits out in
+      out_not-left five (subst (λ x. GoesOutAt counts x (codes "x") x (codes "x")) there here)
 
   module _ (was : get old.table 3 ≡ Some a) (is : get new.table 3 ≡ Some b) (before : took a.pipe ≡ Some []) (after : took b.pipe ≡ Some []) (waits : answers_of old 3 ≡ []) where
     -- what waits now is what was said
@@ -127,7 +178,7 @@ module _ {P A : Type 0} (took : P → Option (List ℕ)) (site : Site) (old new 
         let h = subst (λ xs. SaidAt took more (Some a) xs (Some b) (answers_of new 3)) waits g in plain-said took a b more (answers_of new 3) before after h
 
     -- what was said in a turn
-    said-in : (act : DeskAct) (text : List ℕ) → ((x y : Clients P A) → IsReported act x y → IsSaid took text 3 x y) → (x : TurnSays took site act old new)
+    said-in : (act : DeskAct) (text : List ℕ) → ((x y : Clients P A) → IsReported act x y → IsSaid took text 3 x y) → (x : TurnSays gave took counts site act old new)
         → answers_of new 3 ≡ answers_to site 3 (x.answers.answers 3).0 ++ text
     said-in act text reports x =
         let lines = (x.answers.answers 3).0 in
@@ -139,16 +190,16 @@ module _ {P A : Type 0} (took : P → Option (List ℕ)) (site : Site) (old new 
         (subst (λ xs. SaidAt took (answers_to site 3 lines) (get came.table 3) xs (get x.heard.table 3) (answers_of x.heard 3)) same.1 (x.answers.answers 3).1) in
         let reported = is-said-join took (answers_to site 3 lines) text 3 old x.heard x.acted answered (reports x.heard x.acted x.reported) in
         waits-said (answers_to site 3 lines ++ text)
-        (subst (λ all. IsSaid took all 3 old new) (append-nil (answers_to site 3 lines ++ text)) (is-said-join took (answers_to site 3 lines ++ text) [] 3 old x.acted new reported (x.goes_out 3)))
+        (subst (λ all. IsSaid took all 3 old new) (append-nil (answers_to site 3 lines ++ text)) (is-said-join took (answers_to site 3 lines ++ text) [] 3 old x.acted new reported (x.writes.says_nothing 3)))
 
     -- a client that lost the lock hears so
-    turn_not-silent : answers_of new 3 ≡ [] → ¬ TurnSays took site (Lost 3) old new
+    turn_not-silent : answers_of new 3 ≡ [] → ¬ TurnSays gave took counts site (Lost 3) old new
     turn_not-silent silent x =
         let all = said-in (Lost 3) (codes "lost\n") (λ c d reported. (reported-said took (codes "lost\n") 3 c d reported).0) x in
         not-nothing (answers_to site 3 (x.answers.answers 3).0) 108 (codes "ost\n") (sym all ∙ silent)
 
     -- no client hears that it has the lock if no loan began
-    turn_not-granted : answers_of new 3 ≡ codes "granted\n" → ¬ TurnSays took site Quiet old new
+    turn_not-granted : answers_of new 3 ≡ codes "granted\n" → ¬ TurnSays gave took counts site Quiet old new
     turn_not-granted text x =
         let all = said-in Quiet [] (λ c d reported. nothing-same took c d (ap (λ z. z.table) reported) (ap (λ z. z.answers) reported) 3) x in
         let lines = (x.answers.answers 3).0 in

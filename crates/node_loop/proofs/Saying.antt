@@ -3,7 +3,7 @@ use Rattle.std.proofs.Common.{◌≡◌, ◌≢◌, ℕ, false, List, [], ◌∷
 use Rattle.std.specs.Prelude.{option_map}
 use Rattle.std.proofs.lemmas.List.{take-append-drop}
 use Rattle.circular_buffer.specs.Buffer.{buffer}
-use Rattle.slab.specs.Slab.{get}
+use Rattle.slab.specs.Slab.{Slab, get}
 use Rattle.lock_desk.specs.declared.client_line.ClientLine.{ClientLine}
 use Rattle.node_core.specs.Site.{Site}
 use Rattle.node_core.specs.State.{LocalState}
@@ -14,13 +14,14 @@ use Rattle.node_loop.specs.declared.clients.Client.{Client}
 use Rattle.node_loop.specs.declared.clients.Clients.{Clients}
 use Rattle.node_loop.specs.Answers.{answer_text}
 use Rattle.node_loop.specs.Clients.{answers_of, is_connected, Reports}
-use Rattle.node_loop.specs.Lives.{OthersStay, ReadsAt}
+use Rattle.node_loop.specs.Lives.{LiveOn, OthersStay, ReadsAt}
 use Rattle.node_loop.specs.Said.{answers_to, said, SaidAt, IsSaid, NothingSaid, SaidTo, AreAnswered, HasAnswered}
+use Rattle.node_loop.proofs.BeingRead.{all-then}
 use Rattle.node_loop.proofs.Lives.{nobody, tested}
 
 -- ---- bytes
 
-goes-nothing : (x : Option (List ℕ)) → GoesOn [] x x
+pub goes-nothing : (x : Option (List ℕ)) → GoesOn [] x x
 goes-nothing None = refl
 goes-nothing (Some xs) = ap (λ ys. Some ys) (sym (append-nil xs))
 
@@ -86,6 +87,15 @@ module _ {P : Type 0} (took : P → Option (List ℕ)) where
   said-read gave counts answer bytes (Some a) None xs ys f d = tt
   said-read gave counts answer bytes (Some a) (Some b) xs ys (f, same) d =
       subst (λ zs. SaidAt took [] (Some a) xs (Some b) zs) (sym d) (subst (λ o. GoesOn [] (said took a xs) (option_map (λ bs. bs ++ xs) o)) (sym same) (goes-nothing (said took a xs)))
+
+  -- it is enough to look at the one ticket that was touched
+  pub said-at : (k : ℕ) (table after : Slab (Client P)) (waited waits : ℕ → List ℕ) → SaidAt took [] (get table k) (waited k) (get after k) (waits k)
+      → ((t : ℕ) → t ≢ k → get after t ≡ get table t) → ((t : ℕ) → t ≢ k → waits t ≡ waited t) → (t : ℕ) → SaidAt took [] (get table t) (waited t) (get after t) (waits t)
+  said-at k table after waited waits here others answers t =
+      elim (tested t k) [
+        | inl same ↦ subst (λ u. SaidAt took [] (get table u) (waited u) (get after u) (waits u)) (sym same) here
+        | inr other ↦ said-same (get table t) (get after t) (waited t) (waits t) (others t other) (answers t other)
+      ]
 
 -- ---- all clients
 
@@ -154,6 +164,12 @@ module _ {P A : Type 0} (took : P → Option (List ℕ)) where
     subst (λ text. IsSaid took text t a c) (answers-join site t (f t).0 (g t).0) (is-said-join (answers_to site t (f t).0) (answers_to site t (g t).0) t a b c (f t).1 (g t).1),
   )
 
+module _ {P A : Type 0} (gave took : P → Option (List ℕ)) (counts : P → Counts) where
   -- all were answered, and then nothing more was said
-  pub has-nothing : (site : Site) (a b c : Clients P A) → HasAnswered took site a b → NothingSaid took b c → HasAnswered took site a c
-  has-nothing site a b c f g = record { came = f.came; admits = f.admits; answers = answered-join site f.came b c f.answers (answered-nothing site b c g) }
+  pub has-nothing : (site : Site) (a b c : Clients P A) → HasAnswered gave took counts site a b → NothingSaid took b c → LiveOn gave took counts b c → HasAnswered gave took counts site a c
+  has-nothing site a b c f g lives = record {
+    came = f.came;
+    admits = f.admits;
+    answers = answered-join took site f.came b c f.answers (answered-nothing took site b c g);
+    reads = all-then gave took counts f.came b c f.reads lives;
+  }

@@ -3,6 +3,8 @@
 use Rattle.std.proofs.Common.{◌≡◌, ◌≢◌, ◌<◌, ◌≤◌, ◌+◌, ℕ, Bool, true, false, not, ◌&&◌, List, [], ◌∷◌, ◌++◌, ◌⊎◌, Some, is_some, Contains, get_or, length, take, slice_get, slice_set, refl, inl, inr, sym, subst, arith, ◌∙◌}
 use Rattle.std.specs.Prelude.{slice_index_or}
 use Rattle.std.proofs.Math.ListN.{replicate}
+use Rattle.core.specs.Cmp.{both_ways}
+use Rattle.std.proofs.lemmas.Bool.{false≢true}
 use Rattle.std.proofs.lemmas.List.Elements.{Contains-append_left, Contains-get_or, Contains-push, Contains-push_cases}
 use Rattle.std.proofs.lemmas.List.{take_more, get_or_past, get_or-replicate, get_or-set_same, get_or-set_other, length-replicate, length-set}
 use Rattle.topology.specs.Network.{Network, IsAcceptedNetwork}
@@ -16,18 +18,10 @@ use Rattle.node_core.specs.View.{NodeView, site_in, state_of}
 use Rattle.pace.specs.declared.port.PortSight.{PortSight}
 use Rattle.node_loop.specs.declared.port.NodePort.{NodePort}
 use Rattle.node_loop.specs.Speaking.{sight_at}
-use Rattle.node_loop.proofs.Speaking.{below-or-from}
-
-no-element : (w : ℕ) → Contains {X = ℕ} [] w → ⊥
-no-element w has = let within = has.1 in omega arith
+use Rattle.node_loop.proofs.Speaking.{below-or-from, none-there}
 
 same-or-other : (w v : ℕ) → (w ≡ v) ⊎ (w ≢ v)
 same-or-other w v = grind arith
-
-alike : (a b : Bool) → (a ≡ true → b ≡ true) → (b ≡ true → a ≡ true) → a ≡ b
-alike false false there back = refl
-alike false true there back = back refl
-alike true b there back = sym (there refl)
 
 -- what a port shows is what is seen there
 pub seen-as : {P : Type 0} (node : NodeView) (ports : List (NodePort P)) (id : ℕ) (port : NodePort P) (takes : Bool) (frame : Frame) (present : Payload)
@@ -42,7 +36,7 @@ pub record AreSeen {X : Type 0} (f : ℕ → X) (none : X) (ws : List ℕ) (xs :
   pub seen : (w : ℕ) → Contains ws w → slice_index_or xs w none ≡ f w
 
 pub seen-start : {X : Type 0} (f : ℕ → X) (none : X) (xs : List X) → length xs ≡ 64 → AreSeen f none [] xs
-seen-start f none xs size = record { size = size; seen = λ w has. absurd (no-element w has) }
+seen-start f none xs size = record { size = size; seen = λ w has. absurd (none-there w has) }
 
 pub seen-next : {X : Type 0} (f : ℕ → X) (none : X) (ws : List ℕ) (xs : List X) (v : ℕ) (x : X) → v < 64 → x ≡ f v
     → AreSeen f none ws xs → AreSeen f none (ws ++ v ∷ []) (slice_set xs v x)
@@ -103,14 +97,11 @@ take-next ws ns same i there = rw same (take_more ns i 0 there)
 abbrev pub OnlyTrue : (ℕ → Bool) → List Bool → Type 0
 OnlyTrue f xs = (w : ℕ) → slice_index_or xs w false ≡ true → f w ≡ true
 
-no-truth : false ≡ true → ⊥
-no-truth e = absurd cc
-
 pub only-start : (f : ℕ → Bool) → OnlyTrue f (replicate 64 false)
 only-start f w on =
     elim (below-or-from w 64) [
-      | inl less ↦ absurd (no-truth (sym (get_or-replicate 64 w false false less) ∙ on))
-      | inr from ↦ absurd (no-truth (sym (get_or_past (replicate 64 false) w false (rw (length-replicate {A = Bool} 64 false) from)) ∙ on))
+      | inl less ↦ absurd (false≢true (sym (get_or-replicate 64 w false false less) ∙ on))
+      | inr from ↦ absurd (false≢true (sym (get_or_past (replicate 64 false) w false (rw (length-replicate {A = Bool} 64 false) from)) ∙ on))
     ]
 
 pub only-next : (f : ℕ → Bool) (xs : List Bool) (v : ℕ) (x : Bool) → v < length xs → x ≡ f v → OnlyTrue f xs → OnlyTrue f (slice_set xs v x)
@@ -123,4 +114,4 @@ only-next f xs v x here same so w on =
 -- once all of which it is true are seen, all is seen
 pub seen-all : (f : ℕ → Bool) (ws : List ℕ) (xs : List Bool) → AreSeen f false ws xs → OnlyTrue f xs → ((w : ℕ) → f w ≡ true → Contains ws w)
     → (w : ℕ) → slice_index_or xs w false ≡ f w
-seen-all f ws xs seen only all w = alike (slice_index_or xs w false) (f w) (only w) (λ on. seen.seen w (all w on) ∙ on)
+seen-all f ws xs seen only all w = both_ways (slice_index_or xs w false) (f w) (only w) (λ on. seen.seen w (all w on) ∙ on)

@@ -30,6 +30,9 @@ past w i from same = omega arith
 pub none-below : (w : ℕ) → w < 0 → ⊥
 none-below w below = omega arith
 
+pub none-there : (w : ℕ) → Contains {X = ℕ} [] w → ⊥
+none-there w (i, below, e) = omega (arith, below)
+
 -- a port and what is kept of it stay
 abbrev pub StaysAt : {P : Type 0} → Moment P → Moment P → ℕ → Type 0
 StaysAt old new w =

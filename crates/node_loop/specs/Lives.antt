@@ -1,5 +1,5 @@
 -- Clients that live on: of one that is still connected, no read and no write said that it is gone.
-use Rattle.std.specs.Prelude.{◌≡◌, ◌≢◌, ℕ, true, false, List, [], Option, None, Some, ⊤}
+use Rattle.std.specs.Prelude.{◌≡◌, ◌≢◌, ◌⊎◌, ◌<◌, ℕ, true, false, List, [], Option, None, Some, length, ⊤}
 use Rattle.byte_streams.specs.Streams.{Rose}
 use Rattle.slab.specs.Slab.{get}
 use Rattle.socket_links.specs.Counts.{Counts}
@@ -10,6 +10,13 @@ use Rattle.socket_links.specs.declared.pipe.WriteAnswer.TheVariants as write
 use Rattle.node_loop.specs.declared.clients.Client.{Client}
 use Rattle.node_loop.specs.declared.clients.Clients.{Clients}
 use Rattle.node_loop.specs.Clients.{answers_of, is_connected}
+
+-- a pipe that says so has neither closed nor failed
+abbrev pub IsOfLive : ReadAnswer → Type 0
+IsOfLive (read.Got n) = ⊤
+IsOfLive read.Later = ⊤
+IsOfLive read.Closed = ⊥
+IsOfLive read.Failed = ⊥
 
 -- The pipe came to this by some reads and writes, or by none; and none of them said that it closed
 -- or failed. A read writes nothing, and a write reads nothing.
@@ -46,11 +53,40 @@ module _ {P : Type 0} (gave took : P → Option (List ℕ)) (counts : P → Coun
       Reads answer bytes (gave old.pipe) (gave new.pipe) (counts old.pipe) (counts new.pipe)
       × (took new.pipe ≡ took old.pipe)
 
+module _ {P : Type 0} (gave took : P → Option (List ℕ)) (counts : P → Counts) where
+  -- a read of the pipe gave bytes, or it said Later: it has none now
+  abbrev pub IsRead : P → P → Type 0
+  IsRead p q =
+      (answer : ReadAnswer) × (bytes : List ℕ) × IsOfLive answer
+      × Reads answer bytes (gave p) (gave q) (counts p) (counts q) × (took q ≡ took p)
+
+  -- such a read is among what the pipe lived through
+  pub record LivesThroughRead (p q : P) : Type 0 where
+    pub before : P
+    pub after : P
+    pub lives : Lives gave took counts p before
+    pub read : IsRead before after
+    pub lives_on : Lives gave took counts after q
+
+  -- a client that is there was there before, and it was read; of one that is closed nothing is claimed
+  abbrev pub IsReadAt : Option (Client P) → Option (Client P) → Type 0
+  IsReadAt old None = ⊤
+  IsReadAt None (Some new) = ⊥
+  IsReadAt (Some old) (Some new) = LivesThroughRead old.pipe new.pipe
+
 -- there is a client, and its pipe failed: that count rose
 abbrev pub FailsAt : {P : Type 0} → (P → Counts) → Option (Client P) → Option (Client P) → Type 0
 FailsAt counts None new = ⊥
 FailsAt counts (Some old) None = ⊥
 FailsAt counts (Some old) (Some new) = Rose (counts old.pipe).failed (counts new.pipe).failed
+
+-- What waited for a client has begun to go out: nothing waited; or some of it went out; or the pipe would
+-- not take it now, and said Later. Of a client that is closed nothing is claimed.
+abbrev pub GoesOutAt : {P : Type 0} → (P → Counts) → Option (Client P) → List ℕ → Option (Client P) → List ℕ → Type 0
+GoesOutAt counts None waited new waits = ⊤
+GoesOutAt counts (Some old) waited None waits = ⊤
+GoesOutAt counts (Some old) waited (Some new) waits =
+    (waited ≡ []) ⊎ ((length waits < length waited) ⊎ Rose (counts old.pipe).later (counts new.pipe).later)
 
 module _ {P A : Type 0} where
   -- only the client with this ticket may have changed
@@ -76,3 +112,13 @@ module _ {P A : Type 0} (gave took : P → Option (List ℕ)) (counts : P → Co
   -- each client that is there lives on
   abbrev pub LiveOn : Clients P A → Clients P A → Type 0
   LiveOn old new = (t : ℕ) → LivesAt gave took counts (get old.table t) (get new.table t)
+
+module _ {P A : Type 0} (counts : P → Counts) where
+  -- so it is for each client
+  abbrev pub AllGoOut : Clients P A → Clients P A → Type 0
+  AllGoOut old new = (t : ℕ) → GoesOutAt counts (get old.table t) (answers_of old t) (get new.table t) (answers_of new t)
+
+module _ {P A : Type 0} (gave took : P → Option (List ℕ)) (counts : P → Counts) where
+  -- each client that is still there was read; a ticket is below 128
+  abbrev pub AllRead : Clients P A → Clients P A → Type 0
+  AllRead old new = (t : ℕ) → t < 128 → IsReadAt gave took counts (get old.table t) (get new.table t)

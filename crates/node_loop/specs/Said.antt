@@ -5,12 +5,13 @@ use Rattle.lock_desk.specs.declared.act.DeskAct.{DeskAct}
 use Rattle.lock_desk.specs.declared.client_line.ClientLine.{ClientLine}
 use Rattle.node_core.specs.Site.{Site}
 use Rattle.node_core.specs.State.{LocalState}
+use Rattle.socket_links.specs.Counts.{Counts}
 use Rattle.socket_links.specs.Pipes.{GoesOn}
 use Rattle.node_loop.specs.declared.clients.Client.{Client}
 use Rattle.node_loop.specs.declared.clients.Clients.{Clients}
 use Rattle.node_loop.specs.Answers.{answer_text}
 use Rattle.node_loop.specs.Clients.{answers_of, IsReported}
-use Rattle.node_loop.specs.Lives.{Admits}
+use Rattle.node_loop.specs.Lives.{Admits, AllGoOut, AllRead, LiveOn}
 
 -- the answers to these lines of the client with ticket t, one after the other; each with the state in
 -- which the node was
@@ -49,17 +50,32 @@ module _ {P A : Type 0} (took : P → Option (List ℕ)) where
   AreAnswered site old new =
       (t : ℕ) → (lines : List (ClientLine × LocalState)) × IsSaid (answers_to site t lines) t old new
 
-  -- clients came, or none did; and then it was so
+module _ {P A : Type 0} (gave took : P → Option (List ℕ)) (counts : P → Counts) where
+  -- clients came, or none did; and then each was read, and it was so
   pub record HasAnswered (site : Site) (old new : Clients P A) : Type 0 where
     pub came : Clients P A
     pub admits : Admits old came
-    pub answers : AreAnswered site came new
+    pub answers : AreAnswered took site came new
+    pub reads : AllRead gave took counts came new
 
-  -- That was so; then the client whose loan the tick began or ended heard of it; and what waited then
-  -- waits still, or went out.
+  -- Answers were written to clients: nothing more was said to anybody, and what waited for a client has
+  -- begun to go out, as far as its pipe took it.
+  pub record WritesOut (old new : Clients P A) : Type 0 where
+    pub lives : LiveOn gave took counts old new
+    pub says_nothing : NothingSaid took old new
+    pub goes_out : AllGoOut counts old new
+
+  -- clients were answered, and then answers were written
+  pub record AttendSays (site : Site) (old new : Clients P A) : Type 0 where
+    pub heard : Clients P A
+    pub answers : HasAnswered site old heard
+    pub writes : WritesOut heard new
+
+  -- Clients were answered; then the client whose loan the tick began or ended heard of it; and then
+  -- answers were written.
   pub record TurnSays (site : Site) (act : DeskAct) (old new : Clients P A) : Type 0 where
     pub heard : Clients P A
     pub acted : Clients P A
     pub answers : HasAnswered site old heard
     pub reported : IsReported act heard acted
-    pub goes_out : NothingSaid acted new
+    pub writes : WritesOut acted new

@@ -42,7 +42,7 @@ pub(crate) struct Clients<P, A: Allocator + Copy = Global> {
 impl<P: Pipe, A: Allocator + Copy> Clients<P, A> {
     ghost use Rattle.node_loop.specs.Clients.{answers_of, is_connected, room_of};
     ghost use Rattle.node_loop.specs.Clients.{SameClients, GivesWithin};
-    ghost use Rattle.node_loop.specs.Lives.{FailsAt, LivesAt, LiveOn, OthersStay, ReadsAt};
+    ghost use Rattle.node_loop.specs.Lives.{FailsAt, GoesOutAt, LivesAt, LiveOn, OthersStay, ReadsAt};
     ghost use Rattle.node_loop.specs.Said.{NothingSaid};
 
     /// No clients yet. All memory for them is reserved here. `AllocError` comes only if that is
@@ -172,6 +172,10 @@ impl<P: Pipe, A: Allocator + Copy> Clients<P, A> {
         ensures others { (t : ℕ) → t ≢ ticket → answers_of self.new t ≡ answers_of self.old t }
         // What the pipe took is the front of what waited, and the rest of that waits.
         ensures nothing { IsTrue result → NothingSaid P.took self.old self.new }
+        // If something waited, the pipe took some of it or said that it takes none now.
+        ensures out { IsTrue result → GoesOutAt P.counts
+            (get self.old.table ticket) (answers_of self.old ticket)
+            (get self.new.table ticket) (answers_of self.new ticket) }
     {
         let key = ticket as usize;
         if key >= PLACES || !self.table.contains(key) {

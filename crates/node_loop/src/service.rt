@@ -1,12 +1,13 @@
 //! What a node does with its clients in a turn.
 ghost use Rattle.std.specs.Prelude.{◌≡◌, ◌&&◌, ◌==◌, ◌∷◌, [], ℕ, not, true};
+ghost use Rattle.slab.specs.Slab.{get};
 ghost use Rattle.lock_desk.specs.Desk.{after_leave, is_ticket};
 ghost use Rattle.node_core.specs.Step.{ticked};
 ghost use Rattle.node_core.specs.View.{site_in, state_of};
 ghost use Rattle.node_loop.specs.Answers.{answer_text};
 ghost use Rattle.node_loop.specs.Clients.{AreConnected, is_connected, IsReported, Reports};
 ghost use Rattle.node_loop.specs.Deeds.{IsLeave, IsOfClient, Leaves};
-ghost use Rattle.node_loop.specs.Lives.{LiveOn, OthersStay};
+ghost use Rattle.node_loop.specs.Lives.{AllGoOut, AllRead, IsReadAt, LiveOn, OthersStay};
 ghost use Rattle.node_loop.specs.Noting.{after_all, Did, DidAct};
 ghost use Rattle.node_loop.specs.Said.{AreAnswered, NothingSaid, SaidTo};
 
@@ -78,6 +79,8 @@ pub(crate) fn serve_all<P: Pipe, A: Allocator + Copy>(
     // A client whose read says that it is gone is no longer connected.
     ensures lives { LiveOn P.gave P.took P.counts clients.old clients.new }
     ensures answers { AreAnswered P.took (site_in node.old) clients.old clients.new }
+    // Each client that is still there was read.
+    ensures reads { AllRead P.gave P.took P.counts clients.old clients.new }
 {
     if clients.is_empty() {
         return false;
@@ -102,6 +105,9 @@ fn serve<P: Pipe, A: Allocator + Copy>(
     ensures node { Did IsOfClient node.old node.new notes.old notes.new }
     ensures lives { LiveOn P.gave P.took P.counts clients.old clients.new }
     ensures answers { AreAnswered P.took (site_in node.old) clients.old clients.new }
+    // It was read, if it is still there.
+    ensures reads { IsReadAt P.gave P.took P.counts (get clients.old.table ticket)
+        (get clients.new.table ticket) }
 {
     let mut bytes = [0; PIECE];
     match clients.read(ticket, &mut bytes) {
@@ -252,6 +258,7 @@ pub(crate) fn write_all<P: Pipe, A: Allocator + Copy>(
     // A client to which a write fails is no longer connected.
     ensures lives { LiveOn P.gave P.took P.counts clients.old clients.new }
     ensures nothing { NothingSaid P.took clients.old clients.new }
+    ensures out { AllGoOut P.counts clients.old clients.new }
 {
     if clients.is_empty() {
         return;

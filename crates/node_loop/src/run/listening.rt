@@ -32,8 +32,8 @@ impl<D: Doors, S: Store + Drop, A: Allocator + Copy> NodeRun<D, S, A> {
             (emptied notes.old) notes.new }
         ensures connected { AreConnected self.new.clients self.new.node }
         ensures lives { StillLive D.P.gave D.P.took D.P.counts self.old.clients self.new.clients }
-        ensures answers { HasAnswered D.P.took (site_in self.old.node) self.old.clients
-            self.new.clients }
+        ensures answers { HasAnswered D.P.gave D.P.took D.P.counts (site_in self.old.node)
+            self.old.clients self.new.clients }
         ensures pace { Remembers self.old.pace self.new.pace }
         ensures rest { (self.new.net ≡ self.old.net) × (self.new.turns ≡ self.old.turns)
             × (self.new.store ≡ self.old.store) }

@@ -1,7 +1,8 @@
 use Rattle.std.proofs.Common.{◌∙◌}
 use Rattle.slab.specs.Slab.{get}
 use Rattle.node_core.specs.View.{site_in}
-use Rattle.node_loop.proofs.Lives.{got-at, later-at, live-one, live-join, live-gone, others-join, closed-gone}
+use Rattle.node_loop.proofs.BeingRead.{read-gone, read-here, read-then}
+use Rattle.node_loop.proofs.Lives.{got-at, later-at, live-one, live-join, live-gone, others-join, closed-gone, nobody}
 use Rattle.node_loop.proofs.Saying.{answered-join, answered-nothing, answers-same, nothing-gone, nothing-read}
 use Rattle.node_loop.specs.Deeds.{IsOfClient}
 use Rattle.node_loop.proofs.Noting.{did-none, leaves-did}
@@ -93,3 +94,34 @@ returns-in-Failed-clause-answers g c =
     (nothing-gone g.P.Pipe.took t old new (others-join t old read new c.read.ensures.others c.dismiss-in-Failed.ensures.others)
     (λ u o. answers-same g.P.Pipe.took read new c.dismiss-in-Failed.ensures.answers u ∙ answers-same g.P.Pipe.took old read c.read.ensures.answers u)
     (closed-gone t read new c.dismiss-in-Failed.ensures.closed))
+
+pub returns-in-Got-clause-reads : goal.returns-in-Got-clause-reads
+returns-in-Got-clause-reads g c =
+    let old = c.args.clients.now in
+    let mid = c.read.new.self in
+    let new = c.serve_bytes.new.clients in
+    let t = c.args.ticket in
+    read-then g.P.Pipe.gave g.P.Pipe.took g.P.Pipe.counts (get old.table t) (get mid.table t) (get new.table t)
+    (read-here g.P.Pipe.gave g.P.Pipe.took g.P.Pipe.counts c.read.result c.read.new.bytes (get old.table t) (get mid.table t) (rw c.in-Got.is tt) c.read.ensures.reads)
+    (c.serve_bytes.ensures.lives t)
+
+pub returns-in-Later-clause-reads : goal.returns-in-Later-clause-reads
+returns-in-Later-clause-reads g c =
+    let old = c.args.clients.now in
+    let mid = c.read.new.self in
+    let t = c.args.ticket in
+    read-here g.P.Pipe.gave g.P.Pipe.took g.P.Pipe.counts c.read.result c.read.new.bytes (get old.table t) (get mid.table t) (rw c.in-Later.is tt) c.read.ensures.reads
+
+pub returns-in-Closed-clause-reads : goal.returns-in-Closed-clause-reads
+returns-in-Closed-clause-reads g c =
+    let new = c.dismiss.new.clients in
+    let t = c.args.ticket in
+    read-gone g.P.Pipe.gave g.P.Pipe.took g.P.Pipe.counts (get c.args.clients.now.table t) (get new.table t)
+    (nobody (get new.table t) (closed-gone t c.write-written.new.self new c.dismiss.ensures.closed))
+
+pub returns-in-Failed-clause-reads : goal.returns-in-Failed-clause-reads
+returns-in-Failed-clause-reads g c =
+    let new = c.dismiss-in-Failed.new.clients in
+    let t = c.args.ticket in
+    read-gone g.P.Pipe.gave g.P.Pipe.took g.P.Pipe.counts (get c.args.clients.now.table t) (get new.table t)
+    (nobody (get new.table t) (closed-gone t c.read.new.self new c.dismiss-in-Failed.ensures.closed))

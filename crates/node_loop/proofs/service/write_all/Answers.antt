@@ -1,13 +1,17 @@
-use Rattle.std.proofs.Common.{◌∙◌, refl}
+use Rattle.std.proofs.Common.{◌∙◌, arith, refl, sym}
+use Rattle.std.proofs.lemmas.Bool.{eqb-true}
+use Rattle.slab.specs.Slab.{get}
+use Rattle.node_loop.specs.Clients.{answers_of}
 use Rattle.node_loop.specs.Deeds.{IsLeave}
 use Rattle.node_loop.proofs.Noting.{did-joins, did-none}
-use Rattle.node_loop.proofs.Lives.{stay, live-one, live-join, live-gone, others-join, closed-gone}
+use Rattle.node_loop.proofs.Lives.{stay, live-one, live-join, live-gone, others-join, closed-gone, nobody}
+use Rattle.node_loop.proofs.GoingOut.{below-all, below-next, below-start, out-gone, out-of_none}
 use Rattle.node_loop.proofs.Saying.{answers-same, nothing-gone, nothing-join, nothing-same}
 use Rattle.node_loop.proofs.service.write_all.Goals.{then-not-write, else-not-write}
 use Rattle.node_loop.proofs.service.write_all.Goals as goal
 
 pub loop-ticket-init : goal.loop-ticket-init
-loop-ticket-init g c = (did-none IsLeave c.args.node.now c.args.notes.now, λ were. were, stay g.P.Pipe.gave g.P.Pipe.took g.P.Pipe.counts c.args.clients.now c.args.clients.now refl, nothing-same g.P.Pipe.took c.args.clients.now c.args.clients.now refl refl)
+loop-ticket-init g c = (did-none IsLeave c.args.node.now c.args.notes.now, λ were. were, stay g.P.Pipe.gave g.P.Pipe.took g.P.Pipe.counts c.args.clients.now c.args.clients.now refl, nothing-same g.P.Pipe.took c.args.clients.now c.args.clients.now refl refl, below-start g.P.Pipe.counts c.args.clients.now)
 
 pub loop-ticket-preserved : goal.loop-ticket-preserved
 loop-ticket-preserved g c =
@@ -27,14 +31,26 @@ loop-ticket-preserved g c =
             (nothing-gone g.P.Pipe.took t mid w.dismiss.new.clients (others-join t mid written w.dismiss.new.clients c.write.ensures.others_stay w.dismiss.ensures.others)
             (λ u o. answers-same g.P.Pipe.took written w.dismiss.new.clients w.dismiss.ensures.answers u ∙ c.write.ensures.others u o)
             (closed-gone t written w.dismiss.new.clients w.dismiss.ensures.closed)),
+        below-next g.P.Pipe.counts t old mid w.dismiss.new.clients before.4
+            (others-join t mid written w.dismiss.new.clients c.write.ensures.others_stay w.dismiss.ensures.others)
+            (λ u o. answers-same g.P.Pipe.took written w.dismiss.new.clients w.dismiss.ensures.answers u ∙ c.write.ensures.others u o)
+            (out-gone g.P.Pipe.counts (get mid.table t) (get w.dismiss.new.clients.table t) (answers_of mid t) (answers_of w.dismiss.new.clients t)
+            (nobody (get w.dismiss.new.clients.table t) (closed-gone t written w.dismiss.new.clients w.dismiss.ensures.closed))),
       )
       | else-not-write w ↦ rw (w.node-is, w.notes-is, w.clients-is) (
         before.0,
         λ were u known. c.write.ensures.same u ∙ before.1 were u known,
         live-join g.P.Pipe.gave g.P.Pipe.took g.P.Pipe.counts old mid written before.2 (live-one g.P.Pipe.gave g.P.Pipe.took g.P.Pipe.counts t mid written c.write.ensures.others_stay (w.if-not-write.ensures.lives refl)),
         nothing-join g.P.Pipe.took old mid written before.3 (w.if-not-write.ensures.nothing refl),
+        below-next g.P.Pipe.counts t old mid written before.4 c.write.ensures.others_stay c.write.ensures.others (w.if-not-write.ensures.out refl),
       )
     ]
 
 pub returns-then-is_empty-clause-node : goal.returns-then-is_empty-clause-node
 returns-then-is_empty-clause-node g c = did-none IsLeave c.args.node.now c.args.notes.now
+
+pub returns-then-is_empty-clause-out : goal.returns-then-is_empty-clause-out
+returns-then-is_empty-clause-out g c = out-of_none g.P.Pipe.counts c.args.clients.now c.args.clients.now (eqb-true _ 0 (sym c.is_empty.ensures ∙ c.if-is_empty.true))
+
+pub returns-clause-out : goal.returns-clause-out
+returns-clause-out g c = below-all g.P.Pipe.counts c.loop-ticket.ticket c.args.clients.now c.loop-ticket.clients (let end = c.loop-ticket-test.false in omega arith) c.args.clients.now.answers_are c.loop-ticket.invariant.4

@@ -3,9 +3,11 @@ use Rattle.node_loop.specs.Deeds.{IsLeave}
 use Rattle.node_loop.specs.Lives.{LiveOn}
 use Rattle.node_loop.specs.Noting.{Did}
 use Rattle.node_loop.specs.Said.{NothingSaid}
+use Rattle.node_loop.proofs.GoingOut.{GoOutBelow}
 use Rattle.node_loop.proofs.service.write_all.Given as goal
 
 abbrev pub invariant-loop-ticket : goal.invariant-loop-ticket
 invariant-loop-ticket g l =
     Did IsLeave l.fn.node l.node l.fn.notes l.notes × (AreConnected l.fn.clients l.fn.node → AreConnected l.clients l.node)
     × LiveOn g.P.Pipe.gave g.P.Pipe.took g.P.Pipe.counts l.fn.clients l.clients × NothingSaid g.P.Pipe.took l.fn.clients l.clients
+    × GoOutBelow g.P.Pipe.counts l.ticket l.fn.clients l.clients

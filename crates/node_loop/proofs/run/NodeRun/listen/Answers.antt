@@ -4,7 +4,7 @@ use Rattle.node_loop.specs.Hearing.{AreWired}
 use Rattle.node_loop.specs.Noting.{DidHear, emptied}
 use Rattle.node_loop.proofs.Noting.{did-joins, grown, leaves-did}
 use Rattle.node_loop.proofs.Hearing.{wired-join}
-use Rattle.node_loop.specs.Lives.{Admits, LiveOn}
+use Rattle.node_loop.specs.Lives.{Admits, AllRead, LiveOn}
 use Rattle.node_loop.proofs.Lives.{still-live}
 use Rattle.node_loop.proofs.Remembering.{remembers-equal, remembers-join}
 use Rattle.node_core.specs.View.{site_in}
@@ -65,4 +65,5 @@ returns-clause-answers g c =
       admits = subst (λ x. Admits x admitted) c.accept_links.ensures.rest.3 c.accept_clients.ensures.admits;
       answers = subst (λ x. AreAnswered g.D.P.Pipe.took x admitted served) site
           (subst (λ x. AreAnswered g.D.P.Pipe.took (site_in c.pull_all.new.self.node) x served) heard c.serve_all.ensures.answers);
+      reads = subst (λ x. AllRead g.D.P.Pipe.gave g.D.P.Pipe.took g.D.P.Pipe.counts x served) heard c.serve_all.ensures.reads;
     }

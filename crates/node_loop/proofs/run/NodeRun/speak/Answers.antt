@@ -1,5 +1,5 @@
 use Rattle.std.proofs.Common.{◌≡◌, ◌≤◌, ◌∙◌, List, ap, refl, subst, arith}
-use Rattle.node_loop.specs.Lives.{LiveOn}
+use Rattle.node_loop.specs.Lives.{AllGoOut, LiveOn}
 use Rattle.data_link.specs.Port.{frame_of}
 use Rattle.node_core.specs.View.{NodeView, state_of}
 use Rattle.node_loop.specs.Deeds.{Deed, IsLeave}
@@ -58,3 +58,6 @@ returns-clause-lives g c =
 
 pub returns-clause-nothing : goal.returns-clause-nothing
 returns-clause-nothing g c = subst (λ x. NothingSaid g.D.P.Pipe.took x c.write_all.new.clients) c.loop-id.invariant.4 c.write_all.ensures.nothing
+
+pub returns-clause-out : goal.returns-clause-out
+returns-clause-out g c = subst (λ x. AllGoOut g.D.P.Pipe.counts x c.write_all.new.clients) c.loop-id.invariant.4 c.write_all.ensures.out
