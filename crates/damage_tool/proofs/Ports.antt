@@ -1,13 +1,17 @@
 -- The parts of a port are written one after the other.
-use Rattle.std.proofs.Common.{◌≡◌, ◌∙◌, ap, Result, Ok, Err, IsOk, OnOk, ℕ, arith}
+use Rattle.std.proofs.Common.{◌≡◌, ◌∙◌, ◌<◌, ◌+◌, ap, sym, Result, Ok, Err, IsOk, OnOk, ℕ, List, length, get_or, drop, arith}
 use Rattle.std.proofs.Math.Path.{fun_ext}
 use Rattle.std.proofs.lemmas.Grind.{common_steps}
+use Rattle.std.proofs.lemmas.List.{at_drop_more}
+use Rattle.rand_pcg.specs.Lcg.{Lcg}
 use Rattle.topology.specs.At.{at}
+use Rattle.topology.specs.declared.frame.Ranges.{Ranges}
 use Rattle.run_model.specs.data_link.Port.{PortState}
 use Rattle.run_model.specs.node_core.State.{LocalState}
 use Rattle.run_model.specs.node_core.Writes.{with_port}
 use Rattle.damage_tool.specs.declared.draws.PortDraw.{PortDraw}
-use Rattle.damage_tool.specs.Scrambled.{port_written}
+use Rattle.damage_tool.specs.Draws.{draw_port}
+use Rattle.damage_tool.specs.Scrambled.{port_written, ports_scrambled}
 
 -- if a call that answers Ok does something, it is done
 pub on-ok : {T E P : Type 0} (r : Result T E) → IsOk r → OnOk r P → P
@@ -37,3 +41,14 @@ pub written : (w : ℕ) (d : PortDraw) (s0 s1 s2 s3 s4 : LocalState) → s1 ≡ 
     → s4 ≡ port_written w d s0
 written w d s0 s1 s2 s3 s4 a b c e =
     e ∙ ap (valued w d) (c ∙ ap (copied w d) (b ∙ ap (staged w d) a)) ∙ whole w d s0
+
+-- one port more is written
+pub ports-more : (r : Ranges) (near : List ℕ) (i : ℕ) (s s2 : LocalState) (g g2 : Lcg) (d : PortDraw) → i < length near
+    → d ≡ (draw_port r g).0 → g2 ≡ (draw_port r g).1 → s2 ≡ port_written (get_or near i 0) d s
+    → ports_scrambled r (drop i near) s g ≡ ports_scrambled r (drop (i + 1) near) s2 g2
+ports-more r near i s s2 g g2 d h drawn after wrote =
+    let w = get_or near i 0 in
+    let port = draw_port r g in
+    at_drop_more (λ (xs : List ℕ). ports_scrambled r xs s g) near i 0 h
+    ∙ sym (ap (λ (x : LocalState). ports_scrambled r (drop (i + 1) near) x g2) (wrote ∙ ap (λ (p : PortDraw). port_written w p s) drawn)
+    ∙ ap (λ (x : Lcg). ports_scrambled r (drop (i + 1) near) (port_written w port.0 s) x) after)

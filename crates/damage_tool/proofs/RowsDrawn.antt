@@ -1,5 +1,5 @@
 -- What is drawn, in which order, and which lists of harms are accepted.
-use Rattle.std.proofs.Common.{◌≡◌, ℕ, ◌<◌, zero, suc, List, [], ◌∷◌, Some, None, true, false, refl, sym, arith}
+use Rattle.std.proofs.Common.{◌≡◌, ℕ, List, [], ◌∷◌, Some, None, false, refl, sym, arith}
 use Rattle.std.proofs.lemmas.Bool.{false≢true}
 use Rattle.rand_pcg.specs.Lcg.{Lcg}
 use Rattle.topology.specs.declared.frame.Payload.{Payload}
@@ -8,7 +8,7 @@ use Rattle.run_model.specs.World.{World}
 use Rattle.run_model.specs.Step.{with_desk}
 use Rattle.run_model.specs.Start.{default_world}
 use Rattle.run_model.specs.declared.event.Event.{Event}
-use Rattle.run_model.specs.declared.event.Event.TheVariants.{Tick, Send, Damage}
+use Rattle.run_model.specs.declared.event.Event.TheVariants.{Tick, Damage}
 use Rattle.run_model.specs.declared.event.Harm.TheVariants as harm
 use Rattle.run_model.proofs.RowsTwo.{two_nodes, each-node}
 use Rattle.damage_tool.specs.declared.draws.PortDraw.{PortDraw}
