@@ -13,7 +13,8 @@ use Rattle.run_model.specs.declared.event.Event.TheVariants.{Damage}
 use Rattle.run_model.specs.declared.event.Harm.TheVariants as harm
 use Rattle.damage_tool.specs.declared.draws.PortDraw.{PortDraw}
 use Rattle.damage_tool.specs.Draws.{draw, draw_port}
-use Rattle.damage_tool.specs.Harms.{draw_each, draw_item, draw_item_harm, draw_own, port_harms, draw_port_harms, draw_desk, draw_node, draw_link}
+use Rattle.damage_tool.specs.Harms.{draw_each, draw_item, draw_item_harm, draw_link}
+use Rattle.damage_tool.specs.Harms.{draw_own, port_harms, draw_port_harms, draw_desk, draw_node}
 use Rattle.damage_tool.specs.Appended.{appended}
 
 -- the later list is the earlier one with more after it
@@ -85,7 +86,8 @@ module _ (draws : ℕ → Lcg → List Event × Lcg) where
       ap (λ ys. appended out (draw_each draws ys g)) (drop_more xs i 0 h)
       ∙ each-more draws (get_or xs i 0) (drop (i + 1) xs) out more g g2 e
 
-  pub place-end : (xs : List ℕ) (i : ℕ) (out : List Event) (g : Lcg) → length xs ≤ i → appended out (draw_each draws (drop i xs) g) ≡ (out, g)
+  pub place-end : (xs : List ℕ) (i : ℕ) (out : List Event) (g : Lcg) → length xs ≤ i
+      → appended out (draw_each draws (drop i xs) g) ≡ (out, g)
   place-end xs i out g h = each-none (drop i xs) out g (drop_all i xs h)
 
 -- a port is four events
@@ -131,7 +133,8 @@ node-of r near lease v old own =
     let desk = draw_desk lease v ports.1 in
     (old ++ ((own.0 ∷ ports.0) ++ desk.0 ∷ []), desk.1)
 
-three-drawn : (ports : List Event × Lcg) (draws : Lcg → Event × Lcg) (old first mid out : List Event) (own : Event) (desk : Event × Lcg) (g2 : Lcg)
+three-drawn : (ports : List Event × Lcg) (draws : Lcg → Event × Lcg) (old first mid out : List Event) (own : Event)
+    (desk : Event × Lcg) (g2 : Lcg)
     → first ≡ old ++ own ∷ [] → appended first ports ≡ (mid, g2) → desk ≡ draws g2 → out ≡ mid ++ desk.0 ∷ []
     → ◌≡◌ {A = List Event × Lcg} (out, desk.1) (old ++ ((own ∷ ports.0) ++ (draws ports.1).0 ∷ []), (draws ports.1).1)
 three-drawn ports draws old first mid out own desk g2 one some last all =
@@ -141,7 +144,8 @@ three-drawn ports draws old first mid out own desk g2 one some last all =
     ∙ ap (λ xs. (xs, desk.1)) (append_assoc (old ++ own ∷ []) ports.0 (desk.0 ∷ []) ∙ append_assoc old (own ∷ []) (ports.0 ++ desk.0 ∷ []))
     ∙ ap (λ (p : Event × Lcg). (old ++ ((own ∷ ports.0) ++ p.0 ∷ []), p.1)) d
 
-pub node-drawn : (net : Network) (v lease : ℕ) (r : Ranges) (near : List ℕ) (old first mid out : List Event) (own desk : Event × Lcg) (g g2 : Lcg)
+pub node-drawn : (net : Network) (v lease : ℕ) (r : Ranges) (near : List ℕ) (old first mid out : List Event)
+    (own desk : Event × Lcg) (g g2 : Lcg)
     → r ≡ ranges_of net → near ≡ neighbours_of net v → lease ≡ net.lease
     → own ≡ draw_own r v g → first ≡ old ++ own.0 ∷ []
     → appended first (draw_each (draw_port_harms r v) near own.1) ≡ (mid, g2)

@@ -17,7 +17,8 @@ loop-port-preserved g c =
     let r = ranges_of c.args.net.now in
     let same : c.ranges-ranges.result ≡ r = c.ranges-ranges.ensures.ranges ∙ ap (λ (s : Site). s.ranges) c.requires.site in (
       c.loop-port.invariant.0
-          ∙ ports-more r c.neighbours-neighbours.result.now c.loop-port.port-index (state_of c.loop-port.node) (state_of c.write_port.new.node) before
+          ∙ ports-more r c.neighbours-neighbours.result.now c.loop-port.port-index (state_of c.loop-port.node)
+          (state_of c.write_port.new.node) before
           port.new.generator port.result c.loop-port-test.true (port.ensures.drawn ∙ ap (λ (s : Ranges). (draw_port s before).0) same)
           (port.ensures.generator ∙ ap (λ (s : Ranges). (draw_port s before).1) same) wrote.state,
       wrote.site ∙ c.loop-port.invariant.1,

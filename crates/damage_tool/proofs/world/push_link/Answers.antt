@@ -1,6 +1,7 @@
 use Rattle.std.proofs.Common.{◌∙◌}
 use Rattle.damage_tool.specs.Harms.{draw_item_harm}
-use Rattle.damage_tool.proofs.Drawing.{err-owes-nothing, grows-as, grows-on, grows-self, item-drawn, link-drawn, range-begin, range-end, range-more}
+use Rattle.damage_tool.proofs.Drawing.{err-owes-nothing, grows-as, grows-on, grows-self}
+use Rattle.damage_tool.proofs.Drawing.{item-drawn, link-drawn, range-begin, range-end, range-more}
 use Rattle.damage_tool.proofs.world.push_link.Goals as goal
 
 pub loop-i-preserved : goal.loop-i-preserved
@@ -21,8 +22,9 @@ loop-i-preserved g c =
 pub loop-i-init : goal.loop-i-init
 loop-i-init g c =
     let out = c.push.new.self.items in
+    let count = c.draw_to-count in
     record {
-      drawn = range-begin (draw_item_harm c.ranges-ranges.result c.args.from c.args.to) c.draw_to-count.result out c.draw_to-count.new.generator;
+      drawn = range-begin (draw_item_harm c.ranges-ranges.result c.args.from c.args.to) count.result out count.new.generator;
       kept = grows-self out;
     }
 
@@ -53,9 +55,9 @@ returns g c =
     let count = c.draw_to-count in
     record {
       drawn =
-          link-drawn c.args.net.now c.args.from c.args.to c.capacity.result count.result r c.args.out.now.items first out c.args.generator.now
-          count.new.generator c.loop-i.generator c.ranges-ranges.ensures c.capacity.ensures.capacity count.ensures.drawn count.ensures.generator
-          c.in_ok-push.ensures.items
+          link-drawn c.args.net.now c.args.from c.args.to c.capacity.result count.result r c.args.out.now.items first out
+          c.args.generator.now count.new.generator c.loop-i.generator c.ranges-ranges.ensures c.capacity.ensures.capacity
+          count.ensures.drawn count.ensures.generator c.in_ok-push.ensures.items
           (c.loop-i.invariant.drawn
           ∙ range-end (draw_item_harm r c.args.from c.args.to) c.loop-i.i count.result out c.loop-i.generator c.loop-i-test.false);
       kept = grows-on c.args.out.now.items first out (_, c.in_ok-push.ensures.items) c.loop-i.invariant.kept;

@@ -30,7 +30,8 @@ returns g c =
     let near = c.neighbours-neighbours.result.now in
     record {
       drawn =
-          sym (c.loop-to.invariant.drawn ∙ place-end draws near c.loop-to.to-index c.loop-to.out.items c.loop-to.generator c.loop-to-test.false)
+          sym
+          (c.loop-to.invariant.drawn ∙ place-end draws near c.loop-to.to-index c.loop-to.out.items c.loop-to.generator c.loop-to-test.false)
           ∙ ap (λ (xs : List ℕ). appended c.args.out.now.items (draw_each draws xs c.args.generator.now)) c.neighbours-neighbours.ensures;
       kept = c.loop-to.invariant.kept;
     }

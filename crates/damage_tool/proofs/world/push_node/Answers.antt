@@ -67,7 +67,8 @@ returns g c =
           node-drawn c.args.net.now c.args.node c.lease.result r near old first out last (c.own_harm.result, c.own_harm.new.generator)
           (c.desk_harm.result, c.desk_harm.new.generator) c.args.generator.now c.loop-port.generator c.ranges-ranges.ensures
           c.neighbours-neighbours.ensures c.lease.ensures.lease c.own_harm.ensures c.in_ok-push.ensures.items
-          (c.loop-port.invariant.drawn ∙ place-end (draw_port_harms r c.args.node) near c.loop-port.port-index out c.loop-port.generator c.loop-port-test.false)
+          (c.loop-port.invariant.drawn
+          ∙ place-end (draw_port_harms r c.args.node) near c.loop-port.port-index out c.loop-port.generator c.loop-port-test.false)
           c.desk_harm.ensures c.in_ok-push-2.ensures.items;
       kept =
           grows-on old first last (_, c.in_ok-push.ensures.items)

@@ -45,9 +45,10 @@ loop-from-init g c =
 
 pub returns-in_err-push_node : goal.returns-in_err-push_node
 returns-in_err-push_node g c =
+    let node = c.loop-node in
     record {
       drawn = err-owes-nothing c.from_residual.result _ c.from_residual.ensures.0;
-      kept = grows-on c.args.out.now.items c.loop-node.out.items c.push_node.new.out.items c.loop-node.invariant.kept c.push_node.ensures.kept;
+      kept = grows-on c.args.out.now.items node.out.items c.push_node.new.out.items node.invariant.kept c.push_node.ensures.kept;
     }
 
 pub returns-in_err-push_links_from : goal.returns-in_err-push_links_from
@@ -73,8 +74,8 @@ returns g c =
     record {
       drawn =
           two-drawn (λ (h : Lcg). draw_each (draw_node net) (range_with_len 0 net.nodes) h)
-          (λ (h : Lcg). draw_each (draw_links_from net) (range_with_len 0 net.nodes) h) old node.out.items from.out.items c.args.generator.now
-          node.generator from.generator
+          (λ (h : Lcg). draw_each (draw_links_from net) (range_with_len 0 net.nodes) h) old node.out.items from.out.items
+          c.args.generator.now node.generator from.generator
           (node.invariant.drawn ∙ range-end (draw_node net) node.node net.nodes node.out.items node.generator all)
           (from.invariant.drawn ∙ range-end (draw_links_from net) from.from net.nodes from.out.items from.generator both);
       kept = grows-on old node.out.items from.out.items node.invariant.kept from.invariant.kept;
