@@ -9,7 +9,8 @@ use Rattle.socket_links.specs.declared.pipe.ReadAnswer.TheVariants as read
 use Rattle.node_loop.specs.declared.clients.Client.{Client}
 use Rattle.node_loop.specs.declared.clients.Clients.{Clients}
 use Rattle.node_loop.specs.Clients.{answers_of, SameClients}
-use Rattle.node_loop.specs.Lives.{FailsAt, Lives, Stays, Gave, Gives_later, Took, Takes_later, Then, LivesAt, LiveOn, ReadsAt, OthersStay, Admits, StillLive}
+use Rattle.node_loop.proofs.BeingRead.{read-here}
+use Rattle.node_loop.specs.Lives.{FailsAt, IsRead, IsReadAt, Lives, Stays, Gave, Gives_later, Took, Takes_later, Then, LivesAt, LiveOn, ReadsAt, OthersStay, Admits, StillLive}
 
 not-rose : (n m : ℕ) → Rose n m → m ≡ 0 → ⊥
 not-rose n m (inl more) none = omega (arith, more, none)
@@ -57,6 +58,25 @@ module _ {P : Type 0} (gave took : P → Option (List ℕ)) (counts : P → Coun
 
   reads-nobody : ReadsAt gave took counts read.Closed [] None None
   reads-nobody = (refl, refl)
+
+  -- a client that gave a byte was read, and one that is closed need not have been
+  read-got : (a b : Client P) → gave a.pipe ≡ Some [] → gave b.pipe ≡ Some (codes "u") → took b.pipe ≡ took a.pipe → counts b.pipe ≡ counts a.pipe
+      → IsReadAt gave took counts (Some a) (Some b)
+  read-got a b before after wrote same =
+      read-here gave took counts (read.Got 1) (codes "u") (Some a) (Some b) tt ((omega arith, omega arith, rw (before, after) refl, rw same (omega arith, omega arith, omega arith)), wrote)
+
+  read-closed : (a : Client P) → IsReadAt gave took counts (Some a) None
+  read-closed a = tt
+
+  unread : (p q : P) → IsRead gave took counts p q → IsFresh q → ⊥
+  unread p q (read.Got n, bytes, live, reads, same) f = not-grown (gave p) n bytes reads.0 reads.1 (subst (λ x. GoesOn (take n bytes) (gave p) x) f.0 reads.2)
+  unread p q (read.Later, bytes, live, reads, same) f = not-rose (counts p).later (counts q).later reads.2 f.2
+  unread p q (read.Closed, bytes, live, reads, same) f = elim live [ ]
+  unread p q (read.Failed, bytes, live, reads, same) f = elim live [ ]
+
+  -- one that gave nothing and said nothing was not
+  read_not-fresh : (a : Client P) → IsFresh a.pipe → ¬ IsReadAt gave took counts (Some a) (Some a)
+  read_not-fresh a fresh lived = unread lived.before lived.after lived.read (subst (λ x. IsFresh x) (fresh-stays lived.lives_on fresh) fresh)
 
   reads_not-of-nobody : ¬ ReadsAt gave took counts (read.Got 1) (codes "u") None None
   reads_not-of-nobody r = (let e : ◌≡◌ {A = ReadAnswer} (read.Got 1) read.Closed = r.1 in absurd cc)
