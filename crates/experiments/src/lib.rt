@@ -37,9 +37,8 @@ mod watch;
 
 pub use climbing::{Search, SlowRun, climb};
 pub use delay::{Delay, replay};
-pub use judge;
 pub use layered_run::{Settling, measure_layers};
-pub use layers;
+pub use layers::Layers;
 pub use measured_run::{Recovery, Scheduler, measure_run};
 pub use plan::{Order, PlanFault, give_plan};
 pub use schedules;

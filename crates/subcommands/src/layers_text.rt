@@ -5,7 +5,7 @@ ghost use Rattle.subcommands.specs.LayersText.{layer_line, links_line, stage_lin
 ghost use Rattle.command_parts.specs.world.judge.configuration.ConfigurationView.{world_of};
 
 use command_parts::world::World;
-use experiments::layers::Layers;
+use experiments::Layers;
 use std::alloc::{AllocError, Global};
 use std::fmt::Write;
 
