@@ -10,3 +10,4 @@ pub mod Scenes
 pub mod Parts
 pub mod Stretches
 pub mod StretchesFaithful
+pub mod Endings
