@@ -20,9 +20,9 @@ use Rattle.gather_command.specs.WeavingView.{WeavingView}
 use Rattle.gather_command.specs.declared.records.Opened.{Opened}
 use Rattle.gather_command.specs.Reading.{Reads, Begins, OpensNoMore}
 use Rattle.gather_command.specs.Records.{IsFileOf, IsRecordOf, AreRecordsOf, NoMore, OneMore, IsToCome, AreToCome, IsRecordFault, IsFault, flaws_in}
-use Rattle.gather_command.specs.Weave.{Moment, IsWoven}
+use Rattle.gather_command.specs.Weave.{IsWoven}
 use Rattle.gather_command.specs.Watch.{Seen, seen_after, seen_of, numbers_of}
-use Rattle.gather_command.specs.Woven.{world_in, IsAtStart, IsTurn, HasWoven, IsBroken}
+use Rattle.gather_command.specs.Woven.{world_in, IsAtStart, IsBroken}
 use Rattle.gather_command.specs.Gathered.{AreOpened, IsGathered, IsGatheredWhole, IsRefused, IsWovenOut}
 use Rattle.gather_command.proofs.Files.{fault-as}
 use Rattle.gather_command.proofs.Weaves.{was-all}

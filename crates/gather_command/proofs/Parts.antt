@@ -22,7 +22,7 @@ use Rattle.gather_command.specs.WeavingView.{WeavingView}
 use Rattle.gather_command.specs.Records.{AreRecordsOf, NoMore, OneMore, AreToCome, IsFault, flaws_in}
 use Rattle.gather_command.specs.Weave.{Moment, moment_at, heads_of, events_of, IsLed, IsWoven}
 use Rattle.gather_command.specs.Watch.{Seen, seen_after, seen_again, seen_of, numbers_of}
-use Rattle.gather_command.specs.Woven.{world_in, moved_to, IsAtStart, IsTurn, IsNoted, HasPassed, HasLed, IsCut, AreEarlier, IsOnePassed, ArePassed, HasWoven}
+use Rattle.gather_command.specs.Woven.{world_in, IsAtStart, IsTurn, IsNoted, HasPassed, HasLed, IsCut, AreEarlier, IsOnePassed, ArePassed}
 use Rattle.gather_command.specs.Scene.{events_to}
 use Rattle.gather_command.specs.declared.fault.GatherFault.TheVariants as fault
 use Rattle.gather_command.specs.Gathered.{AreOpened, IsRefused}

@@ -1,4 +1,4 @@
-use Rattle.std.proofs.Common.{◌≡◌, ap}
+use Rattle.std.proofs.Common.{ap}
 use Rattle.std.proofs.lemmas.Result.{IfOk-weaker}
 use Rattle.record_gathering.specs.configuration.run_model.World.{World}
 use Rattle.gather_command.specs.declared.gathered.Gathered.{Gathered}
