@@ -10,4 +10,3 @@ pub mod Scenes
 pub mod Parts
 pub mod Stretches
 pub mod StretchesFaithful
-pub mod Endings
