@@ -20,10 +20,10 @@ use Rattle.gather_command.specs.WeavingView.{WeavingView}
 use Rattle.gather_command.specs.declared.records.Opened.{Opened}
 use Rattle.gather_command.specs.Reading.{Reads, Begins, OpensNoMore}
 use Rattle.gather_command.specs.Records.{IsFileOf, IsRecordOf, AreRecordsOf, NoMore, OneMore, IsToCome, AreToCome, IsRecordFault, IsFault, flaws_in}
-use Rattle.gather_command.specs.Weave.{Moment, IsWoven}
+use Rattle.gather_command.specs.Weave.{IsWoven}
 use Rattle.gather_command.specs.Watch.{Seen, seen_after, seen_of, numbers_of}
-use Rattle.gather_command.specs.Woven.{world_in, IsAtStart, IsTurn, HasWoven, IsBroken}
-use Rattle.gather_command.specs.Gathered.{AreOpened, IsGathered, IsRefused}
+use Rattle.gather_command.specs.Woven.{world_in, IsAtStart, IsBroken}
+use Rattle.gather_command.specs.Gathered.{AreOpened, IsGathered, IsGatheredWhole, IsRefused, IsWovenOut}
 use Rattle.gather_command.proofs.Files.{fault-as}
 use Rattle.gather_command.proofs.Weaves.{was-all}
 
@@ -155,28 +155,42 @@ fails-with P (Err y) why e p = subst P (sym e) p
 
 -- ---- all is gathered
 
-pub gathered : {K : Type 0} (C : Type 0) (R : ℕ → Side → List Entry → Option FlawKind → Type 0)
-    (takes : K → List Event → K → Type 0) (failures : K → ℕ) (net : Network) (nodes : List NodeRecordView)
-    (start final : WeavingView) (before after : K) (ms : List Moment) (summary : Summary)
-    (differences : List Difference) (flaws : List Flaw) → AreOpened C R (network_mark net) 0 nodes → length nodes ≡ net.nodes → IsAtStart net nodes start
-    → HasWoven C takes failures start before ms final after → IsTurn final None
-    → summary ≡ numbers_of net.nodes final.seen → differences ≡ final.seen.damage.shown → flaws ≡ flaws_in final.records
-    → IsGathered R takes net before summary differences flaws after
-gathered C R takes failures net nodes start final before after ms summary differences flaws opened number at has none sum shown same =
-    let all = was-all C start final ms has.leads none in
-    let come : AreToCome C nodes all.before (flaws_in final.records) =
-    subst (λ (l : List NodeRecordView). AreToCome C l all.before (flaws_in final.records)) at.records_are all.come in
-    let (records, n) = opened all.before (flaws_in final.records) come in
+pub gathered-whole : {K : Type 0} (C : Type 0) (takes : K → List Event → K → Type 0) (failures : K → ℕ) (net : Network)
+    (nodes : List NodeRecordView) (start final : WeavingView) (before after : K) (summary : Summary)
+    (differences : List Difference) (flaws : List Flaw) → IsAtStart net nodes start
+    → IsWovenOut C takes failures net start before summary differences flaws final after
+    → IsGatheredWhole C takes net nodes before summary differences flaws after
+gathered-whole C takes failures net nodes start final before after summary differences flaws at x =
+    let ms = x.moments in
+    let all = was-all C start final ms x.woven.leads x.none_left in
     let from_queues : IsWoven (world_in start) (replicate net.nodes []) all.before ms =
     subst (λ (q : List (List ℕ)). IsWoven (world_in start) q all.before ms) at.queues all.woven in
-    let seen : final.seen ≡ seen_of net.nodes ms = has.seen ∙ ap (λ (s : Seen). fold seen_after s ms) at.seen in
+    let seen : final.seen ≡ seen_of net.nodes ms = x.woven.seen ∙ ap (λ (s : Seen). fold seen_after s ms) at.seen in
     record {
       entries = all.before;
       moments = ms;
-      records = subst (λ (l : List Flaw). AreRecordsOf R (network_mark net) 0 all.before l) (sym same) records;
-      all = n ∙ number;
+      come = subst (λ (fs : List Flaw). AreToCome C nodes all.before fs) (sym x.shown.flaws_are)
+          (subst (λ (l : List NodeRecordView). AreToCome C l all.before (flaws_in final.records)) at.records_are all.come);
       woven = subst (λ (w : World). IsWoven w (replicate net.nodes []) all.before ms) at.world from_queues;
-      taken = has.taken;
-      numbers = sum ∙ ap (numbers_of net.nodes) seen;
-      differences_are = shown ∙ ap (λ (s : Seen). s.damage.shown) seen;
+      taken = x.woven.taken;
+      numbers = x.shown.numbers ∙ ap (numbers_of net.nodes) seen;
+      differences_are = x.shown.differences_are ∙ ap (λ (s : Seen). s.damage.shown) seen;
+    }
+
+pub gathered : {K : Type 0} (C : Type 0) (R : ℕ → Side → List Entry → Option FlawKind → Type 0)
+    (takes : K → List Event → K → Type 0) (net : Network) (nodes : List NodeRecordView) (before after : K) (summary : Summary)
+    (differences : List Difference) (flaws : List Flaw) → AreOpened C R (network_mark net) 0 nodes → length nodes ≡ net.nodes
+    → IsGatheredWhole C takes net nodes before summary differences flaws after
+    → IsGathered R takes net before summary differences flaws after
+gathered C R takes net nodes before after summary differences flaws opened number x =
+    let (records, n) = opened x.entries flaws x.come in
+    record {
+      entries = x.entries;
+      moments = x.moments;
+      records = records;
+      all = n ∙ number;
+      woven = x.woven;
+      taken = x.taken;
+      numbers = x.numbers;
+      differences_are = x.differences_are;
     }

@@ -1,5 +1,5 @@
 -- A stretch of the records is gathered.
-use Rattle.std.proofs.Common.{◌≡◌, ◌∙◌, ap, sym, refl, subst, ℕ, suc, ◌<◌, ◌⊎◌, List, [], ◌∷◌, ◌++◌, Option, Some, None, Bool, true, false, inl, inr, length, replicate}
+use Rattle.std.proofs.Common.{◌≡◌, ◌∙◌, ap, sym, refl, subst, ℕ, suc, ◌<◌, ◌≤◌, ◌⊎◌, arith, List, [], ◌∷◌, ◌++◌, Option, Some, None, Bool, true, false, inl, inr, length, replicate}
 use Rattle.std.proofs.lemmas.List.Sums.{fold-append}
 use Rattle.std.specs.Prelude.{fold}
 use Rattle.topology.specs.Network.{Network}
@@ -22,11 +22,11 @@ use Rattle.gather_command.specs.WeavingView.{WeavingView}
 use Rattle.gather_command.specs.Records.{AreRecordsOf, NoMore, OneMore, AreToCome, IsFault, flaws_in}
 use Rattle.gather_command.specs.Weave.{Moment, moment_at, heads_of, events_of, IsLed, IsWoven}
 use Rattle.gather_command.specs.Watch.{Seen, seen_after, seen_again, seen_of, numbers_of}
-use Rattle.gather_command.specs.Woven.{world_in, moved_to, IsAtStart, IsTurn, IsNoted, HasPassed, HasLed, IsCut, AreEarlier, IsOnePassed, ArePassed, HasWoven}
-use Rattle.gather_command.specs.Scene.{SceneView, events_to, IsSetUp}
+use Rattle.gather_command.specs.Woven.{world_in, IsAtStart, IsTurn, IsNoted, HasPassed, HasLed, IsCut, AreEarlier, IsOnePassed, ArePassed}
+use Rattle.gather_command.specs.Scene.{events_to}
 use Rattle.gather_command.specs.declared.fault.GatherFault.TheVariants as fault
-use Rattle.gather_command.specs.Gathered.{AreOpened, IsFinished, IsRefused}
-use Rattle.gather_command.specs.Part.{IsFromThenOn, seen_from, IsGatheredOf, IsGatheredFrom}
+use Rattle.gather_command.specs.Gathered.{AreOpened, IsRefused}
+use Rattle.gather_command.specs.Part.{IsFromThenOn, seen_from, IsGatheredOf, IsGatheredFrom, IsWovenFrom}
 use Rattle.gather_command.proofs.Gathers.{record-as, record-fault-as, fault-refused}
 use Rattle.gather_command.proofs.Weaves.{heads-agree, one-leads, none-leads, both-lead, was-all}
 
@@ -95,30 +95,34 @@ from-then-on instant w left same (inr (v, e, (turn, head, number), late)) = inr 
 
 pub gathered-of : {K : Type 0} (C : Type 0) (takes : K → List Event → K → Type 0) (failures : K → ℕ)
     (takes_both : (a b c : K) (xs ys : List Event) → takes a xs b → takes b ys c → takes a (xs ++ ys) c)
-    (net : Network) (instant : ℕ) (nodes : List NodeRecordView) (start mid moved final : WeavingView) (scene : SceneView)
-    (before between after : K) (front back : List Moment) (summary : Summary) (differences : List Difference) (flaws : List Flaw)
-    → IsAtStart net nodes start → ArePassed C instant start front mid
-    → IsSetUp takes failures net (world_in mid) before scene between → moved ≡ moved_to mid scene.gathering scene.found
-    → HasWoven C takes failures moved between back final after → IsTurn final None
-    → IsFinished net final summary differences flaws
+    (net : Network) (instant : ℕ) (nodes : List NodeRecordView) (start final : WeavingView) (before after : K)
+    (summary : Summary) (differences : List Difference) (flaws : List Flaw) → IsAtStart net nodes start
+    → IsWovenFrom C takes failures net instant start before summary differences flaws final after
     → IsGatheredOf C takes net instant nodes before summary differences flaws after
-gathered-of C takes failures takes_both net instant nodes start mid moved final scene before between after front back summary differences flaws at passed set same has none shown =
+gathered-of C takes failures takes_both net instant nodes start final before after summary differences flaws at x =
+    let front = x.front in
+    let mid = x.mid in
+    let moved = x.moved in
+    let (scene, set, same) = x.set in
+    let back = x.rest.moments in
+    let has = x.rest.woven in
+    let shown = x.rest.shown in
     let world = world_in mid in
     let es = events_to net world in
-    let all = was-all C moved final back has.leads none in
+    let all = was-all C moved final back has.leads x.rest.none_left in
     let left = all.before in
     let left_come : AreToCome C mid.records left (flaws_in final.records) =
-    subst (λ (x : WeavingView). AreToCome C x.records left (flaws_in final.records)) same all.come in
-    let (entries, come, led) = passed.led.leads left (flaws_in final.records) left_come in
+    subst (λ (w : WeavingView). AreToCome C w.records left (flaws_in final.records)) same all.come in
+    let (entries, come, led) = x.passed.led.leads left (flaws_in final.records) left_come in
     let begun : IsLed (world_in start) start.gathering.queues entries front world mid.gathering.queues left = led in
     let begun_at : IsLed (world_with_spares net 8) (replicate net.nodes []) entries front world mid.gathering.queues left =
     subst (λ (w : World). IsLed w (replicate net.nodes []) entries front world mid.gathering.queues left) at.world
     (subst (λ (q : List (List ℕ)). IsLed (world_in start) q entries front world mid.gathering.queues left) at.queues begun) in
     let woven_mid : IsWoven (gathered scene.gathering) mid.gathering.queues left back =
-    subst (λ (x : WeavingView). IsWoven (world_in x) x.gathering.queues left back) same all.woven in
-    let first : mid.seen ≡ seen_of net.nodes front = passed.led.seen ∙ ap (λ (s : Seen). fold seen_after s front) at.seen in
+    subst (λ (w : WeavingView). IsWoven (world_in w) w.gathering.queues left back) same all.woven in
+    let first : mid.seen ≡ seen_of net.nodes front = x.passed.led.seen ∙ ap (λ (s : Seen). fold seen_after s front) at.seen in
     let again : moved.seen ≡ seen_again (seen_of net.nodes front) (with_events nothing es) =
-    ap (λ (x : WeavingView). x.seen) same ∙ ap (λ (s : Seen). seen_again s scene.found) first
+    ap (λ (w : WeavingView). w.seen) same ∙ ap (λ (s : Seen). seen_again s scene.found) first
     ∙ ap (seen_again (seen_of net.nodes front)) set.found in
     let seen : final.seen ≡ seen_from net.nodes front es back = has.seen ∙ ap (λ (s : Seen). fold seen_after s back) again in
     record {
@@ -132,14 +136,22 @@ gathered-of C takes failures takes_both net instant nodes start mid moved final 
         queues = mid.gathering.queues;
         left = left;
         begun = begun_at;
-        earlier = passed.earlier;
-        cut = from-then-on instant mid left (sym (heads-agree C mid.records left (flaws_in final.records) left_come)) passed.cut;
+        earlier = x.passed.earlier;
+        cut = from-then-on instant mid left (sym (heads-agree C mid.records left (flaws_in final.records) left_come)) x.passed.cut;
         woven = subst (λ (w : World). IsWoven w mid.gathering.queues left back) set.world woven_mid;
-        taken = takes_both before between after es (events_of back) set.taken has.taken;
+        taken = takes_both before x.between after es (events_of back) set.taken has.taken;
         numbers = shown.numbers ∙ ap (numbers_of net.nodes) seen;
         differences_are = shown.differences_are ∙ ap (λ (s : Seen). s.damage.shown) seen;
       };
     }
+
+-- the sink failed no less often
+pub from-counted : {K : Type 0} (C : Type 0) (takes : K → List Event → K → Type 0) (failures : K → ℕ) (net : Network) (instant : ℕ)
+    (start final : WeavingView) (before after : K) (summary : Summary) (differences : List Difference) (flaws : List Flaw)
+    → IsWovenFrom C takes failures net instant start before summary differences flaws final after
+    → failures before ≤ failures after
+from-counted C takes failures net instant start final before after summary differences flaws x =
+    let (scene, set, same) = x.set in omega (arith, set.counted, x.rest.woven.counted)
 
 -- ---- records that were opened
 

@@ -1,16 +1,30 @@
 -- Records are read to their ends, one after the other.
-use Rattle.std.proofs.Common.{◌≡◌, ◌∙◌, ap, sym, refl, subst, arith, ℕ, suc, ◌+◌, List, [], ◌∷◌, ◌++◌, Option, Some, None, length, append_assoc}
-use Rattle.std.proofs.lemmas.List.{append-nil, length-append}
+use Rattle.std.proofs.Common.{◌≡◌, ◌∙◌, ap, sym, refl, subst, arith, ℕ, suc, ◌+◌, ◌-◌, ◌^◌, ◌<◌, List, [], ◌∷◌, ◌++◌, Option, Some, None, length, take, append_assoc}
+use Rattle.std.proofs.lemmas.List.{append-nil, length-append, map-append, take_more}
 use Rattle.std.proofs.lemmas.List.Sums.{fold-append}
-use Rattle.std.specs.Prelude.{max}
+use Rattle.std.specs.Prelude.{max, slice_index_or}
 use Rattle.record_gathering.specs.flight_records.declared.entry.Entry.{Entry}
 use Rattle.flight_recorder.specs.declared.recorder.Side.{Side}
 use Rattle.gather_command.specs.declared.fault.Flaw.{Flaw}
 use Rattle.gather_command.specs.declared.fault.FlawKind.{FlawKind}
-use Rattle.gather_command.specs.View.{NodeRecordView}
+use Rattle.gather_command.specs.View.{NodeRecordView, heads_in}
 use Rattle.gather_command.specs.Records.{listed, IsRecordOf, AreRecordsOf, NoMore, OneMore, IsToCome, GoesOn, flaws_of}
-use Rattle.gather_command.specs.Stretch.{later_of, greatest_in, IsReadThrough}
+use Rattle.gather_command.specs.Stretch.{earlier_of, least_of, later_of, greatest_in, IsReadThrough}
 use Rattle.gather_command.proofs.Weaves.{ended-one}
+
+-- ---- the earliest of the next entries
+
+pub earliest-step : (rs : List NodeRecordView) (i : ℕ) (r : NodeRecordView) (old new : ℕ) → r ≡ slice_index_or rs i r → i < length rs
+    → new ≡ earlier_of old r.head → old ≡ least_of (heads_in (take i rs)) → new ≡ least_of (heads_in (take (i + 1) rs))
+earliest-step rs i r old new same l one before =
+    let first = take i rs in
+    let least : List NodeRecordView → ℕ = λ xs. least_of (heads_in xs) in
+    let more : (x : NodeRecordView) → least (first ++ x ∷ []) ≡ earlier_of (least first) x.head =
+    λ x. ap least_of (map-append (λ (y : NodeRecordView). y.head) first (x ∷ []))
+    ∙ fold-append earlier_of (2 ^ 64 - 1) (heads_in first) (x.head ∷ []) in
+    one ∙ ap (λ (t : ℕ). earlier_of t r.head) before ∙ sym (more r)
+    ∙ ap (λ (x : NodeRecordView). least (first ++ x ∷ [])) same
+    ∙ sym (ap least (take_more rs i r l))
 
 -- ---- one record
 

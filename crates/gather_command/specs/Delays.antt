@@ -1,6 +1,6 @@
 -- How long frames were under way: from the instant at which their link accepted them to that at which they
 -- were taken, each by the clock of the node that did it.
-use Rattle.std.specs.Prelude.{ℕ, ◌+◌, ◌-◌, ◌*◌, max, Option, Some, None, Bool, if◌then◌else◌, nat_lt, List, [], ◌∷◌, ◌++◌, length, take, drop, replicate, fold, slice_get, slice_index_or, slice_set}
+use Rattle.std.specs.Prelude.{ℕ, ◌+◌, ◌-◌, ◌*◌, max, Option, Some, None, if◌then◌else◌, nat_lt, List, [], ◌∷◌, ◌++◌, length, take, drop, replicate, fold, slice_get, slice_index_or, slice_set}
 use Rattle.record_gathering.specs.configuration.run_model.declared.event.Event.{Event}
 use Rattle.record_gathering.specs.configuration.run_model.declared.event.Event.TheVariants as event
 use Rattle.record_gathering.specs.configuration.run_model.declared.event.Harm.{Harm}

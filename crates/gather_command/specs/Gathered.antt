@@ -1,5 +1,5 @@
 -- What is gathered of the records of all nodes.
-use Rattle.std.specs.Prelude.{◌≡◌, ℕ, List, [], Option, replicate, length}
+use Rattle.std.specs.Prelude.{◌≡◌, ℕ, List, [], Option, None, replicate, length}
 use Rattle.topology.specs.Network.{Network}
 use Rattle.record_pages.specs.byte_streams.Streams.{Rose}
 use Rattle.node_recorder.specs.Turns.{network_mark}
@@ -18,6 +18,7 @@ use Rattle.gather_command.specs.Records.{AreRecordsOf, AreToCome, IsFault, flaws
 use Rattle.gather_command.specs.Weave.{Moment, events_of, IsWoven}
 use Rattle.gather_command.specs.Watch.{seen_of, numbers_of, summary_of}
 use Rattle.gather_command.specs.WeavingView.{WeavingView}
+use Rattle.gather_command.specs.Woven.{IsTurn, HasWoven}
 
 -- The records of all nodes were read to their ends, or to their first flaws, and woven from the network
 -- as it starts. A sink took the events of what was woven, and they are counted; the first differences are
@@ -40,6 +41,27 @@ pub record IsFinished (net : Network) (w : WeavingView) (summary : Summary) (dif
   pub numbers : summary ≡ numbers_of net.nodes w.seen
   pub differences_are : differences ≡ w.seen.damage.shown
   pub flaws_are : flaws ≡ flaws_in w.records
+
+-- All entries that were left were woven, and a sink took their events. This is what was seen.
+pub record IsWovenOut {K : Type 0} (Fails : Type 0) (takes : K → List Event → K → Type 0) (failures : K → ℕ) (net : Network)
+    (old : WeavingView) (before : K) (summary : Summary) (differences : List Difference) (flaws : List Flaw)
+    (new : WeavingView) (after : K) : Type 0 where
+  pub moments : List Moment
+  pub woven : HasWoven Fails takes failures old before moments new after
+  pub none_left : IsTurn new None
+  pub shown : IsFinished net new summary differences flaws
+
+-- All that was to come of the records of all nodes was woven from the network as it starts.
+pub record IsGatheredWhole {K : Type 0} (Fails : Type 0) (takes : K → List Event → K → Type 0) (net : Network)
+    (nodes : List NodeRecordView) (before : K) (summary : Summary) (differences : List Difference) (flaws : List Flaw)
+    (after : K) : Type 0 where
+  pub entries : List (List Entry)
+  pub moments : List Moment
+  pub come : AreToCome Fails nodes entries flaws
+  pub woven : IsWoven (world_with_spares net 8) (replicate net.nodes []) entries moments
+  pub taken : takes before (events_of moments) after
+  pub numbers : summary ≡ summary_of net.nodes moments
+  pub differences_are : differences ≡ (seen_of net.nodes moments).damage.shown
 
 -- why nothing was gathered: the sink failed, or memory ran out, or there are too many entries; or a record
 -- is refused, and then the sink is as it was

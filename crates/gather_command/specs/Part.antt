@@ -20,10 +20,11 @@ use Rattle.gather_command.specs.View.{NodeRecordView}
 use Rattle.gather_command.specs.Records.{AreRecordsOf, AreToCome}
 use Rattle.gather_command.specs.Weave.{Moment, heads_of, events_of, IsLed, IsWoven}
 use Rattle.gather_command.specs.Watch.{Seen, seen_after, seen_again, seen_of, numbers_of}
-use Rattle.gather_command.specs.Woven.{AreEarlier}
-use Rattle.gather_command.specs.Scene.{events_to}
+use Rattle.gather_command.specs.WeavingView.{WeavingView}
+use Rattle.gather_command.specs.Woven.{world_in, moved_to, AreEarlier, ArePassed}
+use Rattle.gather_command.specs.Scene.{SceneView, events_to, IsSetUp}
 use Rattle.gather_command.specs.Stretch.{after_first, before_last, least_of, IsLatest}
-use Rattle.gather_command.specs.Gathered.{IsGathered}
+use Rattle.gather_command.specs.Gathered.{IsGathered, IsWovenOut}
 
 -- of the entries that are still to come, the next one is of this instant or later; or none is left
 abbrev pub IsFromThenOn : ℕ → World → List (List Entry) → Type 0
@@ -35,6 +36,25 @@ IsFromThenOn instant w left =
 -- what is seen of entries, if others were woven before and events then set up the world
 abbrev pub seen_from : ℕ → List Moment → List Event → List Moment → Seen
 seen_from n front es back = fold seen_after (seen_again (seen_of n front) (with_events nothing es)) back
+
+-- the network was set up as the world of a weaving stood, and the weaving went on there
+abbrev pub IsSetThere : {K : Type 0} → (K → List Event → K → Type 0) → (K → ℕ) → Network → WeavingView → K → WeavingView → K → Type 0
+IsSetThere takes failures net old before new after =
+    (scene : SceneView) × IsSetUp takes failures net (world_in old) before scene after
+    × (new ≡ moved_to old scene.gathering scene.found)
+
+-- Entries were woven up to the first one of an instant or later, and their events went nowhere. Then the
+-- network was set up as the world stood, and all other entries were woven from there.
+pub record IsWovenFrom {K : Type 0} (Fails : Type 0) (takes : K → List Event → K → Type 0) (failures : K → ℕ) (net : Network)
+    (instant : ℕ) (old : WeavingView) (before : K) (summary : Summary) (differences : List Difference) (flaws : List Flaw)
+    (new : WeavingView) (after : K) : Type 0 where
+  pub front : List Moment
+  pub mid : WeavingView
+  pub moved : WeavingView
+  pub between : K
+  pub passed : ArePassed Fails instant old front mid
+  pub set : IsSetThere takes failures net mid before moved between
+  pub rest : IsWovenOut Fails takes failures net moved between summary differences flaws new after
 
 -- The entries were woven from the network as it starts, up to the first one of an instant or later, and
 -- led to a world. A sink took the events that set up the network as that world stands, and those of the

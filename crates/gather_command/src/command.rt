@@ -1,13 +1,15 @@
 //! `gather DIR`: what the nodes of a folder did, as a list of events.
-ghost use Rattle.std.specs.Prelude.{◌≡◌, ◌⊎◌, [], IfOk, IfErr, None, OnOk, length};
+ghost use Rattle.std.specs.Prelude.{◌≡◌, ◌⊎◌, [], IfOk, IfErr, Err, None, OnOk, is_some, length};
 ghost use Rattle.std.specs.Io.Buffered.{writer_buffer, writer_contents};
 ghost use Rattle.std.specs.Process.{exit_status};
 ghost use Rattle.command_parts.specs.EventText.{GrowsByText};
-ghost use Rattle.command_parts.specs.declared.fault.Fault.TheVariants.{Memory};
+ghost use Rattle.command_parts.specs.declared.fault.Fault.TheVariants.{Memory, Network};
 ghost use Rattle.gather_command.specs.Reading.{MayFail, Reads, Begins};
 ghost use Rattle.gather_command.specs.Gathered.{IsRefused};
 ghost use Rattle.gather_command.specs.Part.{IsGatheredAs};
-ghost use Rattle.gather_command.specs.Ends.{EndsWith, flaws_status};
+ghost use Rattle.gather_command.specs.Ends.{EndsWith, flaws_status, print_fault};
+ghost use Rattle.gather_command.specs.Ends.{IsPrintFault, PrintingEndsWith};
+ghost use Rattle.gather_command.specs.Network.{network_by, IsNetworkBy};
 
 use crate::damage::Difference;
 use crate::fault::{Flaw, GatherFault};
@@ -21,7 +23,7 @@ use crate::part::gather_stretch;
 use crate::records::Records;
 use crate::stretch::Stretch;
 use crate::summary::Summary;
-use command_parts::{EventText, Fault, read_network};
+use command_parts::{EventText, Fault, NetworkFault, read_network};
 use std::alloc::Global;
 use std::fs;
 use std::io::{BufWriter, Write, writer};
@@ -58,17 +60,13 @@ pub fn run<R: Files + Print + Eprint + AllocGlobal>(
         say_no_folder(rt, dir);
         return Ok(ExitCode::FAILURE);
     }
-    match print_events(rt, dir, &net, stretch)? {
-        Ok(gathered) => {
-            say_gathered(rt, dir, &gathered);
-            Ok(flaws_status(&gathered.flaws))
-        }
-        Err(fault) => ended(rt, dir, fault),
-    }
+    printing_ended(rt, dir, print_events(rt, dir, &net, stretch))
 }
 
 /// The network of the file that is given, or else of the one that the nodes of the folder kept. If they
 /// kept none, a line says so and what to do, and none is returned.
+///
+/// What is unproved: which network the file gives. No file says it. [`network_by`] says the rest.
 ///
 /// # Errors
 /// If the file that is given gives no network, or memory runs out.
@@ -79,15 +77,35 @@ fn network_of<R: Files + Eprint + AllocGlobal>(
 ) -> Result<Option<Net>, Fault>
     ensures given { IfOk result (λ net. net ≡ None → network.entry ≡ None) }
     ensures kept { network.entry ≡ None → IfErr result (λ fault. fault ≡ Memory) }
+    // But for memory, the answer is by what the file gave.
+    ensures by { (result ≡ Err Memory) ⊎ IsNetworkBy Network (is_some network.entry) result }
 {
     let Ok(path) = network_path(rt.alloc(), dir, network) else {
         return Err(Fault::Memory);
     };
-    match (read_network(rt, path.as_str()), network) {
-        (Ok(net), _) => Ok(Some(net)),
-        (Err(fault), Some(_)) => Err(Fault::Network(fault)),
-        (Err(fault), None) => {
-            say_none_kept(rt, dir, path.as_str(), Fault::Network(fault));
+    let read = read_network(rt, path.as_str());
+    network_by(rt, dir, path.as_str(), network.is_some(), read)
+}
+
+/// The network, by what its file gave: the one that is given, or else the one that the nodes of the folder
+/// kept. If they kept none, a line says so and what to do, and none is returned.
+///
+/// # Errors
+/// If the file that is given gave no network.
+fn network_by<R: Files + Eprint>(
+    rt: &R,
+    dir: &str,
+    path: &str,
+    is_given: bool,
+    read: Result<Net, NetworkFault>,
+) -> Result<Option<Net>, Fault>
+    ensures { result ≡ network_by Network is_given read }
+{
+    match read {
+        Ok(net) => Ok(Some(net)),
+        Err(fault) if is_given => Err(Fault::Network(fault)),
+        Err(fault) => {
+            say_none_kept(rt, dir, path, Fault::Network(fault));
             Ok(None)
         }
     }
@@ -116,24 +134,50 @@ fn is_folder<F: Files>(files: &F, dir: &str) -> bool {
     }
 }
 
+/// Why not all events were printed.
+#[derive(Clone, Copy)]
+enum PrintFault {
+    /// The records become no events, or memory ran out, or there are too many entries.
+    Gathering(GatherFault),
+    /// Standard output did not take them.
+    Output(Fault),
+}
+
 /// Prints the events that the records of a folder become.
 ///
 /// # Errors
-/// If memory runs out for the printing, or standard output fails.
+/// As [`gather_text`]. A fault of the output is the one that the command ends with.
 fn print_events<R: Files + Print + Eprint + AllocGlobal>(
     rt: &R,
     dir: &str,
     net: &Net,
     stretch: Stretch,
-) -> Result<Result<Gathered, GatherFault>, Fault> {
+) -> Result<Gathered, PrintFault>
+    ensures { IfErr result IsPrintFault }
+{
     let Ok(output) = BufWriter::new(rt.alloc(), writer(rt)) else {
-        return Err(Fault::Memory);
+        return Err(PrintFault::Gathering(GatherFault::Memory));
     };
     let mut records = FolderRecords::new(rt, dir);
     let mut text = EventText::new(output);
     match gather_text(rt.alloc(), net, &mut records, stretch, &mut text) {
-        Err(GatherFault::Output) => Err(text.fault(rt, Fault::Output)),
-        gathered => Ok(gathered),
+        Ok(gathered) => Ok(gathered),
+        Err(fault) => Err(print_fault(rt, fault, &text)),
+    }
+}
+
+/// Why a text of events that goes to standard output ended with this fault.
+fn print_fault<R: Eprint, W: Write + Drop>(
+    rt: &R,
+    fault: GatherFault,
+    text: &EventText<W>,
+) -> PrintFault
+    ensures fault { result ≡ print_fault fault text.now.first }
+    ensures is_one { IsPrintFault result }
+{
+    match fault {
+        GatherFault::Output => PrintFault::Output(text.fault(rt, Fault::Output)),
+        _ => PrintFault::Gathering(fault),
     }
 }
 
@@ -208,6 +252,25 @@ fn say_difference<R: Eprint>(rt: &R, difference: Difference) {
 fn say_flaw<R: Eprint>(rt: &R, dir: &str, flaw: Flaw) {
     let line = FlawLine { dir, flaw };
     let _ = eprintln!(rt; "tokentree: {line}");
+}
+
+/// How the command ends after this printing. What the records show is said here, or why they become no
+/// events.
+fn printing_ended<R: Eprint>(
+    rt: &R,
+    dir: &str,
+    printed: Result<Gathered, PrintFault>,
+) -> Result<ExitCode, Fault>
+    ensures { PrintingEndsWith printed result }
+{
+    match printed {
+        Ok(gathered) => {
+            say_gathered(rt, dir, &gathered);
+            Ok(flaws_status(&gathered.flaws))
+        }
+        Err(PrintFault::Gathering(fault)) => ended(rt, dir, fault),
+        Err(PrintFault::Output(fault)) => Err(fault),
+    }
 }
 
 /// The status after events were gathered, with these flaws.

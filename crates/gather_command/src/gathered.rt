@@ -8,6 +8,7 @@ ghost use Rattle.gather_command.specs.Weave.{moment_at};
 ghost use Rattle.gather_command.specs.Woven.{IsOneWoven, AreAllWoven, IsTurn, HasWoven, IsBroken};
 ghost use Rattle.gather_command.specs.Woven.{world_in};
 ghost use Rattle.gather_command.specs.Gathered.{IsGathered, IsRefused, AreOpened, IsFinished};
+ghost use Rattle.gather_command.specs.Gathered.{IsGatheredWhole, IsWovenOut};
 
 use crate::damage::Difference;
 use crate::fault::{Flaw, GatherFault};
@@ -79,14 +80,46 @@ pub fn gather<R: Records, S: EventSink>(
         (Begins (R.opens records.old) R.File.rest) S.failures net.now sink.old fault sink.new) }
 {
     let nodes = open_all(alloc, net, records)?;
+    gather_whole(alloc, net, nodes, sink)
+}
+
+/// Gathers all that is to come of records that were opened.
+fn gather_whole<F: Source + Drop, S: EventSink>(
+    alloc: Global,
+    net: &Net,
+    nodes: Vec<NodeRecord<F>>,
+    sink: &mut S,
+) -> Result<Gathered, GatherFault>
+    requires { length nodes.items ≡ net.now.nodes }
+    ensures gathered { IfOk result (λ g. IsGatheredWhole (MayFail F.failures) S.takes net.now
+        nodes.items sink.old g.summary g.differences.items g.flaws.items sink.new) }
+    ensures counted { OnOk result (S.failures sink.old ≤ S.failures sink.new) }
+    ensures broken { IfErr result (λ fault.
+        IsBroken fault (S.failures sink.old) (S.failures sink.new)) }
+{
     let mut weaving = Weaving::new(alloc, net, nodes)?;
-    weave_all(alloc, &mut weaving, sink)?;
-    let gathered = finish(alloc, net, &weaving)?;
+    weave_out(alloc, net, &mut weaving, sink)
+}
+
+/// Weaves all entries that are left. What is seen of them and of those before is gathered.
+pub fn weave_out<F: Source + Drop, S: EventSink>(
+    alloc: Global,
+    net: &Net,
+    weaving: &mut Weaving<F>,
+    sink: &mut S,
+) -> Result<Gathered, GatherFault>
+    ensures woven { IfOk result (λ g. IsWovenOut (MayFail F.failures) S.takes S.failures net.now
+        weaving.old sink.old g.summary g.differences.items g.flaws.items weaving.new sink.new) }
+    ensures broken { IfErr result (λ fault.
+        IsBroken fault (S.failures sink.old) (S.failures sink.new)) }
+{
+    weave_all(alloc, weaving, sink)?;
+    let gathered = finish(alloc, net, weaving)?;
     Ok(gathered)
 }
 
 /// What a weaving of all nodes' records shows, in which no entry is left.
-pub fn finish<S: Source + Drop>(
+fn finish<S: Source + Drop>(
     alloc: Global,
     net: &Net,
     weaving: &Weaving<S>,
@@ -136,7 +169,7 @@ fn add_record<S: Source + Drop>(
 }
 
 /// Weaves entries, one after the other, until none is left.
-pub fn weave_all<S: Source + Drop, K: EventSink>(
+fn weave_all<S: Source + Drop, K: EventSink>(
     alloc: Global,
     weaving: &mut Weaving<S>,
     sink: &mut K,

@@ -5,11 +5,11 @@ ghost use Rattle.gather_command.specs.Weave.{Moment, moment_at};
 ghost use Rattle.gather_command.specs.Woven.{world_in, IsTurn, HasLed, IsOnePassed, ArePassed};
 ghost use Rattle.gather_command.specs.Woven.{IsBroken};
 ghost use Rattle.gather_command.specs.Gathered.{IsRefused};
-ghost use Rattle.gather_command.specs.Part.{IsGatheredOf, IsGatheredAs};
+ghost use Rattle.gather_command.specs.Part.{IsGatheredOf, IsGatheredAs, IsWovenFrom, IsSetThere};
 ghost use Rattle.gather_command.specs.declared.stretch.Stretch.TheVariants.{From, Last};
 
 use crate::fault::GatherFault;
-use crate::gathered::{Gathered, finish, gather, open_all, weave_all};
+use crate::gathered::{Gathered, gather, open_all, weave_out};
 use crate::node_record::NodeRecord;
 use crate::records::Records;
 use crate::scene::set_up;
@@ -71,8 +71,7 @@ fn gather_from<R: Records, S: EventSink>(
 {
     let nodes = open_all(alloc, net, records)?;
     let instant = after_first(earliest(&nodes), seconds);
-    let gathered = gather_opened(alloc, net, nodes, instant, sink)?;
-    Ok(gathered)
+    gather_opened(alloc, net, nodes, instant, sink)
 }
 
 /// Gathers what comes so many seconds before the latest entry of all records, and later. All records are
@@ -95,8 +94,7 @@ fn gather_last<R: Records, S: EventSink>(
     let last = latest(alloc, net, records)?;
     let nodes = open_all(alloc, net, records)?;
     let instant = before_last(last, seconds);
-    let gathered = gather_opened(alloc, net, nodes, instant, sink)?;
-    Ok(gathered)
+    gather_opened(alloc, net, nodes, instant, sink)
 }
 
 /// Gathers what comes at an instant and later, of records that were opened.
@@ -115,13 +113,48 @@ fn gather_opened<F: Source + Drop, S: EventSink>(
         IsBroken fault (S.failures sink.old) (S.failures sink.new)) }
 {
     let mut weaving = Weaving::new(alloc, net, nodes)?;
-    weave_until(alloc, &mut weaving, instant)?;
+    weave_from(alloc, net, &mut weaving, instant, sink)
+}
+
+/// Weaves all entries that are left. What comes at an instant and later is gathered; the list begins with
+/// events that set up the network as it stood when that came next.
+fn weave_from<F: Source + Drop, S: EventSink>(
+    alloc: Global,
+    net: &Net,
+    weaving: &mut Weaving<F>,
+    instant: u64,
+    sink: &mut S,
+) -> Result<Gathered, GatherFault>
+    requires { (world_in weaving.old).net.nodes ≡ net.now.nodes }
+    ensures woven { IfOk result (λ g. IsWovenFrom (MayFail F.failures) S.takes S.failures net.now
+        instant weaving.old sink.old g.summary g.differences.items g.flaws.items weaving.new
+        sink.new) }
+    ensures broken { IfErr result (λ fault.
+        IsBroken fault (S.failures sink.old) (S.failures sink.new)) }
+{
+    weave_until(alloc, weaving, instant)?;
+    set_there(alloc, net, weaving, sink)?;
+    weave_out(alloc, net, weaving, sink)
+}
+
+/// Sets up the network as the world of a weaving stands, and has the weaving go on there. The sink takes
+/// the events that lead there.
+fn set_there<F: Source + Drop, S: EventSink>(
+    alloc: Global,
+    net: &Net,
+    weaving: &mut Weaving<F>,
+    sink: &mut S,
+) -> Result<(), GatherFault>
+    requires { (world_in weaving.old).net.nodes ≡ net.now.nodes }
+    ensures set { OnOk result (IsSetThere S.takes S.failures net.now weaving.old sink.old
+        weaving.new sink.new) }
+    ensures broken { IfErr result (λ fault.
+        IsBroken fault (S.failures sink.old) (S.failures sink.new)) }
+{
     let scene = set_up(alloc, net, weaving.world(), sink)?;
     let (gathering, found) = scene.into_parts();
     weaving.moves_to(gathering, found);
-    weave_all(alloc, &mut weaving, sink)?;
-    let gathered = finish(alloc, net, &weaving)?;
-    Ok(gathered)
+    Ok(())
 }
 
 /// Weaves entries, one after the other, until one of this instant or later comes next, or none is left.

@@ -1,4 +1,6 @@
 use Rattle.std.proofs.Common.{◌∙◌, ap, sym, refl, List}
+use Rattle.std.proofs.lemmas.Result.{IfOk-weaker, IfErr-weaker}
+use Rattle.gather_command.specs.declared.gathered.Gathered.{Gathered}
 use Rattle.gather_command.specs.declared.fault.GatherFault.{GatherFault}
 use Rattle.gather_command.specs.Reading.{MayFail, Reads, Begins}
 use Rattle.gather_command.specs.View.{NodeRecordView, heads_in}
@@ -19,18 +21,15 @@ returns-in_err-nodes-clause-refused g c =
     fails-with (λ (f : GatherFault). IsRefused reads begins failures net sink f sink) c.from_residual.result _ c.from_residual.ensures.1
     (fault-refused reads begins failures net sink sink _ c.in_err-nodes.ensures.refused refl)
 
-pub returns-in_err-gathered-clause-refused : goal.returns-in_err-gathered-clause-refused
-returns-in_err-gathered-clause-refused g c =
+pub returns-clause-refused : goal.returns-clause-refused
+returns-clause-refused g c =
     let rest = g.R.File.Source.rest in
     let reads = Reads (g.R.Records.opens c.args.records.now) rest (MayFail g.R.File.Source.failures) in
     let begins = Begins (g.R.Records.opens c.args.records.now) rest in
-    let failures = g.S.EventSink.failures in
-    let net = c.args.net.now in
-    let before = c.args.sink.now in
-    let after = c.gather_opened.new.sink in
-    fails-with (λ (f : GatherFault). IsRefused reads begins failures net before f after) c.from_residual-in_err-gathered.result _
-    c.from_residual-in_err-gathered.ensures.1
-    (broken-refused reads begins failures net before after _ c.in_err-gathered.ensures.broken)
+    IfErr-weaker c.gather_opened.result _ _
+    (λ (f : GatherFault) broken. broken-refused reads begins g.S.EventSink.failures c.args.net.now c.args.sink.now
+    c.gather_opened.new.sink f broken)
+    c.gather_opened.ensures.broken
 
 pub returns-clause-gathered : goal.returns-clause-gathered
 returns-clause-gathered g c =
@@ -38,10 +37,11 @@ returns-clause-gathered g c =
     let reads = Reads (g.R.Records.opens c.args.records.now) g.R.File.Source.rest fails in
     let sink = g.S.EventSink in
     let nodes = c.in_ok-nodes.nodes.items in
-    let gathered = c.in_ok-gathered.gathered in
-    gathered-from fails reads sink.takes c.args.net.now _ c.after_first-instant.result nodes c.args.sink.now c.gather_opened.new.sink
-    gathered.summary gathered.differences.items gathered.flaws.items c.in_ok-nodes.ensures.opened c.in_ok-nodes.ensures.all
+    IfOk-weaker c.gather_opened.result _ _
+    (λ (x : Gathered) has. gathered-from fails reads sink.takes c.args.net.now _ c.after_first-instant.result nodes c.args.sink.now
+    c.gather_opened.new.sink x.summary x.differences.items x.flaws.items c.in_ok-nodes.ensures.opened c.in_ok-nodes.ensures.all
     (λ entries same. c.after_first-instant.ensures
     ∙ ap (λ t. after_first t c.args.seconds) (c.earliest.ensures
     ∙ ap (λ (rs : List NodeRecordView). least_of (heads_in rs)) c.deref.ensures.value ∙ ap least_of (sym same)))
-    c.in_ok-gathered.ensures.gathered
+    has)
+    c.gather_opened.ensures.gathered

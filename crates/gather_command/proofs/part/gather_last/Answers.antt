@@ -1,5 +1,7 @@
 use Rattle.std.proofs.Common.{refl}
+use Rattle.std.proofs.lemmas.Result.{IfOk-weaker, IfErr-weaker}
 use Rattle.node_recorder.specs.Turns.{network_mark}
+use Rattle.gather_command.specs.declared.gathered.Gathered.{Gathered}
 use Rattle.gather_command.specs.declared.fault.GatherFault.{GatherFault}
 use Rattle.gather_command.specs.Reading.{MayFail, Reads, Begins}
 use Rattle.gather_command.specs.Gathered.{IsRefused}
@@ -37,18 +39,15 @@ returns-in_err-nodes-clause-refused g c =
     (λ v s xs f x. reads-before before now rest fails same v s xs f x) (λ v s e x. begins-before before now rest same v s e x)
     c.in_err-nodes.ensures.refused) refl)
 
-pub returns-in_err-gathered-clause-refused : goal.returns-in_err-gathered-clause-refused
-returns-in_err-gathered-clause-refused g c =
+pub returns-clause-refused : goal.returns-clause-refused
+returns-clause-refused g c =
     let rest = g.R.File.Source.rest in
     let reads = Reads (g.R.Records.opens c.args.records.now) rest (MayFail g.R.File.Source.failures) in
     let begins = Begins (g.R.Records.opens c.args.records.now) rest in
-    let failures = g.S.EventSink.failures in
-    let net = c.args.net.now in
-    let before = c.args.sink.now in
-    let after = c.gather_opened.new.sink in
-    fails-with (λ (f : GatherFault). IsRefused reads begins failures net before f after) c.from_residual-in_err-gathered.result _
-    c.from_residual-in_err-gathered.ensures.1
-    (broken-refused reads begins failures net before after _ c.in_err-gathered.ensures.broken)
+    IfErr-weaker c.gather_opened.result _ _
+    (λ (f : GatherFault) broken. broken-refused reads begins g.S.EventSink.failures c.args.net.now c.args.sink.now
+    c.gather_opened.new.sink f broken)
+    c.gather_opened.ensures.broken
 
 pub returns-clause-gathered : goal.returns-clause-gathered
 returns-clause-gathered g c =
@@ -61,11 +60,16 @@ returns-clause-gathered g c =
     let sink = g.S.EventSink in
     let net = c.args.net.now in
     let nodes = c.in_ok-nodes.nodes.items in
-    let gathered = c.in_ok-gathered.gathered in
-    gathered-from fails reads sink.takes net _ c.before_last-instant.result nodes c.args.sink.now c.gather_opened.new.sink
-    gathered.summary gathered.differences.items gathered.flaws.items
+    IfOk-weaker c.gather_opened.result _ _
+    (λ (x : Gathered) has. gathered-from fails reads sink.takes net _ c.before_last-instant.result nodes c.args.sink.now
+    c.gather_opened.new.sink x.summary x.differences.items x.flaws.items
     (opened-as fails (Reads now rest fails) reads (network_mark net) 0 nodes
     (λ v s xs f x. reads-before before now rest fails same v s xs f x) c.in_ok-nodes.ensures.opened)
     c.in_ok-nodes.ensures.all
-    (λ entries heads. record { latest = c.in_ok-last.last; is_latest = c.in_ok-last.ensures.found; before = c.before_last-instant.ensures })
-    c.in_ok-gathered.ensures.gathered
+    (λ entries heads. record {
+      latest = c.in_ok-last.last;
+      is_latest = c.in_ok-last.ensures.found;
+      before = c.before_last-instant.ensures;
+    })
+    has)
+    c.gather_opened.ensures.gathered

@@ -1,5 +1,4 @@
 use Rattle.std.proofs.Common.{◌≡◌, ◌∙◌, ap, arith, replicate, [], List, ℕ}
-use Rattle.gather_command.specs.Delays.{DelaysView}
 use Rattle.gather_command.proofs.delays.Delays.new.Goals as goal
 
 pub returns : goal.returns
