@@ -1,6 +1,6 @@
 -- What is read, and what is watched, by rows that are small enough to see through.
-use Rattle.std.proofs.Common.{◌≡◌, ◌∙◌, ap, sym, ℕ, List, [], ◌∷◌, Option, Some, None, true, refl, arith, codes}
-use Rattle.std.specs.Prelude.{fold}
+use Rattle.std.proofs.Common.{◌≡◌, ◌∙◌, ap, sym, ℕ, List, [], ◌∷◌, Option, Some, None, false, true, refl, arith, codes}
+use Rattle.std.specs.Prelude.{fold, Ok, Err}
 use Rattle.record_gathering.specs.configuration.run_model.World.{World}
 use Rattle.record_gathering.specs.configuration.run_model.declared.event.Event.TheVariants.{Send, Take, Lose, Damage}
 use Rattle.record_gathering.specs.configuration.run_model.declared.event.Harm.TheVariants.{Part}
@@ -19,7 +19,11 @@ use Rattle.gather_command.specs.declared.fault.FlawKind.TheVariants as kind
 use Rattle.gather_command.specs.Reading.{IsReadOn, Ends, Tears, Nameless, Stops, Further, start_of}
 use Rattle.gather_command.specs.Records.{starts_earlier}
 use Rattle.command_parts.specs.declared.fault.Fault.TheVariants as said
-use Rattle.gather_command.specs.Network.{network_path, none_kept_line}
+use Rattle.topology.specs.Network.{Network}
+use Rattle.gather_command.specs.Ends.{IsPrintFault, PrintingEndsWith}
+use Rattle.gather_command.specs.declared.command.PrintFault.TheVariants as print
+use Rattle.gather_command.specs.declared.fault.GatherFault.TheVariants as fault
+use Rattle.gather_command.specs.Network.{network_by, network_path, none_kept_line}
 use Rattle.gather_command.specs.Delays.{DelaysView, no_delays, delays_after}
 use Rattle.gather_command.specs.Weave.{Moment, IsWoven, NoneLeft}
 use Rattle.gather_command.specs.Watch.{Seen, seen_after, nothing_seen}
@@ -138,3 +142,26 @@ not-the-kept-file e = absurd cc
 none-kept : none_kept_line (codes "run/record.toml") said.Memory
     ≡ codes "no network is kept in run/record.toml (memory Refused); give --network FILE"
 none-kept = refl
+
+-- a file that is given is at fault if it gives no network; if none is given, none was kept
+by-fault : network_by {E = ℕ} (λ why. said.Memory) true (Err 3) ≡ Err said.Memory
+by-fault = refl
+
+by-none_kept : network_by {E = ℕ} (λ why. said.Memory) false (Err 3) ≡ Ok None
+by-none_kept = refl
+
+by_not-none : (net : Network) → network_by {E = ℕ} (λ why. said.Memory) true (Ok net) ≡ Ok None → ⊥
+by_not-none net e = absurd cc
+
+-- a fault of the output is none of the gathering, and so the command passes it on
+prints-torn : IsPrintFault (print.Gathering fault.Memory)
+prints-torn = tt
+
+prints_not-output : ¬ IsPrintFault (print.Gathering fault.Output)
+prints_not-output is = is
+
+passes-on : PrintingEndsWith (Err (print.Output said.Closed)) (Err said.Closed)
+passes-on = refl
+
+passes_not-else : ¬ PrintingEndsWith (Err (print.Output said.Closed)) (Err said.Memory)
+passes_not-else e = absurd cc

@@ -66,7 +66,8 @@ pub fn run<R: Files + Print + Eprint + AllocGlobal>(
 /// The network of the file that is given, or else of the one that the nodes of the folder kept. If they
 /// kept none, a line says so and what to do, and none is returned.
 ///
-/// What is unproved: which network the file gives. No file says it. [`network_by`] says the rest.
+/// It is not proved which network the file gives, since a file shows its text to no contract. What follows
+/// from that [`network_by`] says.
 ///
 /// # Errors
 /// If the file that is given gives no network, or memory runs out.
