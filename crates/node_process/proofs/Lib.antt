@@ -1,2 +1,4 @@
 pub mod Words
+pub mod Noted
 pub mod Rows
+pub mod RowsNoted

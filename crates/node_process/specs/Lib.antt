@@ -5,4 +5,5 @@ pub mod Ends
 pub mod Rights
 pub mod Places
 pub mod Tapes
+pub mod Noted
 pub mod Kept

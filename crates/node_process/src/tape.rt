@@ -1,6 +1,6 @@
 //! A node's record, in two files of its folder.
 ghost use Rattle.std.specs.Prelude.{◌≡◌, ◌≢◌, ◌≤◌, ◌⊎◌, ◌||◌, IfOk, IsTrue, true, false, string_bytes};
-ghost use Rattle.std.specs.Prelude.{if◌then◌else◌};
+ghost use Rattle.std.specs.Prelude.{◌∷◌, ◌+◌, ◌<◌, [], ℕ, if◌then◌else◌, length, min, not, slice_index_or};
 ghost use Rattle.node_recorder.specs.flight_recorder.Recorder.{after_failure, after_write, is_due};
 ghost use Rattle.node_recorder.specs.flight_recorder.Names.{record_name};
 ghost use Rattle.node_recorder.specs.flight_recorder.flight_records.declared.entry.Deed.TheVariants.{Connects, Disconnects};
@@ -9,6 +9,9 @@ ghost use Rattle.node_recorder.specs.Backlog.{nothing};
 ghost use Rattle.node_recorder.specs.node_follower.Following.{FitsNetwork};
 ghost use Rattle.node_recorder.specs.Quiet.{is_quiet};
 ghost use Rattle.node_recorder.specs.flight_recorder.declared.recorder.Side.TheVariants.{First, Second};
+ghost use Rattle.node_recorder.specs.Turns.{Records};
+ghost use Rattle.node_process.specs.Noted.{is_linked, is_seen_up, link_changes, IsWrittenOrNot, RecordsEach};
+ghost use Rattle.node_process.specs.Noted.{RecordsTurn};
 ghost use Rattle.node_process.specs.Tapes.{file_bytes, of_side, side_to_begin};
 ghost use Rattle.node_process.specs.Tapes.{AreFirstPages, ArePagesAfter};
 
@@ -28,6 +31,7 @@ use std::io::{self, ErrorKind, Write};
 use std::rt::{Clock, Files};
 use std::time::{SystemTime, UNIX_EPOCH};
 use topology::Net;
+use turn_watch::LinkSight;
 
 /// The most bytes of each of the two files of a record.
 #[derive(Clone, Copy, Debug, PartialEq, Eq)]
@@ -91,6 +95,7 @@ pub struct Tape<'a, R> {
     start: u64,
     /// Which nodes it was last seen to have a connection with.
     linked: [bool; NODES],
+    ghost ids: { length linked ≡ 64 },
 }
 
 impl<'a, R: Files<File = File> + Clock + Eprint + AllocGlobal> Tape<'a, R> {
@@ -144,6 +149,16 @@ impl<'a, R: Files<File = File> + Clock + Eprint + AllocGlobal> Tape<'a, R> {
         // After a quiet turn, and if none may wait, no deed waits to be noted.
         ensures settled { self.old.recorder.pages.is_stopped ≡ false
             → IsTrue (is_quiet notes.now.deeds || must_settle) → self.new.recorder.backlog ≡ nothing }
+        // The deeds are recorded, and then the connections that began or ended since it was seen last.
+        ensures noted { self.old.recorder.pages.is_stopped ≡ false
+            → RecordsTurn (min (self.old.start + now) 18446744073709551615) notes.now.deeds
+            (not notes.now.is_torn) (not (is_quiet notes.now.deeds || must_settle)) run.now.node
+            (link_changes (λ id. slice_index_or self.old.linked id false)
+            (is_linked run.now.ports.items) (min run.now.net.nodes 64))
+            self.old.recorder self.new.recorder }
+        ensures linked { self.old.recorder.pages.is_stopped ≡ false
+            → (id : ℕ) → id < min run.now.net.nodes 64
+            → slice_index_or self.new.linked id false ≡ is_linked run.now.ports.items id }
     {
         if self.recorder.pages().is_stopped() {
             return;
@@ -176,11 +191,17 @@ impl<'a, R: Files<File = File> + Clock + Eprint + AllocGlobal> Tape<'a, R> {
         ensures names { self.new.names ≡ self.old.names }
         ensures settled { may_wait ≡ false → self.old.recorder.backlog ≡ nothing
             → self.new.recorder.backlog ≡ nothing }
+        ensures noted { RecordsEach instant may_wait run.now.node
+            (link_changes (λ id. slice_index_or self.old.linked id false)
+            (is_linked run.now.ports.items) (min run.now.net.nodes 64))
+            self.old.recorder self.new.recorder }
+        ensures linked { (id : ℕ) → id < min run.now.net.nodes 64
+            → slice_index_or self.new.linked id false ≡ is_linked run.now.ports.items id }
     {
         let nodes = usize::from(run.net().nodes()).min(NODES);
         for id in 0..nodes {
             let neighbour = id as u16;
-            let is_linked = matches!(run.link(neighbour), Some(sight) if sight.is_up);
+            let is_linked = is_up(run.link(neighbour));
             if is_linked != self.linked[id] {
                 self.linked[id] = is_linked;
                 self.note_link(run, link_deed(neighbour, is_linked), may_wait, instant);
@@ -197,6 +218,8 @@ impl<'a, R: Files<File = File> + Clock + Eprint + AllocGlobal> Tape<'a, R> {
         instant: u64,
     )
         ensures names { (self.new.names ≡ self.old.names) × (self.new.linked ≡ self.old.linked) }
+        ensures noted { Records instant (deed ∷ []) true may_wait run.now.node self.old.recorder
+            self.new.recorder }
         ensures settled { may_wait ≡ false → self.old.recorder.backlog ≡ nothing
             → self.new.recorder.backlog ≡ nothing }
     {
@@ -234,6 +257,8 @@ impl<'a, R: Files<File = File> + Clock + Eprint + AllocGlobal> Tape<'a, R> {
         ensures backlog { self.new.recorder.backlog ≡ self.old.recorder.backlog }
         ensures pages { (self.new.recorder.pages ≡ after_write self.old.recorder.pages)
             ⊎ (self.new.recorder.pages ≡ after_failure self.old.recorder.pages) }
+        ensures recorder { IsWrittenOrNot self.old.recorder self.new.recorder }
+        ensures linked { self.new.linked ≡ self.old.linked }
     {
         match self.append() {
             Ok(()) => {
@@ -247,8 +272,9 @@ impl<'a, R: Files<File = File> + Clock + Eprint + AllocGlobal> Tape<'a, R> {
 
     /// Stops the record, and says why.
     fn stop<T: Display>(&mut self, why: &T)
-        ensures backlog { self.new.recorder.backlog ≡ self.old.recorder.backlog }
-        ensures pages { self.new.recorder.pages ≡ after_failure self.old.recorder.pages }
+        ensures recorder { self.new.recorder
+            ≡ record self.old.recorder { pages = after_failure self.old.recorder.pages } }
+        ensures linked { self.new.linked ≡ self.old.linked }
     {
         self.recorder.failed();
         self.file = None;
@@ -260,7 +286,7 @@ impl<'a, R: Files<File = File> + Clock + Eprint + AllocGlobal> Tape<'a, R> {
 
     /// Writes the page to the end of the present file.
     fn append(&mut self) -> io::Result<()>
-        ensures { self.new.recorder ≡ self.old.recorder }
+        ensures { (self.new.recorder ≡ self.old.recorder) × (self.new.linked ≡ self.old.linked) }
     {
         let mut file = match self.file.take() {
             Some(file) => file,
@@ -282,6 +308,16 @@ impl<'a, R: Files<File = File> + Clock + Eprint + AllocGlobal> Tape<'a, R> {
             0 => new_file(self.rt, path),
             written => file_up_to(self.rt, path, written),
         }
+    }
+}
+
+/// Whether a link is seen and up.
+fn is_up(link: Option<LinkSight>) -> bool
+    ensures { result ≡ is_seen_up link }
+{
+    match link {
+        Some(sight) => sight.is_up,
+        None => false,
     }
 }
 
