@@ -20,7 +20,7 @@ is_seen_up (Some sight) = sight.is_up
 abbrev pub is_linked : {P : Type 0} → List (NodePort P) → ℕ → Bool
 is_linked ports id = is_seen_up (link_at (slice_get ports id))
 
--- a link that was up, or was not, and now is: its connection began, or ended, or is as it was
+-- the deeds of a link, by whether it was up and whether it is: its connection began, or ended, or neither
 abbrev pub link_change : Bool → Bool → ℕ → List Deed
 link_change false true id = Connects id ∷ []
 link_change true false id = Disconnects id ∷ []
