@@ -11,10 +11,10 @@ pub fn damage_costs_time_alone()
     ensures holds { HoldsEnd }
 {}
 
-/// Who gives frames and who hears them agree on which frame is the call. The frame with which a call is
-/// out is a call for a neighbour that has counted as many equal frames in a row, if it came there soon
-/// after the one before it. A neighbour that missed one of them, or that it reached late, may not hear
-/// the call; the node that waits calls again.
+/// Both ends of an edge agree on which frame is the call. The frame with which a call is out is a call
+/// for a neighbour that has counted as many equal frames in a row, if it came there soon after the one
+/// before it. A neighbour that missed one of them, or got it late, may not hear the call. Then the node
+/// that waits calls again.
 pub fn both_ends_agree_on_the_call()
     ensures { EndsAgreeOnCalls }
 {}
