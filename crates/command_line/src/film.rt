@@ -1,11 +1,10 @@
 //! `draw FILE EVENTS --film`: a film of the run that a list of events makes on a network.
 
 use run_film::{Wanted, film_text, page_text};
-use run_picture::byte_streams::Source;
 use run_picture::command::{Drawn, Draws};
-use run_picture::command_parts::Fault;
-use run_picture::topology::Net;
+use run_picture::{Net, Source};
 use std::alloc::Global;
+use subcommands::Fault;
 
 /// The film that is asked for.
 #[derive(Clone, Copy)]

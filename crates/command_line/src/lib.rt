@@ -38,6 +38,4 @@ mod worst;
 
 pub use commands::run_words;
 pub use program::Runtime;
-pub use program_ends;
 pub use program_ends::{fill_standard_streams, own_words};
-pub use subcommands;

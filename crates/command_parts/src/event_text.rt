@@ -10,9 +10,8 @@ use crate::output::kept_fault;
 use crate::streams::note_failure;
 use schedules::EventSink;
 use std::io::{BufWriter, Error, Write};
-use world::events_text::EventLine;
-use world::run_model::Event;
 use world::streams::Failed;
+use world::{Event, EventLine};
 
 /// Writes the line of each event that it takes.
 #[derive(Drop)]

@@ -17,6 +17,7 @@
 
 mod event_text;
 mod fault;
+pub mod laws;
 mod output;
 mod path_fault;
 mod progress;
@@ -32,8 +33,9 @@ pub use output::{output_fault, printed};
 pub use path_fault::PathFault;
 pub use progress::Progress;
 pub use returns::{Returns, return_hint, say_hint};
-pub use schedules;
+pub use schedules::{EventSink, junk_line, scramble_node};
 pub use simulation::{STANDARD_INPUT, events_status, simulate_between};
 pub use streams::{Flush, ReadSource, WriteSink};
-pub use world;
-pub use world::simulation::{Simulated, Summary};
+pub use world::report::judge;
+pub use world::simulation::{Simulated, Summary, state_text};
+pub use world::{Event, World};

@@ -18,10 +18,7 @@ ghost use Rattle.configuration.specs.Answers.{Answers};
 mod harms;
 
 use crate::links::Links;
-use run_model::link_model::{Item, NoItem};
-use run_model::node_core::Node;
-use run_model::node_core::lock_desk::{AskFault, Stranger};
-use run_model::{Event, EventFault, Happened};
+use run_model::{AskFault, Event, EventFault, Happened, Item, NoItem, Node, Stranger};
 use std::alloc::{AllocError, Allocator, Global};
 use std::marker::Model;
 use topology::Net;

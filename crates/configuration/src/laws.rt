@@ -1,6 +1,11 @@
 //! What holds for networks that serve: each law is the contract of a function that does nothing.
 ghost use Rattle.configuration.specs.Sight.{SightsDecide};
 
+pub use run_model::laws::{
+    in_range, moments, own_changes, runs, start, stretches, strict_sweeps, sweep_counts,
+    sweep_numbers, ticks,
+};
+
 /// An event that is no damage, and leaves the sight of what it touches, does not change whether
 /// the network serves. So along a run it is enough to look at one node for each event, and at the
 /// whole network only if that node's sight has changed.

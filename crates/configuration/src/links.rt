@@ -16,7 +16,7 @@ ghost use Rattle.configuration.specs.LinksView.{IsLinks, spare_pairs, under_way}
 ghost use Rattle.configuration.specs.PairTable.{value_at};
 
 use crate::pair_table::PairTable;
-use run_model::link_model::{Item, Link, NoItem};
+use run_model::{Item, Link, NoItem};
 use std::alloc::{AllocError, Allocator, Global};
 use std::marker::Model;
 use topology::{Net, NetFault};

@@ -13,6 +13,8 @@ ghost use Rattle.convergence.specs.Service.{MovesClearDesks};
 ghost use Rattle.convergence.specs.Service.{WaitingAreServed};
 ghost use Rattle.run_model.specs.Headline.{Headline};
 
+pub use tree_convergence::laws::links;
+
 /// All that this crate knows about the layers below. Each law here is proved only from these.
 pub fn below()
     ensures { Below }

@@ -31,6 +31,3 @@
 
 pub mod laws;
 pub mod ring_laws;
-
-pub use tree_convergence;
-pub use tree_convergence::data_link;

@@ -9,7 +9,7 @@ ghost use Rattle.damage_tool.specs.Scrambled.{node_scrambled, port_written};
 
 use crate::draws::{PortDraw, draw_parent, draw_port, draw_to};
 use rand_pcg::Lcg64Xsh32;
-use run_model::node_core::NodeState;
+use run_model::NodeState;
 use std::alloc::Allocator;
 use topology::Net;
 

@@ -10,6 +10,8 @@ ghost use Rattle.data_link.specs.Laws.{SweepRefreshesCopy, SweepsMove, TakenIsCo
 ghost use Rattle.data_link.specs.Laws.{ThreeSweepsRefresh, TwoSweepsMove};
 ghost use Rattle.data_link.specs.SixSweeps.{StableAfterSixSweeps};
 
+pub use link_model::topology::laws::neighbours;
+
 /// A port in range stays in range, whatever frame in range it takes. Whoever keeps ports needs it.
 pub fn ports()
     ensures { PortStaysInRange }

@@ -22,7 +22,7 @@ mod port;
 
 pub use fault::OutOfRange;
 pub use heard::Heard;
-pub use k_state;
-pub use link_model;
-pub use link_model::topology;
+pub use k_state::{copy_move, privileged, root_move};
+pub use link_model::topology::Net;
+pub use link_model::{Frame, Item, Payload, Ranges};
 pub use port::Port;

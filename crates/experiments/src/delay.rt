@@ -46,7 +46,7 @@ pub fn replay<A: Allocator + Copy, N: Allocator + Copy>(
     run_model::laws::start();
     run_model::laws::moments();
     run_model::laws::sweep_numbers();
-    layers::convergence::laws::sharp();
+    layers::laws::sharp();
     let _known_nodes = net.nodes();
     if has_harm(events) {
         return Ok(None);

@@ -10,7 +10,7 @@ ghost use Rattle.schedules.specs.Random.{admitted, draw_step};
 
 use crate::plan::Order;
 use byte_streams::Failed;
-use judge::configuration::Configuration;
+use judge::Configuration;
 use rand_pcg::Lcg64Xsh32;
 use run_model::Event;
 use schedules::{Chances, EventSink, give_round, next_step};

@@ -49,9 +49,9 @@ pub fn measure_layers<A: Allocator + Copy>(
     run_model::laws::start();
     run_model::laws::moments();
     run_model::laws::sweep_numbers();
-    layers::convergence::laws::sharp();
-    schedules::damage_tool::laws::scramble();
-    schedules::damage_tool::laws::draws();
+    layers::laws::sharp();
+    schedules::laws::scramble();
+    schedules::laws::draws();
     schedules::laws::accepted();
     schedules::laws::slow_rounds();
     schedules::laws::edges();

@@ -5,7 +5,7 @@ ghost use Rattle.judge.specs.configuration.ConfigurationView.{world_of};
 ghost use Rattle.experiments.specs.Delays.{is_harm};
 ghost use Rattle.experiments.specs.Recovery.{counted_from, unseen, AreLayersNow, LayersGoOn};
 
-use judge::configuration::Configuration;
+use judge::Configuration;
 use layers::{are_links_stable, are_loans_privileged, is_token_ring_good, is_tree_reached};
 use run_model::Event;
 use std::alloc::Allocator;
@@ -55,7 +55,7 @@ impl LayersSeen {
         ensures { LayersGoOn (world_of configuration.now) event.now sweeps self result }
     {
         run_model::laws::in_range();
-        layers::convergence::laws::closure();
+        layers::laws::closure();
         let more = self.with_event();
         if self.needs_look(event) {
             more.looked(configuration, sweeps)

@@ -41,6 +41,6 @@ pub use layered_run::{Settling, measure_layers};
 pub use layers::Layers;
 pub use measured_run::{Recovery, Scheduler, measure_run};
 pub use plan::{Order, PlanFault, give_plan};
-pub use schedules;
+pub use schedules::{Chances, EventSink};
 pub use summary::{Summary, summary_of};
 pub use watch::Watch;

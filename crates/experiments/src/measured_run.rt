@@ -9,14 +9,13 @@ ghost use Rattle.experiments.specs.Scheduled.{plain_steps, stretch_of, lent_at, 
 ghost use Rattle.experiments.specs.Watched.{GoesOn, GoesOnBy, GoesOnScheduled};
 
 use crate::watch::Watch;
-use judge::World;
-use judge::configuration::Configuration;
+use judge::{Configuration, World};
 use rand_core::SeedableRng;
 use rand_pcg::Lcg64Xsh32;
 use run_model::Event;
-use schedules::damage_tool::scramble_world;
 use schedules::{
-    Chances, EventSink, Slow, draw_step, give_round, give_slow_round, slow_link, slow_node,
+    Chances, EventSink, Slow, draw_step, give_round, give_slow_round, scramble_world, slow_link,
+    slow_node,
 };
 use std::alloc::{AllocError, Allocator};
 use topology::Net;
@@ -77,9 +76,9 @@ pub fn measure_run<A: Allocator + Copy>(
     run_model::laws::start();
     run_model::laws::moments();
     run_model::laws::sweep_numbers();
-    layers::convergence::laws::sharp();
-    schedules::damage_tool::laws::scramble();
-    schedules::damage_tool::laws::draws();
+    layers::laws::sharp();
+    schedules::laws::scramble();
+    schedules::laws::draws();
     schedules::laws::accepted();
     schedules::laws::slow_rounds();
     schedules::laws::edges();

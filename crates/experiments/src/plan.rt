@@ -7,11 +7,10 @@ ghost use Rattle.experiments.specs.Plan.{harms_of, ordered, planned, turns, Coun
 
 use crate::giving_back::{Lending, give_order_back};
 use byte_streams::Failed;
-use judge::configuration::Configuration;
+use judge::Configuration;
 use rand_pcg::Lcg64Xsh32;
 use run_model::Event;
-use schedules::damage_tool::scramble_world;
-use schedules::{Chances, EventSink, give_random, give_rounds};
+use schedules::{Chances, EventSink, give_random, give_rounds, scramble_world};
 use std::alloc::{AllocError, Allocator};
 use topology::Net;
 

@@ -4,9 +4,8 @@ ghost use Rattle.std.specs.Prelude.{◌≡◌, length, IfOk, OnOk};
 use rand::seq::IndexedMutRandom;
 use rand::{Rng, RngExt};
 use rand_pcg::Lcg64Xsh32;
-use run_model::link_model::{Frame, Item, Payload};
-use run_model::{Event, Harm};
-use schedules::damage_tool::scramble_world;
+use run_model::{Event, Frame, Harm, Item, Payload};
+use schedules::scramble_world;
 use std::alloc::{AllocError, Global};
 use topology::{Net, Ranges};
 

@@ -8,8 +8,7 @@ ghost use Rattle.experiments.specs.Watched.{GoesOn};
 
 use crate::layers_seen::{LayersSeen, last_failure, sweeps_after};
 use byte_streams::Failed;
-use judge::configuration::{Configuration, serves, serves_after, touched_sight};
-use judge::{Judge, World};
+use judge::{Configuration, Judge, World, serves, serves_after, touched_sight};
 use run_model::Event;
 use schedules::EventSink;
 use std::alloc::{Allocator, Global};

@@ -24,5 +24,4 @@ mod still;
 
 pub use look::{Look, Place};
 pub use reel::Reel;
-pub use run_model;
 pub use still::{MOST_EDGES, MOST_FRAMED, MOST_WAYS, NO_EDGE, Still};

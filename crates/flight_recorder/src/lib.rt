@@ -34,6 +34,6 @@ pub mod laws;
 mod name;
 mod recorder;
 
-pub use flight_records;
+pub use flight_records::{Deed, Noted, StatePart};
 pub use name::record_name;
 pub use recorder::{LEAST_SIZE, ROOM, Recorder, Side};

@@ -33,5 +33,4 @@ pub use again::LastFrames;
 pub use entry::{Deed, Entry, Noted, StatePart};
 pub use leb128::Unread;
 pub use reading::EntryReader;
-pub use topology;
 pub use writing::write_entry;

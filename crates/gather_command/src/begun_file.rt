@@ -9,9 +9,7 @@ ghost use Rattle.gather_command.specs.Records.{IsBegun, IsChecked};
 
 use crate::fault::{GatherFault, RecordFile};
 use crate::records::{Opened, Records};
-use record_pages::byte_streams::Source;
-use record_pages::flight_records::{Entry, Noted, StatePart};
-use record_pages::{PageReader, Stop};
+use record_pages::{Entry, Noted, PageReader, Source, StatePart, Stop};
 use std::alloc::Global;
 use std::marker::Model;
 

@@ -5,8 +5,7 @@ ghost use Rattle.gather_command.specs.Delays.{with_sent, with_taken, with_lost, 
 ghost use Rattle.gather_command.specs.Delays.{delays_after_event, delays_after};
 
 use crate::watch::since;
-use record_gathering::any_written;
-use record_gathering::configuration::run_model::{Event, Harm};
+use record_gathering::{Event, Harm, any_written};
 use std::alloc::{AllocError, Global};
 use std::marker::Model;
 

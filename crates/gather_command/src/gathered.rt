@@ -16,11 +16,10 @@ use crate::node_record::NodeRecord;
 use crate::records::Records;
 use crate::summary::Summary;
 use crate::weaving::Weaving;
-use command_parts::schedules::EventSink;
+use command_parts::EventSink;
 use node_recorder::network_mark;
-use record_gathering::configuration::run_model::Event;
-use record_pages::byte_streams::{Failed, Source};
-use record_pages::flight_records::Entry;
+use record_gathering::Event;
+use record_pages::{Entry, Failed, Source};
 use std::alloc::{AllocError, Global};
 use topology::Net;
 

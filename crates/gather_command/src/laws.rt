@@ -8,7 +8,7 @@ pub fn weaving_is_faithful()
     ensures { WeavingIsFaithful }
 {
     record_gathering::laws::accepted_is_enough();
-    record_gathering::run_model::laws::runs();
+    record_gathering::laws::runs();
 }
 
 /// A list that begins in the midst is set up as the world stood then; a simulation refuses none of its
@@ -19,7 +19,7 @@ pub fn stretches_are_faithful()
     record_gathering::laws::accepted_is_enough();
     record_gathering::laws::facts_join();
     record_gathering::laws::set_ups_are_reached();
-    record_gathering::run_model::laws::runs();
-    record_gathering::run_model::laws::start();
-    record_gathering::run_model::laws::in_range();
+    record_gathering::laws::runs();
+    record_gathering::laws::start();
+    record_gathering::laws::in_range();
 }

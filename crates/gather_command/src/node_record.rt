@@ -8,9 +8,7 @@ use crate::begun_file::{BegunFile, begin_file};
 use crate::fault::{Flaw, FlawKind, GatherFault, RecordFile};
 use crate::records::Records;
 use flight_recorder::Side;
-use record_pages::Stop;
-use record_pages::byte_streams::Source;
-use record_pages::flight_records::{Entry, LastFrames};
+use record_pages::{Entry, LastFrames, Source, Stop};
 use std::alloc::Global;
 use std::marker::Model;
 

@@ -15,10 +15,9 @@ use crate::records::Records;
 use crate::scene::set_up;
 use crate::stretch::{Stretch, after_first, before_last, earliest, latest};
 use crate::weaving::Weaving;
-use command_parts::schedules::EventSink;
-use record_gathering::configuration::run_model::Event;
-use record_pages::byte_streams::Source;
-use record_pages::flight_records::Entry;
+use command_parts::EventSink;
+use record_gathering::Event;
+use record_pages::{Entry, Source};
 use std::alloc::{AllocError, Global};
 use topology::Net;
 

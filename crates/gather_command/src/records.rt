@@ -6,7 +6,7 @@ ghost use Rattle.gather_command.specs.Memory.{OpensAs};
 ghost use Rattle.gather_command.specs.Reading.{OpensNoMore};
 
 use flight_recorder::Side;
-use record_pages::byte_streams::{MemorySource, Source};
+use record_pages::{MemorySource, Source};
 
 /// What became of opening a file.
 pub enum Opened<F> {

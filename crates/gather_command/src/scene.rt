@@ -11,12 +11,10 @@ ghost use Rattle.gather_command.specs.Scene.{IsFresh, HasSet, IsSetUp};
 use crate::fault::GatherFault;
 use crate::gathered::give_all;
 use crate::weaving::SPARE_PAIRS;
-use command_parts::schedules::EventSink;
+use command_parts::EventSink;
 use node_recorder::network_mark;
-use record_gathering::configuration::Configuration;
-use record_gathering::configuration::run_model::Event;
 use record_gathering::facts::{add_edges, add_links, add_state};
-use record_gathering::{Fact, Found, Gathering};
+use record_gathering::{Configuration, Event, Fact, Found, Gathering};
 use std::alloc::{AllocError, Global};
 use std::marker::Model;
 use topology::Net;
@@ -88,7 +86,7 @@ fn set_all<K: EventSink>(
         IsBroken fault (K.failures sink.old) (K.failures sink.new)) }
 {
     record_gathering::laws::facts_join();
-    record_gathering::run_model::laws::runs();
+    record_gathering::laws::runs();
     let mut events = Vec::new(alloc);
     for fact in facts {
         scene.sets(fact, &mut events, sink)?;
@@ -150,7 +148,7 @@ fn set_nodes<K: EventSink>(
         IsBroken fault (K.failures sink.old) (K.failures sink.new)) }
 {
     record_gathering::laws::facts_join();
-    record_gathering::run_model::laws::runs();
+    record_gathering::laws::runs();
     for node in 0..world.net().nodes() {
         set_node(alloc, scene, network, world, node, sink)?;
     }
@@ -189,7 +187,7 @@ fn set_all_links<K: EventSink>(
         IsBroken fault (K.failures sink.old) (K.failures sink.new)) }
 {
     record_gathering::laws::facts_join();
-    record_gathering::run_model::laws::runs();
+    record_gathering::laws::runs();
     for from in 0..world.net().nodes() {
         set_links(alloc, scene, world, from, sink)?;
     }
@@ -212,7 +210,7 @@ pub fn set_up<K: EventSink>(
         IsBroken fault (K.failures sink.old) (K.failures sink.new)) }
 {
     record_gathering::laws::facts_join();
-    record_gathering::run_model::laws::runs();
+    record_gathering::laws::runs();
     let mut scene = Scene::new(alloc, net)?;
     set_edges(alloc, &mut scene, net, world.net(), sink)?;
     set_nodes(alloc, &mut scene, network_mark(net), world, sink)?;

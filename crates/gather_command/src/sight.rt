@@ -7,9 +7,8 @@ use crate::damage::{Damage, Difference};
 use crate::delays::Delays;
 use crate::summary::Summary;
 use crate::watch::{Span, Watch, length_of, with_instant};
-use record_gathering::configuration::run_model::Event;
-use record_gathering::{Field, Found};
-use record_pages::flight_records::{Deed, Entry, Noted, StatePart};
+use record_gathering::{Event, Field, Found};
+use record_pages::{Deed, Entry, Noted, StatePart};
 use std::alloc::{AllocError, Global};
 use std::marker::Model;
 

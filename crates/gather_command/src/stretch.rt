@@ -12,8 +12,7 @@ use crate::fault::GatherFault;
 use crate::node_record::NodeRecord;
 use crate::records::Records;
 use node_recorder::network_mark;
-use record_pages::byte_streams::Source;
-use record_pages::flight_records::Entry;
+use record_pages::{Entry, Source};
 use std::alloc::Global;
 use topology::Net;
 

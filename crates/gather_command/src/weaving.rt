@@ -14,11 +14,8 @@ use crate::fault::Flaw;
 use crate::node_record::NodeRecord;
 use crate::sight::Sight;
 use crate::summary::Summary;
-use record_gathering::configuration::Configuration;
-use record_gathering::configuration::run_model::Event;
-use record_gathering::{Found, Gathering};
-use record_pages::byte_streams::Source;
-use record_pages::flight_records::Entry;
+use record_gathering::{Configuration, Event, Found, Gathering};
+use record_pages::{Entry, Source};
 use std::alloc::{AllocError, Global};
 use std::marker::Model;
 use topology::Net;
@@ -151,7 +148,7 @@ impl<S: Source + Drop> Weaving<S> {
         ensures events { OnOk result (events.new.items
             ≡ events_at (world_in self.old) self.old.gathering.queues node entry.now) }
     {
-        record_gathering::run_model::laws::runs();
+        record_gathering::laws::runs();
         let fields = self.gathering.fields(node, &entry.noted);
         self.gathering.notes(node, &entry.noted, events)?;
         let lent = self.gathering.world().node(node).lent();

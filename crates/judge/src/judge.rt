@@ -18,8 +18,7 @@ use crate::stretch::Stretch;
 use crate::tallies::Tally;
 use crate::visited::{privileged_nodes, visited_after};
 use crate::world::World;
-use configuration::Configuration;
-use configuration::run_model::{Event, EventFault, Happened};
+use configuration::{Configuration, Event, EventFault, Happened};
 use std::alloc::{Allocator, Global};
 use std::marker::Model;
 

@@ -28,15 +28,17 @@
 #![tactic(auto)]
 
 mod judge;
-mod laws;
+pub mod laws;
 mod parts;
 mod stretch;
 mod tallies;
 mod visited;
 mod world;
 
-pub use configuration;
-pub use configuration::{node_core, run_model};
+pub use configuration::{
+    Configuration, Event, EventFault, Happened, Harm, Links, Node, serves, serves_after,
+    touched_sight,
+};
 pub use judge::Judge;
 pub use parts::Parts;
 pub use stretch::Stretch;

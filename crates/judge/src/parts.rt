@@ -4,8 +4,7 @@ ghost use Rattle.judge.specs.Parts.{AreOneWorlds};
 
 use crate::stretch::Stretch;
 use crate::world::World;
-use configuration::node_core::Node;
-use configuration::{Configuration, Links};
+use configuration::{Configuration, Links, Node};
 use std::alloc::{Allocator, Global};
 
 /// The parts of a world, for running its nodes by other means than events, on threads say.

@@ -10,7 +10,7 @@ ghost use Rattle.judge.specs.Stretch.{has_bit, is_full_tick_of, names_below, nam
 ghost use Rattle.judge.specs.Stretch.{IsComplete, with_looks};
 
 use crate::tallies::{Tallies, Tally};
-use configuration::run_model::Happened;
+use configuration::Happened;
 use std::alloc::{AllocError, Allocator, Global};
 use std::marker::Model;
 use topology::Net;

@@ -5,8 +5,7 @@ ghost use Rattle.configuration.specs.ConfigurationView.{world_of};
 ghost use Rattle.judge.specs.Stretch.{has_bit, names_below};
 ghost use Rattle.judge.specs.Visited.{ticked_or_took};
 
-use configuration::Configuration;
-use configuration::run_model::Happened;
+use configuration::{Configuration, Happened};
 use std::alloc::Allocator;
 
 /// The mask with the bit of a node.

@@ -10,9 +10,7 @@ ghost use Rattle.configuration.specs.run_model.Step.{refusal, step};
 ghost use Rattle.configuration.specs.ConfigurationView.{world_of};
 
 use crate::stretch::Stretch;
-use configuration::Configuration;
-use configuration::node_core::Node;
-use configuration::run_model::{Event, EventFault};
+use configuration::{Configuration, Event, EventFault, Node};
 use std::alloc::{AllocError, Allocator, Global};
 use std::marker::Model;
 use topology::Net;
@@ -142,7 +140,7 @@ impl<A: Allocator + Copy> World<A> {
         ensures ok { OnOk result (refusal (world_of self.old) event.now ≡ None) }
         ensures err { IfErr result (λ fault. refusal (world_of self.old) event.now ≡ Some fault) }
     {
-        configuration::run_model::laws::runs();
+        configuration::laws::runs();
         let _happened = self.configuration.step(event)?;
         Ok(())
     }

@@ -11,8 +11,7 @@ ghost use Rattle.layers.specs.RingReading.{MayFollow};
 
 use crate::payload_reading::PayloadReading;
 use crate::ring_reading::RingReading;
-use configuration::Configuration;
-use configuration::link_model::Item;
+use configuration::{Configuration, Item};
 use std::alloc::Allocator;
 use topology::Frame;
 

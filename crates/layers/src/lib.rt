@@ -24,6 +24,7 @@
 #![tactic(auto)]
 
 mod items;
+pub mod laws;
 mod links;
 mod loans;
 mod payload_reading;
@@ -33,9 +34,6 @@ mod tour;
 mod tree;
 mod whole;
 
-pub use configuration;
-pub use convergence;
-pub use euler_ring;
 pub use links::are_links_stable;
 pub use loans::are_loans_privileged;
 pub use token_ring::is_token_ring_good;

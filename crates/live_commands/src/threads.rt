@@ -14,12 +14,10 @@ ghost use Rattle.command_parts.specs.declared.fault.Fault.TheVariants.{Output};
 mod progress;
 mod together;
 
-use command_parts::schedules::EventSink;
-use command_parts::world::report::judge;
-use command_parts::world::simulation::state_text;
-use command_parts::world::streams::Failed;
-use command_parts::world::{Event, World};
-use command_parts::{EventText, Fault, Flush, WriteSink, read_network};
+use byte_streams::Failed;
+use command_parts::{
+    Event, EventSink, EventText, Fault, Flush, World, WriteSink, judge, read_network, state_text,
+};
 use progress::Watch;
 use std::alloc::Global;
 use std::fs;
@@ -165,7 +163,7 @@ fn give_events<S: EventSink>(events: &[Event], sink: &mut S) -> Result<(), Faile
     ensures taken { OnOk result (S.takes sink.old events.now sink.new) }
     ensures cause { CountsFailures result (S.failures sink.old) (S.failures sink.new) }
 {
-    command_parts::schedules::laws::taking::<S>();
+    command_parts::laws::taking::<S>();
     for event in events {
         sink.take(event)?;
     }

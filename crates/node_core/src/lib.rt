@@ -28,17 +28,14 @@
 //! Self-Stabilization, 2000.
 #![tactic(auto)]
 
+pub mod laws;
 mod machines;
 mod node;
 mod own;
 mod status;
 mod ticked;
 
-pub use bfs_tree;
-pub use lock_desk;
 pub use lock_desk::{AskFault, DeskAct, Stranger};
 pub use node::{Node, NodeState};
-pub use registers;
-pub use registers::link_model::{Frame, Item, Payload, Ranges};
-pub use registers::{OutOfRange, data_link};
+pub use registers::{Frame, Item, Net, OutOfRange, Payload, Ranges};
 pub use ticked::Ticked;

@@ -8,8 +8,7 @@ ghost use Rattle.node_core.specs.OnRegisters.{IsTreeWithin, machine_may_move, ma
 ghost use Rattle.node_core.specs.OnRegisters.{values_moved};
 
 use euler_ring::{TreeNeighbours, tree_neighbours};
-use registers::Registers;
-use registers::k_state::{copy_move, privileged, root_move};
+use registers::{Registers, copy_move, privileged, root_move};
 use std::alloc::Allocator;
 
 /// The neighbours on the tree, by the node's own parent and the copied ones.

@@ -25,9 +25,7 @@ use crate::status::{push_number, push_number_or_none};
 use crate::ticked::Ticked;
 use arrayvec::ArrayString;
 use lock_desk::{AskFault, Desk, Stranger};
-use registers::link_model::Item;
-use registers::topology::{Frame, Net, Payload, Ranges};
-use registers::{OutOfRange, Registers};
+use registers::{Frame, Item, Net, OutOfRange, Payload, Ranges, Registers};
 use std::alloc::{AllocError, Allocator, Global};
 use std::marker::Model;
 

@@ -13,10 +13,10 @@ ghost use Rattle.node_follower.specs.Following.{account_of, is_own_account, Fits
 ghost use Rattle.node_follower.specs.Following.{AreSame, AreSameAlone, AreSameAt};
 
 use flight_records::Deed;
-use flight_records::topology::Net;
 use node_core::{Frame, Item, Node, Payload};
 use std::alloc::{AllocError, Allocator, Global};
 use std::marker::Model;
+use topology::Net;
 
 /// A second node, which does what a record says of a node.
 #[derive(Drop)]

@@ -25,10 +25,9 @@
 #![tactic(auto)]
 
 mod follower;
+pub mod laws;
 mod parts;
 
-pub use accounts;
-pub use flight_records;
 pub use follower::Follower;
-pub use node_core;
+pub use node_core::Node;
 pub use parts::{loan_part, own_part, port_part, start_part};

@@ -47,7 +47,6 @@ mod sight;
 mod turned;
 
 pub use doors::{Door, Doors};
-pub use flight_records;
 pub use notes::Notes;
 pub use run::{NodeRun, Unmade};
 pub use turned::Turned;

@@ -20,9 +20,9 @@ use crate::folder::{file_up_to, new_file};
 use crate::kept_network::{NotKept, keep_network};
 use crate::node::NodeWords;
 use node_loop::{Doors, NodeRun, Notes};
-use node_recorder::flight_recorder::flight_records::Deed;
-use node_recorder::flight_recorder::{LEAST_SIZE, Recorder, Side, record_name};
-use node_recorder::{NodeRecorder, is_quiet, network_mark};
+use node_recorder::{
+    Deed, LEAST_SIZE, NodeRecorder, Recorder, Side, is_quiet, network_mark, record_name,
+};
 use node_state_file::Store;
 use std::alloc::{AllocError, Global};
 use std::fmt::Display;

@@ -2,8 +2,7 @@
 ghost use Rattle.std.specs.Prelude.{◌≡◌, ◌==◌, IfOk, IsTrue, length};
 ghost use Rattle.node_recorder.specs.Backlog.{after_all, first_instant, has_room, is_long, nothing, with_turn};
 
-use flight_recorder::Recorder;
-use flight_recorder::flight_records::{Deed, Noted};
+use flight_recorder::{Deed, Noted, Recorder};
 use std::alloc::{AllocError, Allocator, Global};
 use std::marker::Model;
 

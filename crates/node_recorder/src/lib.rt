@@ -29,8 +29,7 @@ mod name;
 mod quiet;
 mod recorder;
 
-pub use flight_recorder;
+pub use flight_recorder::{Deed, LEAST_SIZE, Recorder, Side, record_name};
 pub use name::network_name;
-pub use node_follower;
 pub use quiet::is_quiet;
 pub use recorder::{NodeRecorder, network_mark};

@@ -2,7 +2,7 @@
 ghost use Rattle.std.specs.Prelude.{◌≡◌};
 ghost use Rattle.node_recorder.specs.Quiet.{is_quiet, is_silent};
 
-use flight_recorder::flight_records::Deed;
+use flight_recorder::Deed;
 
 /// Whether a turn with these deeds was quiet: the node took no frame and sent none, and nobody asked for
 /// the lock or left. A node in haste sends in each turn.

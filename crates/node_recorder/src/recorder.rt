@@ -12,12 +12,10 @@ ghost use Rattle.node_recorder.specs.Turns.{mixed, network_mark, is_to_begin, wi
 ghost use Rattle.node_recorder.specs.Turns.{Records, Settles, Stands, TakesOver};
 
 use crate::backlog::Backlog;
-use flight_recorder::Recorder;
-use flight_recorder::flight_records::{Deed, Noted, StatePart};
-use node_follower::flight_records::topology::Net;
-use node_follower::node_core::Node;
-use node_follower::{Follower, accounts, loan_part, own_part, port_part, start_part};
+use flight_recorder::{Deed, Noted, Recorder, StatePart};
+use node_follower::{Follower, Node, loan_part, own_part, port_part, start_part};
 use std::alloc::{AllocError, Allocator, Global};
+use topology::Net;
 
 /// Records a node turn by turn.
 #[derive(Drop)]
@@ -149,7 +147,7 @@ impl<A: Allocator + Copy> NodeRecorder<A> {
             (state_of self.old.follower) (state_of node.now) }
         ensures rest { self.new ≡ record self.old { follower = self.new.follower } }
     {
-        accounts::laws::accounts();
+        node_follower::laws::accounts();
         self.follower.follow(self.backlog.deeds()) && self.follower.stands_as(node)
     }
 

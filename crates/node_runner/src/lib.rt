@@ -25,4 +25,4 @@ mod runner;
 pub use gates::{Gate, Meet, Open, Pace};
 pub use ports::{Incoming, Outgoing, StampBound};
 pub use runner::{Port, Runner};
-pub use weaving;
+pub use weaving::{Journal, Stamped, weave};

@@ -13,8 +13,7 @@ ghost use Rattle.node_runner.specs.Due.{BeginsWhole};
 use crate::gates::Gate;
 use crate::ports::{Incoming, Outgoing};
 use link_model::Item;
-use run_model::Event;
-use run_model::node_core::Node;
+use run_model::{Event, Node};
 use std::alloc::{Allocator, Global};
 use weaving::{Entry, Journal};
 

@@ -41,7 +41,7 @@ pub use fault::FileFault;
 pub use file_store::FileStore;
 pub use layout::{LOADED_BYTES, MOST_BYTES};
 pub use memory_store::{FusedStore, MemoryStore};
-pub use node_core;
+pub use node_core::Node;
 pub use reading::decode;
 pub use starting::{StartFault, Started, start};
 pub use store::{Store, StoreFault};

@@ -7,7 +7,7 @@ ghost use Rattle.node_texts.specs.NodeStatus.{line_of};
 
 use crate::StatusLine;
 use crate::look_parts::{LinkPart, LoanPart, OrNull, ProcessPart, TurnPart};
-use node_state_file::node_core::Node;
+use node_state_file::Node;
 use std::alloc::{AllocError, Allocator, Global};
 use std::fmt;
 use std::fmt::Write;

@@ -9,8 +9,7 @@ ghost use Rattle.record_gathering.specs.Parts.{state_noted};
 
 use crate::frames::same_payload;
 use crate::parts::{LoanNoted, PortNoted};
-use configuration::node_core::Node;
-use configuration::run_model::Harm;
+use configuration::{Harm, Node};
 use std::alloc::Allocator;
 use topology::Frame;
 

@@ -15,9 +15,7 @@ ghost use Rattle.record_gathering.specs.Parts.{state_noted, part_noted};
 use crate::differences::{frame_harms, loan_harm, own_harm, port_harms};
 use crate::frames::{Passage, place_of};
 use crate::parts::{LoanNoted, PartNoted, PortNoted, part_noted};
-use configuration::Configuration;
-use configuration::link_model::Item;
-use configuration::run_model::{Event, Harm};
+use configuration::{Configuration, Event, Harm, Item};
 use flight_records::{Deed, Noted, StatePart};
 use std::alloc::{AllocError, Allocator};
 

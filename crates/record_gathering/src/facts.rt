@@ -8,9 +8,7 @@ ghost use Rattle.record_gathering.specs.declared.facts.Fact.TheVariants.{State};
 ghost use Rattle.record_gathering.specs.Facts.{joins, parts, edge_changes, edge_facts, state_facts};
 ghost use Rattle.record_gathering.specs.Facts.{link_facts, links_from};
 
-use configuration::Configuration;
-use configuration::node_core::Node;
-use configuration::run_model::Harm;
+use configuration::{Configuration, Harm, Node};
 use flight_records::StatePart;
 use node_follower::{loan_part, own_part, port_part, start_part};
 use std::alloc::{AllocError, Allocator};

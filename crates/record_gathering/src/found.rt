@@ -3,7 +3,7 @@ ghost use Rattle.std.specs.Prelude.{◌≡◌, ◌||◌, fold};
 ghost use Rattle.record_gathering.specs.Counts.{one_more, with_harm, with_kind, with_event};
 ghost use Rattle.record_gathering.specs.Counts.{with_events, with_entry, any_written, is_written, nothing};
 
-use configuration::run_model::{Event, Harm};
+use configuration::{Event, Harm};
 
 /// How many of the events that entries became are of which kind. A count stays at its greatest value.
 #[derive(Clone, Copy, Debug, PartialEq, Eq)]

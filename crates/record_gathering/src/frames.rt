@@ -4,8 +4,7 @@ ghost use Rattle.configuration.specs.ConfigurationView.{world_of};
 ghost use Rattle.flight_records.specs.Again.{same_frame, same_node, same_payload};
 ghost use Rattle.record_gathering.specs.Frames.{is_frame, is_under_way, in_front};
 
-use configuration::Configuration;
-use configuration::link_model::Item;
+use configuration::{Configuration, Item};
 use std::alloc::Allocator;
 use topology::{Frame, Payload};
 

@@ -5,6 +5,8 @@ ghost use Rattle.record_gathering.specs.Laws.{ReplaysFollowRecords, FieldsMeanDi
 ghost use Rattle.record_gathering.specs.SetUps.{SetUpsAreReached};
 ghost use Rattle.record_gathering.specs.States.{WholeStatesAreReached};
 
+pub use configuration::laws::{in_range, runs, start};
+
 /// Leaving out the events that are refused changes nothing: the same world is reached.
 pub fn accepted_is_enough()
     ensures { AcceptedIsEnough }
@@ -27,7 +29,7 @@ pub fn replays_follow_records()
     ensures { ReplaysFollowRecords }
 {
     topology::laws::joined();
-    configuration::run_model::laws::runs();
+    configuration::laws::runs();
 }
 
 /// A node whose whole state is noted stands in it then: each of its fields, its desk, and its port to
@@ -37,8 +39,8 @@ pub fn whole_states_are_reached()
     ensures { WholeStatesAreReached }
 {
     topology::laws::joined();
-    configuration::run_model::laws::runs();
-    configuration::run_model::laws::in_range();
+    configuration::laws::runs();
+    configuration::laws::in_range();
 }
 
 /// Facts that are set in two parts lead where they lead together, and none of what they become is
@@ -46,7 +48,7 @@ pub fn whole_states_are_reached()
 pub fn facts_join()
     ensures { FactsJoin }
 {
-    configuration::run_model::laws::runs();
+    configuration::laws::runs();
 }
 
 /// A network that is set up as a world stands, stands so: each node is in its state, and each link holds
@@ -55,7 +57,7 @@ pub fn set_ups_are_reached()
     ensures { SetUpsAreReached }
 {
     topology::laws::joined();
-    configuration::run_model::laws::runs();
-    configuration::run_model::laws::start();
-    configuration::run_model::laws::in_range();
+    configuration::laws::runs();
+    configuration::laws::start();
+    configuration::laws::in_range();
 }

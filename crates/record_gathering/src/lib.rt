@@ -37,10 +37,8 @@ mod order;
 mod parts;
 mod queue;
 
-pub use configuration;
-pub use configuration::run_model;
+pub use configuration::{Configuration, Event, Harm, Item};
 pub use facts::Fact;
 pub use fields::Field;
-pub use flight_records;
 pub use found::{Found, any_written};
 pub use gathering::Gathering;

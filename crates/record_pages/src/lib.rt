@@ -19,7 +19,7 @@ mod page;
 mod page_reader;
 mod stop;
 
-pub use byte_streams;
-pub use flight_records;
+pub use byte_streams::{Failed, MemorySource, Source};
+pub use flight_records::{Deed, Entry, LastFrames, Noted, StatePart};
 pub use page_reader::PageReader;
 pub use stop::Stop;

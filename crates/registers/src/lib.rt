@@ -19,8 +19,10 @@
 //! contracts); none changes more than one port, but for `rewire`.
 #![tactic(auto)]
 
+pub mod laws;
 mod registers;
 
-pub use data_link;
-pub use data_link::{Heard, OutOfRange, k_state, link_model, topology};
+pub use data_link::{
+    Frame, Heard, Item, Net, OutOfRange, Payload, Ranges, copy_move, privileged, root_move,
+};
 pub use registers::Registers;

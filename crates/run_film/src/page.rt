@@ -7,8 +7,7 @@ ghost use Rattle.run_film.specs.Pages.{counts_said, event_said, step_shown, step
 ghost use Rattle.run_film.specs.Pages.{HoldsSteps, IsPageHead};
 
 use crate::pace::Shown;
-use run_recording::Still;
-use run_recording::events_text::EventLine;
+use run_recording::{EventLine, Still};
 use std::alloc::{AllocError, Global};
 use std::fmt::Write;
 use svg_drawing::{Element, Fixed, Group};

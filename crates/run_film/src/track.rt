@@ -11,8 +11,7 @@ ghost use Rattle.run_film.specs.Beats.{beats_of, film_of, later_beats, last_of};
 
 use crate::pace::Shown;
 use crate::waiting::is_waiting;
-use run_recording::run_model::{Event, Harm};
-use run_recording::{Look, Place, Still};
+use run_recording::{Event, Harm, Look, Place, Still};
 use std::alloc::{AllocError, Global};
 use std::fmt::Write;
 use svg_drawing::{Element, Group};

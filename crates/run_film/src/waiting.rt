@@ -18,8 +18,7 @@ use crate::shapes::{circle, symbol};
 use crate::stage::Stage;
 use crate::symbols::put_symbol;
 use crate::track::Track;
-use run_recording::Still;
-use run_recording::run_model::Event;
+use run_recording::{Event, Still};
 use std::alloc::{AllocError, Global};
 use svg_drawing::Group;
 

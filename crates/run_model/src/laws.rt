@@ -12,6 +12,8 @@ ghost use Rattle.run_model.specs.Laws.{CountedIsGreatest, CountStarts, CountStay
 ghost use Rattle.run_model.specs.Laws.{OneCount, OwnNodeAlone, OwnLinkAlone, MomentLeads};
 ghost use Rattle.run_model.specs.Laws.{MomentStays, MomentMoves, VisitsGoOn};
 
+pub use node_core::laws::{payloads, six_sweeps, stays_stable, sweeps, turns_stable};
+
 /// A refused event changes nothing. A list without damage leaves the network unchanged, and every
 /// list its nodes, root, capacity and lease. The run of two lists is the run of the second from
 /// where the first one led, and is without damage if both are. Proofs about a moment of a run need
@@ -38,9 +40,9 @@ pub fn in_range()
 {
     link_model::topology::laws::neighbours();
     link_model::topology::laws::changes();
-    node_core::data_link::laws::ports();
-    node_core::bfs_tree::laws::step_in_range();
-    node_core::lock_desk::laws::ranges_are_kept();
+    node_core::laws::ports();
+    node_core::laws::step_in_range();
+    node_core::laws::ranges_are_kept();
 }
 
 /// An event changes only its own node and its own link. So proofs about one node or one edge skip
@@ -83,7 +85,7 @@ pub fn strict_sweeps()
 {
     link_model::topology::laws::joined();
     link_model::topology::laws::neighbours();
-    node_core::data_link::laws::sweeps();
+    node_core::laws::sweeps();
     in_range();
 }
 
@@ -133,5 +135,5 @@ pub fn ticks()
     ensures moves { NodesMoveInTicks }
     ensures accepted { TicksAreAccepted }
 {
-    node_core::lock_desk::laws::only_ticks_lend();
+    node_core::laws::only_ticks_lend();
 }

@@ -20,11 +20,10 @@
 pub mod command;
 mod layout;
 
-pub use byte_streams;
-pub use command_parts;
+pub use byte_streams::Source;
 pub use layout::{draw, draw_layered};
 pub use run_recording::{
     Before, Column, Layers, Mark, Recording, Strip, Window, first_visits, record, record_layers,
 };
 pub use svg_drawing::{Attribute, Drawing, Element, spelled};
-pub use topology;
+pub use topology::Net;

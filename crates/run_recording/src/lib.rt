@@ -31,10 +31,8 @@ mod window;
 
 pub use change::Change;
 pub use column::{Column, Counts};
-pub use film_stills;
 pub use film_stills::{Look, MOST_EDGES, MOST_FRAMED, MOST_WAYS, NO_EDGE, Place, Reel, Still};
 pub use lanes::Lanes;
-pub use layers;
 pub use layers::Layers;
 pub use mark::Mark;
 pub use recording::{Before, Recording, record, record_film, record_layers};
@@ -44,4 +42,4 @@ pub use strip::Strip;
 pub use tour::{first_visits, is_tree_edge};
 pub use window::Window;
 pub use world::simulation::SimFault;
-pub use world::{Configuration, events_text, run_model};
+pub use world::{Configuration, Event, EventLine, Harm};

@@ -33,9 +33,8 @@ use layers::Layers;
 use std::alloc::{Allocator, Global};
 use std::marker::Model;
 use topology::Net;
-use world::events_text::{EventReader, TextLine};
 use world::simulation::{LONGEST_TEXT, SimFault};
-use world::{Configuration, Event, Judge, World};
+use world::{Configuration, Event, EventReader, Judge, TextLine, World};
 
 /// The most bytes of one read.
 const PIECE: usize = 8192;

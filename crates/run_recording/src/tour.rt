@@ -5,7 +5,7 @@ ghost use Rattle.topology.specs.Tree.{parent_of};
 ghost use Rattle.run_recording.specs.TreeEdges.{has_parent, is_on_tree};
 ghost use Rattle.run_recording.specs.Visits.{with_new, first_visits};
 
-use layers::{euler_ring, first_stop, next_stop};
+use layers::{first_stop, next_stop};
 use std::alloc::{AllocError, Global};
 use topology::Net;
 
@@ -15,7 +15,7 @@ use topology::Net;
 pub fn first_visits(alloc: Global, net: &Net) -> Result<Vec<u16>, AllocError>
     ensures { IfOk result (λ order. order.items ≡ first_visits net.now) }
 {
-    euler_ring::laws::the_tour();
+    layers::laws::the_tour();
     let nodes = net.nodes();
     let mut order = Vec::with_capacity(alloc, usize::from(nodes))?;
     let mut stop = first_stop(net);

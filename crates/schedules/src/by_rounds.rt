@@ -5,7 +5,7 @@ ghost use Rattle.schedules.specs.Rounds.{exchanges, exchanges_from, round, round
 
 use crate::event_sink::EventSink;
 use byte_streams::Failed;
-use configuration::run_model::Event;
+use configuration::Event;
 use std::alloc::Allocator;
 use topology::Net;
 

@@ -4,7 +4,7 @@ ghost use Rattle.byte_streams.specs.Streams.{CountsFailures};
 ghost use Rattle.configuration.specs.run_model.declared.event.Event.{Event};
 
 use byte_streams::Failed;
-use configuration::run_model::Event;
+use configuration::Event;
 
 /// Takes the events of a schedule, one after the other.
 pub trait EventSink {

@@ -5,6 +5,7 @@ ghost use Rattle.schedules.specs.Laws.{IdleSlowRoundsHoldSweeps, SlowRoundIsUnda
 ghost use Rattle.schedules.specs.Taking.{TakesOn};
 
 use crate::event_sink::EventSink;
+pub use damage_tool::laws::{draws, scramble};
 
 /// A round is a sweep in every world in which each tick is full, and n rounds are n sweeps if
 /// that holds at the start of each; in a network without clients it always does. Whoever asks how
@@ -15,12 +16,12 @@ pub fn rounds()
     ensures idle { IdleRoundsAreSweeps }
 {
     topology::laws::joined();
-    configuration::run_model::laws::runs();
-    configuration::run_model::laws::own_changes();
-    configuration::run_model::laws::ticks();
-    configuration::run_model::laws::in_range();
-    configuration::run_model::laws::strict_sweeps();
-    configuration::run_model::laws::sweep_numbers();
+    configuration::laws::runs();
+    configuration::laws::own_changes();
+    configuration::laws::ticks();
+    configuration::laws::in_range();
+    configuration::laws::strict_sweeps();
+    configuration::laws::sweep_numbers();
 }
 
 /// No event of a round is refused, and none is damage, in whatever state the world is.
@@ -28,7 +29,7 @@ pub fn accepted()
     ensures accepted { RoundsAreAccepted }
     ensures undamaged { RoundIsUndamaged }
 {
-    configuration::run_model::laws::runs();
+    configuration::laws::runs();
 }
 
 /// Rounds with a slow link or node are without damage. In a network without clients n rounds hold a
@@ -39,12 +40,12 @@ pub fn slow_rounds()
     ensures sweeps { IdleSlowRoundsHoldSweeps }
 {
     topology::laws::joined();
-    configuration::run_model::laws::runs();
-    configuration::run_model::laws::own_changes();
-    configuration::run_model::laws::ticks();
-    configuration::run_model::laws::in_range();
-    configuration::run_model::laws::strict_sweeps();
-    configuration::run_model::laws::sweep_numbers();
+    configuration::laws::runs();
+    configuration::laws::own_changes();
+    configuration::laws::ticks();
+    configuration::laws::in_range();
+    configuration::laws::strict_sweeps();
+    configuration::laws::sweep_numbers();
 }
 
 /// An accepted network has an edge. Whoever draws one needs it.

@@ -42,7 +42,7 @@ mod random;
 mod slow;
 
 pub use by_rounds::{give_round, give_rounds};
-pub use damage_tool;
+pub use damage_tool::{junk_line, scramble_node, scramble_world};
 pub use event_sink::EventSink;
 pub use random::{Chances, draw_step, give_random, next_step};
 pub use slow::{Slow, give_slow_round, has_part, slow_link, slow_node};

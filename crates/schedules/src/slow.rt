@@ -9,7 +9,7 @@ use crate::draws::draw_below;
 use crate::event_sink::EventSink;
 use crate::random::draw_link;
 use byte_streams::Failed;
-use configuration::run_model::Event;
+use configuration::Event;
 use rand_pcg::Lcg64Xsh32;
 use std::alloc::Allocator;
 use topology::Net;

@@ -31,4 +31,3 @@ mod tally;
 pub use axis::Axis;
 pub use figure::{Distribution, Figure, Layer};
 pub use plot::{draw, plotted};
-pub use svg_drawing;

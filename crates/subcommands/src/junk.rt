@@ -8,8 +8,7 @@ ghost use Rattle.std.specs.Process.{exit_status};
 ghost use Rattle.command_parts.specs.declared.fault.Fault.TheVariants.{Memory, Output};
 
 use byte_streams::{Failed, Sink, write_all};
-use command_parts::schedules::damage_tool::junk_line;
-use command_parts::{Fault, Flush, WriteSink};
+use command_parts::{Fault, Flush, WriteSink, junk_line};
 use rand_core::SeedableRng;
 use rand_pcg::Lcg64Xsh32;
 use std::io::{BufWriter, writer};

@@ -4,7 +4,7 @@ ghost use Rattle.subcommands.specs.LayersText.{ShowsLayers, layers_text, yes_or_
 ghost use Rattle.subcommands.specs.LayersText.{layer_line, links_line, stage_line};
 ghost use Rattle.command_parts.specs.world.judge.configuration.ConfigurationView.{world_of};
 
-use command_parts::world::World;
+use command_parts::World;
 use experiments::Layers;
 use std::alloc::{AllocError, Global};
 use std::fmt::Write;

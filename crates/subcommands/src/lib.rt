@@ -40,5 +40,4 @@ pub mod simulate;
 pub mod worst;
 
 pub use command_parts::{Fault, PathFault};
-pub use experiments::Scheduler;
-pub use experiments::schedules::Chances;
+pub use experiments::{Chances, Scheduler};

@@ -12,8 +12,7 @@ ghost use Rattle.subcommands.specs.Faults.{IsUnprinted};
 ghost use Rattle.command_parts.specs.declared.fault.Fault.TheVariants.{Memory, Output};
 
 use command_parts::{EventText, Fault, read_network};
-use experiments::schedules::Chances;
-use experiments::{Order, PlanFault, give_plan};
+use experiments::{Chances, Order, PlanFault, give_plan};
 use rand_core::SeedableRng;
 use rand_pcg::Lcg64Xsh32;
 use std::alloc::Global;

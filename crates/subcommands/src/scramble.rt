@@ -6,8 +6,7 @@ ghost use Rattle.subcommands.specs.Damaged.{scrambled_file};
 ghost use Rattle.subcommands.specs.Faults.{IsUnsaved};
 ghost use Rattle.command_parts.specs.declared.fault.Fault.TheVariants.{NoNode, Memory};
 
-use command_parts::schedules::damage_tool::scramble_node;
-use command_parts::{Fault, PathFault, read_network};
+use command_parts::{Fault, PathFault, read_network, scramble_node};
 use node_core::NodeState;
 use node_state_file::{FileStore, MOST_BYTES, Store, StoreFault, encode};
 use rand_core::SeedableRng;

@@ -4,10 +4,9 @@ ghost use Rattle.std.specs.Process.{exit_status};
 ghost use Rattle.subcommands.specs.Hints.{loan_hint};
 
 use crate::layers_text::layers_text;
-use command_parts::world::World;
 use command_parts::{
-    Fault, ReadSource, Returns, STANDARD_INPUT, Simulated, Summary, WriteSink, events_status,
-    printed, read_network, return_hint, say_hint, simulate_between,
+    Fault, ReadSource, Returns, STANDARD_INPUT, Simulated, Summary, World, WriteSink,
+    events_status, printed, read_network, return_hint, say_hint, simulate_between,
 };
 use std::fs;
 use std::io::{BufWriter, Input, Read, writer};

@@ -12,8 +12,7 @@ ghost use Rattle.subcommands.specs.Worst.{worst_text, AreAsMany, IsJudged};
 use crate::bound::{done, push_number};
 use byte_streams::Failed;
 use command_parts::{EventText, Fault, Progress, printed, read_network};
-use experiments::schedules::{self, EventSink};
-use experiments::{Search, SlowRun, climb};
+use experiments::{EventSink, Search, SlowRun, climb};
 use rayon::prelude::*;
 use run_model::Event;
 use std::alloc::{AllocError, Global};
@@ -332,7 +331,7 @@ fn give_all<S: EventSink>(events: &[Event], sink: &mut S) -> Result<(), Failed>
     ensures taken { OnOk result (S.takes sink.old events.now sink.new) }
     ensures cause { CountsFailures result (S.failures sink.old) (S.failures sink.new) }
 {
-    schedules::laws::taking::<S>();
+    experiments::laws::taking::<S>();
     for event in events {
         sink.take(event)?;
     }

@@ -10,9 +10,8 @@ ghost use Rattle.node_runner.specs.Runner.{IsPortNoted};
 ghost use Rattle.thread_net.specs.Cables.{AreEnds, IsCable, IsCabledOnce, AreFurnished};
 ghost use Rattle.thread_net.specs.Cables.{rows_of, row, seats_of, AreWithin, IsOver};
 
-use judge::configuration::Links;
-use node_runner::weaving::Stamped;
-use node_runner::{Incoming, Outgoing, Port, Runner, StampBound};
+use judge::Links;
+use node_runner::{Incoming, Outgoing, Port, Runner, StampBound, Stamped};
 use rtrb::{Producer, RingBuffer};
 use std::alloc::{AllocError, Allocator};
 

@@ -13,9 +13,7 @@ ghost use Rattle.thread_net.specs.Prepared.{IsPrepared};
 
 use crate::cables::cable_all;
 use crate::seats::{Seats, new_seats, reserve_journals, seat_all, unseat_all};
-use judge::configuration::Links;
-use judge::run_model::Event;
-use judge::{Parts, Stretch};
+use judge::{Event, Links, Parts, Stretch};
 use node_runner::Runner;
 use std::alloc::{AllocError, Allocator};
 

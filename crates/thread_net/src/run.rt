@@ -12,11 +12,8 @@ use crate::prepare::{Prepared, prepare};
 use crate::seats::{Seats, unseat_all};
 use crate::settle::settle_all;
 use crate::threads::{Outcome, run_all};
-use judge::configuration::Links;
-use judge::run_model::Event;
-use judge::{Parts, Stretch, World};
-use node_runner::weaving::weave;
-use node_runner::{Gate, Runner};
+use judge::{Event, Links, Parts, Stretch, World};
+use node_runner::{Gate, Runner, weave};
 use std::alloc::{AllocError, Allocator, Global};
 use std::sync::Wait;
 use std::thread::Threads;
@@ -78,9 +75,9 @@ fn gather<A: Allocator + Copy>(
     ensures { Gathers runners.items links room seats events result.events.items
         (world_of result.world) }
 {
-    node_runner::weaving::laws::weave();
+    node_runner::laws::weave();
     node_runner::laws::rounds();
-    judge::run_model::laws::in_range();
+    judge::laws::in_range();
     let mut links = links;
     let mut seats = seats;
     let mut events = events;

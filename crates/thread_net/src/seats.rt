@@ -9,9 +9,8 @@ ghost use Rattle.thread_net.specs.Seats.{nodes_of, entries_of_all, IsNew, entry_
 ghost use Rattle.thread_net.specs.Seats.{total_room, AreShort};
 ghost use Rattle.thread_net.specs.Tables.{rows_in, AreEmptySeats};
 
-use judge::node_core::Node;
-use node_runner::weaving::Journal;
-use node_runner::{Port, Runner};
+use judge::Node;
+use node_runner::{Journal, Port, Runner};
 use std::alloc::{AllocError, Allocator};
 
 /// The parts of runners, each in a table of its own.

@@ -10,7 +10,7 @@ ghost use Rattle.thread_net.specs.Cables.{AreCabled, IsCableBetween, IsOtherPair
 ghost use Rattle.thread_net.specs.Cables.{AreEnds, IsFlushed, IsFlushedBetween, IsRoomFor, port_to};
 ghost use Rattle.thread_net.specs.Tables.{rows_in};
 
-use judge::configuration::Links;
+use judge::Links;
 use link_model::Item;
 use node_runner::{Incoming, Outgoing, Port};
 use std::alloc::Allocator;

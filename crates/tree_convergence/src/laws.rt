@@ -19,10 +19,10 @@ pub fn links()
     ensures turn_in_six { LinksTurnStableInSix }
     ensures numbers_move { NumbersMove }
 {
-    run_model::data_link::laws::stays_stable();
-    run_model::data_link::laws::turns_stable();
-    run_model::data_link::laws::six_sweeps();
-    run_model::data_link::laws::sweeps();
+    run_model::laws::stays_stable();
+    run_model::laws::turns_stable();
+    run_model::laws::six_sweeps();
+    run_model::laws::sweeps();
     run_model::laws::runs();
     run_model::laws::in_range();
     run_model::laws::edges();
@@ -38,8 +38,8 @@ pub fn payloads()
     ensures staged_turns { StagedTurnsFresh }
     ensures copy_turns { CopyTurnsStaged }
 {
-    run_model::data_link::laws::payloads();
-    run_model::data_link::laws::sweeps();
+    run_model::laws::payloads();
+    run_model::laws::sweeps();
     run_model::laws::runs();
     run_model::laws::in_range();
     run_model::laws::edges();

@@ -1,5 +1,5 @@
 //! Files that are cut, and things that cannot be cut.
-use run_picture::command_parts::PathFault;
+use command_parts::PathFault;
 use std::alloc::Global;
 use std::process::{Command, ExitCode};
 use std::test::Fail;

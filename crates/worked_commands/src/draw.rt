@@ -2,16 +2,16 @@
 //! without room.
 use crate::nets::two_nodes;
 use byte_streams::MemorySource;
+use command_parts::{Fault, ReadSource};
 use run_picture::Window;
 use run_picture::command::{Wanted, write_picture};
-use run_picture::command_parts::world::streams::Source;
-use run_picture::command_parts::{Fault, ReadSource};
 use std::alloc::Global;
 use std::io::{Error, ErrorKind};
 use std::str;
 use std::test::Fail;
 use test_parts::{Shelf, as_expected, is_expected};
 use topology::NetFault;
+use world::streams::Source;
 
 /// Fails when it is read.
 #[derive(Drop)]

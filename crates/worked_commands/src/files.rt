@@ -1,13 +1,13 @@
 //! Why files are refused, which fault comes first, and how numbers are spelled.
 use crate::nets::{TWO_NODES, remove_files, write_files};
-use run_picture::command_parts::world::simulation::SimFault;
-use run_picture::command_parts::{Fault, NetworkFault, decimal_number, network_of, read_network};
+use command_parts::{Fault, NetworkFault, decimal_number, network_of, read_network};
 use std::alloc::{AllocError, Global};
 use std::test::Fail;
 use std::{fs, io};
 use subcommands::simulate;
 use test_parts::is_expected;
 use topology::NetFault;
+use world::simulation::SimFault;
 
 /// The bytes of a file, and its fault line without its first word and its end.
 const FAULTS: [(&[u8], &str); 4] = [

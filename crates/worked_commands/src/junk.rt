@@ -1,6 +1,6 @@
 //! Lines of junk, also if the writer has too little room. The expected text is that of another
 //! program, written from the definitions of the draws and of the generator.
-use run_picture::command_parts::{Fault, WriteSink};
+use command_parts::{Fault, WriteSink};
 use std::alloc::Global;
 use std::io::{BufWriter, Error};
 use std::test::Fail;

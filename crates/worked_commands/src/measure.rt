@@ -1,10 +1,9 @@
 //! Measured runs as texts. The runs are written by hand, and so are the texts: two nodes have the
 //! sharper bound 35 and the bound 69.
 use crate::nets::two_nodes;
-use experiments::schedules::{Slow, give_round, give_slow_round};
+use command_parts::Fault;
 use experiments::{Recovery, Scheduler, Settling, Watch, measure_layers, measure_run};
-use run_picture::command_parts::Fault;
-use run_picture::command_parts::world::World;
+use schedules::{Slow, give_round, give_slow_round};
 use std::alloc::Global;
 use std::process::ExitCode;
 use std::test::Fail;
@@ -12,6 +11,7 @@ use subcommands::measure::{ending, has_served, measured_text};
 use subcommands::measure_csv::{csv_text, have_settled};
 use test_parts::{as_expected, is_expected};
 use topology::Net;
+use world::World;
 
 /// A run of a seed that served after `sweeps` sweeps, of 35.
 macro_rules! run {

@@ -1,11 +1,11 @@
 //! Writers that fail, as standard output may: what a command ends with by the first of their errors.
-use run_picture::command_parts::schedules::EventSink;
-use run_picture::command_parts::world::Event;
-use run_picture::command_parts::world::streams::Sink;
-use run_picture::command_parts::{EventText, Fault, Flush, WriteSink};
+use command_parts::{EventText, Fault, Flush, WriteSink};
+use schedules::EventSink;
 use std::io::{BufWriter, Error, ErrorKind, Write};
 use std::test::Fail;
 use test_parts::as_expected;
+use world::Event;
+use world::streams::Sink;
 
 /// A writer that fails: first with this kind of error, and then with others.
 #[derive(Drop)]

@@ -1,7 +1,7 @@
 //! Schedules as texts: by hand, and for a writer with too little room.
 use crate::nets::two_nodes;
-use experiments::schedules::Chances;
-use run_picture::command_parts::{EventText, Fault};
+use command_parts::{EventText, Fault};
+use experiments::Chances;
 use std::alloc::Global;
 use std::io::{BufWriter, Error, Write};
 use std::str;

@@ -1,8 +1,8 @@
 //! The state files of scrambled nodes, and files that cannot be written. The expected bytes are
 //! those of another program, written from the definitions of the draws and of the generator.
 use crate::nets::{TWO_NODES, remove_files, two_nodes, write_files};
+use command_parts::{Fault, NetworkFault, PathFault};
 use node_state_file::{FusedStore, MemoryStore, Store, StoreFault};
-use run_picture::command_parts::{Fault, NetworkFault, PathFault};
 use std::alloc::{AllocError, Global};
 use std::process::ExitCode;
 use std::test::Fail;

@@ -3,13 +3,13 @@
 //! and their tokens modulo 7, and node 0 is the root.
 use crate::nets::two_nodes;
 use byte_streams::{MemorySink, MemorySource};
-use run_picture::command_parts::world::World;
-use run_picture::command_parts::world::simulation::{SimFault, simulate_to};
 use std::alloc::{AllocError, Global};
 use std::test::Fail;
 use subcommands::layers_text::layers_text;
 use test_parts::as_expected;
 use topology::Net;
+use world::World;
+use world::simulation::{SimFault, simulate_to};
 
 /// What has settled: how many links are stable, and up to which stage distances are right; and whether
 /// there is a tree, whether the ring and the loans are as they should be, and whether all is.

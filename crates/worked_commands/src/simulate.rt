@@ -1,12 +1,12 @@
 //! Readers that are interrupted or fail, and writers that have too little room.
 use crate::nets::two_nodes;
-use run_picture::command_parts::world::simulation::Summary;
-use run_picture::command_parts::{Fault, ReadSource, WriteSink, simulate_between};
+use command_parts::{Fault, ReadSource, WriteSink, simulate_between};
 use std::alloc::Global;
 use std::io::{BufWriter, Error, ErrorKind, Read, Write};
 use std::test::Fail;
 use test_parts::{Shelf, as_expected};
 use topology::Net;
+use world::simulation::Summary;
 
 /// Lines; the first, the second and the last are refused.
 const EVENTS: &[u8] = b"tick 2\nsend 0 0\ntick 0\nTick 0";

@@ -5,7 +5,7 @@ ghost use Rattle.node_core.specs.Site.{site_of};
 ghost use Rattle.node_core.specs.View.{site_in};
 
 use arrayvec::ArrayVec;
-use experiments::schedules::damage_tool::scramble_node;
+use damage_tool::scramble_node;
 use node_core::NodeState;
 use node_state_file::{FileFault, MOST_BYTES, StartFault, Store, decode, encode, start};
 use rand_pcg::Lcg64Xsh32;

@@ -1,7 +1,7 @@
 //! What some seeds draw. The expected values come from another program, written from the
 //! definitions of the draws and of the generator.
 use crate::calls::{NONE, file_of, line, scrambled, two};
-use experiments::schedules::damage_tool::{cut, junk_line, scramble_world};
+use damage_tool::{cut, junk_line, scramble_world};
 use frame_codec::LineReader;
 use rand_core::SeedableRng;
 use rand_pcg::Lcg64Xsh32;
@@ -9,8 +9,7 @@ use std::alloc::{AllocError, Global};
 use std::test::Fail;
 use test_parts::{as_expected, is_expected};
 use topology::{Frame, Net, NetFault, Payload};
-use world::World;
-use world::run_model::Event;
+use world::{Event, World};
 
 /// The default state of node 1 of two nodes, scrambled with the seed 7.
 pub const OF_SEVEN: [u16; 16] = [2, 1, 1, 1, 2, NONE, 0, 0, 4, 0, 0, 3, 1, NONE, 1, 2];

@@ -1,7 +1,7 @@
 //! Writing and scrambling a node's state on a heap without a free byte.
 use crate::calls::{NEWER, file_of, two, written};
 use crate::drawn::OF_SEVEN;
-use experiments::schedules::damage_tool::scramble_node;
+use damage_tool::scramble_node;
 use linked_list_allocator::LocalHeap;
 use node_core::NodeState;
 use rand_core::SeedableRng;

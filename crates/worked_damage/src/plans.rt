@@ -4,8 +4,9 @@ ghost use Rattle.std.specs.Prelude.{⊤};
 
 use crate::calls::two;
 use crate::heaps::{End, first_end};
-use experiments::schedules::{Chances, EventSink};
-use experiments::{Order, PlanFault, Recovery, Scheduler, give_plan, measure_run};
+use experiments::{
+    Chances, EventSink, Order, PlanFault, Recovery, Scheduler, give_plan, measure_run,
+};
 use linked_list_allocator::LocalHeap;
 use rand_core::SeedableRng;
 use rand_pcg::Lcg64Xsh32;
@@ -13,7 +14,7 @@ use std::alloc::{AllocError, Allocator, Global};
 use std::test::Fail;
 use test_parts::is_expected;
 use topology::{Net, NetFault};
-use world::run_model::Event;
+use world::Event;
 use world::streams::{Failed, Fuse};
 
 /// Keeps the events that it takes, and fails once.

@@ -2,7 +2,7 @@
 use crate::calls::{NEWER, line, reread, started, two};
 use crate::drawn::harms;
 use crate::heaps::{End, first_end};
-use experiments::schedules::damage_tool::scramble_world;
+use damage_tool::scramble_world;
 use linked_list_allocator::LocalHeap;
 use node_state_file::{FileFault, MemoryStore, Store};
 use rand_core::SeedableRng;
@@ -11,7 +11,7 @@ use std::alloc::{AllocError, Allocator, Global};
 use std::test::Fail;
 use test_parts::is_expected;
 use topology::Net;
-use world::run_model::Event;
+use world::Event;
 
 /// Whether a state was read, and is written as before; false if memory was refused.
 fn is_read<A: Allocator + Copy>(alloc: A, net: &Net) -> Result<bool, FileFault> {

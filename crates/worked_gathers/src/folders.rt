@@ -3,7 +3,7 @@ use crate::rows::{FILE, FRAME, IN_ORDER, Kept, MARK, one, sender, taker};
 use command_parts::{EventText, Fault, NetworkFault};
 use gather_command::command::{gather_text, run};
 use gather_command::{FolderRecords, GatherFault, MemoryRecords, Stretch, gather};
-use record_gathering::configuration::run_model::Event;
+use record_gathering::Event;
 use std::alloc::Global;
 use std::fs;
 use std::io::BufWriter;

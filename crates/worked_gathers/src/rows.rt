@@ -1,14 +1,14 @@
 //! Records of two nodes in memory, gathered.
 ghost use Rattle.std.specs.Prelude.{⊤};
 
+use flight_records::write_entry;
 use gather_command::{
     Difference, Field, Flaw, FlawKind, GatherFault, Lasted, MemoryRecord, MemoryRecords,
     RecordFile, Side, Summary, gather,
 };
 use node_recorder::network_mark;
-use record_gathering::configuration::run_model::{Event, Harm};
-use record_pages::byte_streams::Failed;
-use record_pages::flight_records::{Deed, Entry, Noted, StatePart, write_entry};
+use record_gathering::{Event, Harm};
+use record_pages::{Deed, Entry, Failed, Noted, StatePart};
 use schedules::EventSink;
 use std::alloc::Global;
 use std::test::Fail;
@@ -264,13 +264,13 @@ const FORGED_LAST: [Event; 8] = [
     Event::Damage(Harm::Item {
         from: 0,
         to: 1,
-        item: record_gathering::configuration::link_model::Item::Frame(FORGED),
+        item: record_gathering::Item::Frame(FORGED),
     }),
     Event::Take { from: 0, to: 1 },
     Event::Damage(Harm::Item {
         from: 0,
         to: 1,
-        item: record_gathering::configuration::link_model::Item::Frame(FRAME),
+        item: record_gathering::Item::Frame(FRAME),
     }),
     Event::Tick { node: 1 },
     Event::Tick { node: 1 },

@@ -6,12 +6,9 @@ use crate::rows::{
 use gather_command::{
     GatherFault, Gathered, Lasted, MemoryRecord, MemoryRecords, Stretch, gather_stretch,
 };
-use record_gathering::Fact;
-use record_gathering::configuration::Configuration;
-use record_gathering::configuration::link_model::Item;
-use record_gathering::configuration::run_model::{Event, Harm};
 use record_gathering::facts::{add_edges, add_links, add_state};
-use record_pages::flight_records::{Deed, Noted};
+use record_gathering::{Configuration, Event, Fact, Harm, Item};
+use record_pages::{Deed, Noted};
 use std::alloc::Global;
 use std::test::Fail;
 use test_parts::as_expected;

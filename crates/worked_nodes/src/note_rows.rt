@@ -2,8 +2,8 @@
 use crate::cast::{Cast, on_stage};
 use crate::stage::Run;
 use crate::wires::{Pair, Queue};
+use flight_records::Deed;
 use node_loop::Notes;
-use node_loop::flight_records::Deed;
 use std::alloc::Global;
 use std::test::Fail;
 use test_parts::as_expected;

@@ -2,7 +2,7 @@
 use crate::rows::{FORGED, two};
 use byte_streams::{Fused, MemorySource, Source};
 use linked_list_allocator::LocalHeap;
-use run_picture::command_parts::world::simulation::SimFault;
+use run_film::SimFault;
 use run_picture::{Window, record};
 use std::alloc::{Allocator, Global};
 use std::test::Fail;

@@ -4,9 +4,8 @@ use crate::nodes::{
     ABSENT, LINE, LOADED, begins, comes_to, in_folder, network_file, spawn_recorded, stops,
     stops_with,
 };
-use node_recorder::flight_recorder::flight_records::{Deed, Entry, EntryReader, Noted, StatePart};
-use node_recorder::flight_recorder::{Side, record_name};
-use node_recorder::network_name;
+use flight_records::{Deed, Entry, EntryReader, Noted, StatePart};
+use node_recorder::{Side, network_name, record_name};
 use std::os::unix::fs::symlink;
 use std::process::Child;
 use std::test::Fail;

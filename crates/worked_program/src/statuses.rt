@@ -1,12 +1,12 @@
 //! Command lines, and their statuses.
 use crate::words::{TWO_NODES, ends_with, first_other_beside};
 use command_line::Runtime;
-use command_line::program_ends::FaultLine;
-use command_line::subcommands::bound;
+use program_ends::FaultLine;
 use std::alloc::AllocError;
 use std::fs;
 use std::rt::Files;
 use std::test::Fail;
+use subcommands::bound;
 use test_parts::{as_expected, is_expected};
 
 /// A command line, and its status.

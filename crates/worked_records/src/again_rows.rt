@@ -1,8 +1,8 @@
 //! Frames that are noted again.
-use flight_records::topology::{Frame, Payload};
 use flight_records::{Deed, LastFrames, Noted, StatePart};
 use std::test::Fail;
 use test_parts::as_expected;
+use topology::{Frame, Payload};
 
 /// A frame.
 const FRAME: Frame = Frame {

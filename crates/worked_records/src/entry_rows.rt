@@ -1,9 +1,9 @@
 //! Entries as bytes.
-use flight_records::topology::{Frame, Payload};
 use flight_records::{Deed, Entry, EntryReader, Noted, StatePart, Unread, write_entry};
 use std::alloc::Global;
 use std::test::Fail;
 use test_parts::as_expected;
+use topology::{Frame, Payload};
 
 /// What a node without a parent says.
 const ALONE: Payload = Payload {

@@ -54,10 +54,10 @@ pub mod report;
 pub mod simulation;
 pub mod streams;
 
-pub use events_text;
-pub use judge::configuration::{Configuration, Links};
-pub use judge::node_core::Node;
-pub use judge::run_model::{Event, EventFault, Happened, Harm};
-pub use judge::{Judge, Parts, Stretch, Tally, World, run_model};
+pub use events_text::{EventLine, EventReader, TextLine};
+pub use judge::{
+    Configuration, Event, EventFault, Happened, Harm, Judge, Links, Node, Parts, Stretch, Tally,
+    World,
+};
 pub use link_model::{Frame, Item, NoItem, Payload};
 pub use topology::{Net, NetFault};

@@ -16,8 +16,7 @@ ghost use Rattle.judge.specs.Judging.{refused_in, counted_up_to};
 ghost use Rattle.judge.specs.Visited.{AreVisited, AreAllVisited};
 ghost use Rattle.judge.specs.configuration.ConfigurationView.{world_of};
 
-use judge::run_model::Event;
-use judge::{Judge, World};
+use judge::{Event, Judge, World};
 use std::alloc::{Allocator, Global};
 
 /// What a judge has counted along a run, and where the run has led.
@@ -88,11 +87,11 @@ pub fn judge<A: Allocator + Copy>(start: World<A>, events: &[Event]) -> Report<A
     ensures closure { IsLegitimate (world_of start) → IsUndamaged (world_of start) events.now
         → IsLegitimateThroughout (world_of start) events.now }
 {
-    judge::run_model::laws::runs();
-    judge::run_model::laws::in_range();
-    judge::run_model::laws::moments();
-    judge::run_model::laws::sweep_numbers();
-    convergence::tree_convergence::laws::links();
+    judge::laws::runs();
+    judge::laws::in_range();
+    judge::laws::moments();
+    judge::laws::sweep_numbers();
+    convergence::laws::links();
     convergence::laws::closure();
     convergence::laws::converge();
     convergence::laws::sharp();

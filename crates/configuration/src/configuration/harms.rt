@@ -16,10 +16,7 @@ ghost use Rattle.configuration.specs.Answers.{Answers};
 ghost use Rattle.configuration.specs.Rewired.{IsRewired};
 
 use crate::configuration::Configuration;
-use run_model::link_model::{Item, Payload};
-use run_model::node_core::Node;
-use run_model::node_core::registers::OutOfRange;
-use run_model::{EventFault, Happened, Harm};
+use run_model::{EventFault, Happened, Harm, Item, Node, OutOfRange, Payload};
 use std::alloc::Allocator;
 use topology::Net;
 

@@ -5,7 +5,7 @@ ghost use Rattle.byte_streams.specs.Streams.{WritesAll};
 
 use super::line::{Line, push_number};
 use byte_streams::{Failed, Sink, write_all};
-use judge::run_model::EventFault;
+use judge::EventFault;
 
 /// The name of a line that spells no event.
 pub const UNREAD: &str = "Unread";

@@ -8,7 +8,7 @@ ghost use Rattle.judge.specs.configuration.ConfigurationView.{world_of};
 
 use super::line::{Line, push_number};
 use byte_streams::{Failed, Sink, write_all};
-use judge::configuration::Configuration;
+use judge::Configuration;
 use std::alloc::Allocator;
 
 /// Writes the text that shows a world with this count of sweeps.
