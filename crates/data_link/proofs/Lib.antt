@@ -1,6 +1,6 @@
 pub mod LinkSteps
 pub mod UnderWay
-pub mod Ranges
+pub mod EdgeRanges
 mod PortRange
 pub mod Stable
 pub mod Marks

@@ -15,7 +15,7 @@ use Rattle.data_link.specs.Port.{PortState, frame_of, port_after}
 use Rattle.data_link.specs.Edge.{EdgeState, EdgeEvent, SendOut, SendBack, TakeOut, TakeBack, LoseOut, LoseBack, Elsewhere, CarriesItsPayload, IsEdgeInRange, IsStable, modulus_of, edge_step, edge_run, link_ring, moves, moves_in, newest_first, payload_under, port_taking}
 use Rattle.data_link.specs.Sweep.{Takes, act_out, list_after, Origin, Before, Sent, takes_sent, hands_over_sent, IsSweep, PresentPasses, Sweeps}
 use Rattle.data_link.proofs.UnderWay.{All-append, frames-newest, OfItem, OfAll, all-stays}
-use Rattle.data_link.proofs.Ranges.{range-event, range-run, ring-of_edge}
+use Rattle.data_link.proofs.EdgeRanges.{range-event, range-run, ring-of_edge}
 use Rattle.data_link.proofs.Marks.{IsMarked, IsFirstGood, marked-start, marked-after, marked-taken, by_taken, out-after}
 use Rattle.data_link.proofs.Stable.{stays-in_runs}
 use Rattle.data_link.proofs.Sweeping.{run-append, two-sweeps-move}

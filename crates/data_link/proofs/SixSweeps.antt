@@ -9,7 +9,7 @@ use Rattle.k_state.specs.Laws.{AgeGoesOn, AgeOfStart, FreshHasFront, FrontStaysO
 use Rattle.data_link.specs.Edge.{EdgeState, EdgeEvent, IsEdgeInRange, IsStable, modulus_of, edge_step, edge_run, moves, moves_in, link_ring}
 use Rattle.data_link.specs.SixSweeps.{StableAfterSixSweeps}
 use Rattle.data_link.proofs.UnderWay.{All-weaker, near-stays}
-use Rattle.data_link.proofs.Ranges.{range-event, range-run}
+use Rattle.data_link.proofs.EdgeRanges.{range-event, range-run}
 use Rattle.data_link.proofs.Stable.{seq-moves, fresh-ready, ready-run, stable-after_moves}
 use Rattle.data_link.proofs.Sweeping.{moves-append, run-append, sweeps-move}
 use Rattle.data_link.proofs.Known.{AlwaysHas, AreKnown, known-event, known-after_two, known-numbers}

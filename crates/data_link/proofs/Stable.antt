@@ -12,7 +12,7 @@ use Rattle.data_link.specs.Port.{PortState}
 use Rattle.data_link.specs.Edge.{EdgeState, EdgeEvent, IsEdgeInRange, IsStable, modulus_of, edge_step, edge_run, moves, moves_in, link_ring, payload_under}
 use Rattle.data_link.proofs.LinkSteps.{event-step}
 use Rattle.data_link.proofs.UnderWay.{OfAll, near-stays, all-stays, all-weaker, all-both, all-ring}
-use Rattle.data_link.proofs.Ranges.{range-event, range-run, ring-of_edge, ring-length}
+use Rattle.data_link.proofs.EdgeRanges.{range-event, range-run, ring-of_edge, ring-length}
 
 -- ---- payloads under numbers
 

@@ -1,5 +1,5 @@
 use Rattle.data_link.proofs.LinkSteps.{event-step}
-use Rattle.data_link.proofs.Ranges.{range-event}
+use Rattle.data_link.proofs.EdgeRanges.{range-event}
 use Rattle.data_link.proofs.laws.events.Goals as goal
 
 pub returns-clause-ring : goal.returns-clause-ring
