@@ -5,6 +5,7 @@ use Rattle.std.proofs.lemmas.List.FromFn.{sum_by-map-range_with_len_more}
 use Rattle.std.proofs.lemmas.Bool.Decides.{nat_tests}
 use Rattle.std.specs.Prelude.{◌⊎◌, is_some, IsSome, nat_le}
 use Rattle.std.specs.List.{range_with_len}
+use Rattle.std.proofs.lemmas.Bool.{cases_Bool, cases_eq}
 use Rattle.topology.specs.Network.{IsTrueParent}
 use Rattle.topology.specs.Tree.{parent_of}
 use Rattle.topology.specs.Laws.{DistanceIs, ParentIs, EachTree}
@@ -43,16 +44,12 @@ counted-no p n fails = counted-next p n ∙ ap (λ b. counted p n + cond b 1 0) 
 last-or-below : (u n : ℕ) → u < suc n → (u ≡ n) ⊎ (u < n)
 last-or-below u n h = grind arith
 
-whether : (b : Bool) → (b ≡ true) ⊎ (b ≡ false)
-whether true = inl refl
-whether false = inr refl
-
 some-counted : (p : ℕ → Bool) (n u : ℕ) → u < n → p u ≡ true → 1 ≤ counted p n
 some-counted p zero u below holds = absurd (omega arith)
 some-counted p (suc n) u below holds =
     elim (last-or-below u n below) [
       | inl e ↦ omega (arith, counted-yes p n (subst (λ x. p x ≡ true) e holds))
-      | inr less ↦ elim (whether (p n)) [
+      | inr less ↦ elim (cases_Bool (p n)) [
         | inl passes ↦ omega (arith, counted-yes p n passes)
         | inr fails ↦ omega (arith, counted-no p n fails, some-counted p n u less holds)
       ]
@@ -71,7 +68,7 @@ last-alone p n u few below one last = omega (arith, counted-yes p n last, some-c
 
 fewer-before : (p : ℕ → Bool) (n : ℕ) → counted p (suc n) ≤ 1 → counted p n ≤ 1
 fewer-before p n few =
-    elim (whether (p n)) [ inl passes ↦ omega (arith, counted-yes p n passes) | inr fails ↦ omega (arith, counted-no p n fails) ]
+    elim (cases_Bool (p n)) [ inl passes ↦ omega (arith, counted-yes p n passes) | inr fails ↦ omega (arith, counted-no p n fails) ]
 
 pub few-are_one : (p : ℕ → Bool) (n : ℕ) → counted p n ≤ 1 → AreOne p n
 few-are_one p zero few u v a b one two = absurd (omega arith)
@@ -89,7 +86,7 @@ few-are_one p (suc n) few u v a b one two =
 
 other-fails : (p : ℕ → Bool) (n u : ℕ) → AreOne p (suc n) → u < n → p n ≡ true → p u ≡ false
 other-fails p n u one below last =
-    elim (whether (p u)) [
+    elim (cases_Bool (p u)) [
       | inl passes ↦ let same : u ≡ n = one u n (omega arith) (omega arith) passes last in absurd (omega arith)
       | inr fails ↦ fails
     ]
@@ -98,7 +95,7 @@ pub one-are_few : (p : ℕ → Bool) (n : ℕ) → AreOne p n → counted p n �
 one-are_few p zero one = omega arith
 one-are_few p (suc n) one =
     let before : AreOne p n = λ u v a b. one u v (omega arith) (omega arith) in
-    elim (whether (p n)) [
+    elim (cases_Bool (p n)) [
       | inl passes ↦ omega (arith, counted-yes p n passes, none-counted p n (λ u below. other-fails p n u one below passes))
       | inr fails ↦ omega (arith, counted-no p n fails, one-are_few p n before)
     ]
@@ -116,9 +113,6 @@ some-or-none (Some x) = inl (x, refl)
 no-some : {X : Type 0} (o : Option X) → o ≡ None → IsSome o → ⊥
 no-some None none there = grind arith
 no-some (Some x) none there = absurd (cc)
-
-root-or-not : (v r : ℕ) → (v ≡ r) ⊎ (v ≢ r)
-root-or-not v r = grind arith
 
 module _ (distances : DistanceIs) (parents : ParentIs) (known : EachTree) (w : World) (ok : IsWorldInRange w) where
   pub shown-serves : IsTreeShown w → privileged_count w ≤ 1 → lending_count w ≤ 1 → IsServing w
@@ -138,7 +132,7 @@ module _ (distances : DistanceIs) (parents : ParentIs) (known : EachTree) (w : W
         | inl some ↦
             let there : IsTrueParent w.net v some.0 = subst (λ o. IfSome o (IsTrueParent w.net v)) some.1 (serving.parents v node) in
             some.1 ∙ sym ((parents w.net v some.0 ok.network node).1 there)
-        | inr none ↦ elim (root-or-not v w.net.root) [
+        | inr none ↦ elim (cases_eq v w.net.root) [
           | inl root ↦ none ∙ sym (ap (parent_of w.net) root ∙ (known w.net ok.network).root_parent)
           | inr other ↦ absurd (no-some (w.node v).parent none (serving.some_parent v node other))
         ]

@@ -4,6 +4,7 @@ use Rattle.std.proofs.Math.Path.{fun_ext}
 use Rattle.std.proofs.lemmas.Grind.{common_steps}
 use Rattle.std.proofs.lemmas.Bool.Decides.{nat_tests}
 use Rattle.std.specs.Prelude.{◌⊎◌, ◌↔◌, is_some, IsSome, IsNone}
+use Rattle.std.proofs.lemmas.Bool.{cases_Bool, cases_lt}
 use Rattle.topology.specs.Network.{Network, IsDistance, IsTrueParent}
 use Rattle.run_model.specs.node_core.Machines.{is_node_privileged}
 use Rattle.run_model.specs.node_core.Site.{Site, site_of}
@@ -74,13 +75,6 @@ sight-by : (a b : World) (v : ℕ) → a.net ≡ b.net → a.node v ≡ b.node v
 sight-by a b v net node =
     sight-is a v ∙ ap (λ (n : Network). sight_in (site_of n v) (a.node v)) net ∙ ap (sight_in (site_of b.net v)) node ∙ sym (sight-is b v)
 
-whether : (b : Bool) → (b ≡ true) ⊎ (b ≡ false)
-whether true = inl refl
-whether false = inr refl
-
-in-or-out : (v n : ℕ) → (v < n) ⊎ (n ≤ v)
-in-or-out v n = grind arith
-
 -- an event at an id without a node is refused
 no-node : (w : World) (e : Event) (v : ℕ) → is_damage w e ≡ false → is_node_touched e v ≡ true → w.net.nodes ≤ v → step w e ≡ w
 no-node w e v harmless own out = grind (arith, common_steps, nat_tests)
@@ -98,8 +92,8 @@ module _ (alone : OwnNodeAlone) (network : NetworkStays) where
   sight-stays : (w : World) (e : Event) (v : ℕ) → is_damage w e ≡ false
       → (v < w.net.nodes → IsTrue (is_node_touched e v) → sight_of (step w e) v ≡ sight_of w v) → sight_of (step w e) v ≡ sight_of w v
   sight-stays w e v harmless same =
-      elim (whether (is_node_touched e v)) [
-        | inl own ↦ elim (in-or-out v w.net.nodes) [
+      elim (cases_Bool (is_node_touched e v)) [
+        | inl own ↦ elim (cases_lt v w.net.nodes) [
           | inl inside ↦ same inside own
           | inr out ↦ ap (λ (x : World). sight_of x v) (no-node w e v harmless own out)
         ]

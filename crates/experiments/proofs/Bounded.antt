@@ -1,6 +1,7 @@
 -- A run that goes on without damage fails for the last time before the sharper bound.
 use Rattle.std.proofs.Common.{◌≡◌, ◌∙◌, ap, sym, subst, ℕ, ◌+◌, ◌-◌, ◌*◌, ◌<◌, ◌≤◌, Option, Some, None, List, arith, inl, inr}
 use Rattle.std.specs.Prelude.{◌⊎◌}
+use Rattle.std.proofs.lemmas.Bool.{cases_lt}
 use Rattle.topology.specs.Network.{Network}
 use Rattle.topology.specs.Eccentricity.{eccentricity_of, sharp_of}
 use Rattle.run_model.specs.World.{World, IsWorldInRange}
@@ -31,12 +32,9 @@ module _ (Fact : World → Type 0) (bound : Network → ℕ)
       let few : bound m.world.net ≤ count = subst (λ (n : Network). bound n ≤ count) (sym same) enough in
       subst Fact l.2 (converges m.world m.rest l.0 l.1 (fewer m.world (bound m.world.net) count m.rest few counted.held))
 
-  below-or-not : (a b : ℕ) → (a < b) ⊎ (b ≤ a)
-  below-or-not a b = grind arith
-
   fails-before : (es : List Event) (count : ℕ) → IsUndamaged start es → IsSweepCount start es count → ¬ Fact (run start es) → count < bound start.net
   fails-before es count harmless counted fails =
-      elim (below-or-not count (bound start.net)) [
+      elim (cases_lt count (bound start.net)) [
         | inl less ↦ less
         | inr enough ↦
             absurd (fails (holds-after es count counted (subst (λ (n : Network). bound n ≤ count) (sym (network start es harmless)) enough)))

@@ -1,7 +1,7 @@
 -- Answers that go out, one client after the other.
 use Rattle.std.proofs.Common.{◌≡◌, ◌≢◌, ◌⊎◌, ◌<◌, ◌≤◌, ◌+◌, ◌-◌, ◌++◌, ◌∙◌, ℕ, List, [], ◌∷◌, min, take, drop, get_or, Option, None, Some, length, refl, sym, subst, ap, inl, inr, arith}
 use Rattle.std.specs.Prelude.{Bool, false, slice_index_or, slice_set, IsSome, IsTrue}
-use Rattle.std.proofs.lemmas.Bool.{true≢false}
+use Rattle.std.proofs.lemmas.Bool.{cases_eq, cases_lt, true≢false}
 use Rattle.std.proofs.lemmas.List.{drop_all, drop-append-le, get_or_default, get_or_past, get_or-set_same, get_or-set_other, length-drop, length-set, take_all, take-append-le}
 use Rattle.byte_streams.specs.Streams.{Rose}
 use Rattle.circular_buffer.specs.Buffer.{Buffer, buffer}
@@ -12,8 +12,8 @@ use Rattle.node_loop.specs.declared.clients.Client.{Client}
 use Rattle.node_loop.specs.declared.clients.Clients.{Clients}
 use Rattle.node_loop.specs.Clients.{answers_of, is_connected}
 use Rattle.node_loop.specs.Lives.{AllGoOut, GoesOutAt, OthersStay}
-use Rattle.node_loop.proofs.Lives.{nobody, tested, there}
-use Rattle.node_loop.proofs.Speaking.{below-or-from, below-or-last}
+use Rattle.node_loop.proofs.Lives.{nobody, there}
+use Rattle.node_loop.proofs.Speaking.{below-or-last}
 
 module _ {P : Type 0} (counts : P → Counts) where
   -- for a client for whom nothing waits
@@ -150,7 +150,7 @@ module _ {P A : Type 0} (counts : P → Counts) where
 
   pub below-all : (k : ℕ) (old new : Clients P A) → 128 ≤ k → length old.answers.items ≡ 128 → GoOutBelow k old new → AllGoOut counts old new
   below-all k old new end long so t =
-      elim (below-or-from t 128) [
+      elim (cases_lt t 128) [
         | inl less ↦ (so t).0 (omega (arith, less, end))
         | inr from ↦ out-nothing counts (get old.table t) (get new.table t) (answers_of old t) (answers_of new t)
             (nothing-past old t long from)

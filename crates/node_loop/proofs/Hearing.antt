@@ -4,6 +4,7 @@ use Rattle.std.specs.Prelude.{MatchOption, ⊤}
 use Rattle.std.specs.Prelude.{length, slice_set}
 use Rattle.std.proofs.lemmas.Grind.{common_steps}
 use Rattle.std.proofs.lemmas.Option.{slice_get_read}
+use Rattle.std.proofs.lemmas.Bool.{cases_eq, cases_lt}
 use Rattle.circular_buffer.proofs.Places.{slice_get-set_same, slice_get-set_other}
 use Rattle.topology.specs.declared.frame.Frame.{Frame}
 use Rattle.topology.specs.declared.frame.Ranges.{Ranges}
@@ -21,11 +22,7 @@ use Rattle.node_loop.specs.Hearing.{AreWired, Comes, HasCome, Hears, Pulls, Take
 use Rattle.node_loop.specs.Moments.{AtBoth}
 use Rattle.node_loop.proofs.Became.{joins, one, stays, taken-join}
 use Rattle.node_loop.proofs.Pushing.{goes-on, stays-on}
-use Rattle.node_loop.proofs.Speaking.{apart, below-or-last, below-or-from, none-below, past}
-
--- a number is another, or not
-pub same-or-not : (w i : ℕ) → (w ≡ i) ⊎ (w ≢ i)
-same-or-not w i = grind arith
+use Rattle.node_loop.proofs.Speaking.{apart, below-or-last, none-below, past}
 
 module _ {P : Type 0} where
   -- what is so at each place stays so, and goes on
@@ -71,7 +68,7 @@ module _ {P : Type 0} where
   -- at one place, and at no other
   pub wired-at : (a b : List (NodePort P)) (i : ℕ) → AtBoth Wires (slice_get a i) (slice_get b i) → ((w : ℕ) → w ≢ i → slice_get b w ≡ slice_get a w) → AreWired a b
   wired-at a b i there others w =
-      elim (same-or-not w i) [
+      elim (cases_eq w i) [
         | inl e ↦ rw e there
         | inr n ↦ rw (others w n) (wired-same a w)
       ]
@@ -237,7 +234,7 @@ module _ {P : Type 0} where
   heard-all gave took counts x y a b i f = record {
     takes = f.takes;
     pulls = λ w.
-        elim (below-or-from w i) [
+        elim (cases_lt w i) [
           | inl less ↦ f.below w less
           | inr from ↦ (let rest = f.above w from in rw (rest.0, rest.1) (both-same (Pulls (site_in x).ranges gave took counts []) (pulls-same (site_in x).ranges gave took counts) (slice_get a w)))
         ];

@@ -2,6 +2,7 @@
 use Rattle.std.proofs.Common.{◌≡◌, ◌≢◌, ◌⊎◌, ◌<◌, ◌∙◌, ◌&&◌, ◌==◌, not, ℕ, Bool, true, false, List, [], Option, None, Some, refl, sym, subst, ap, inl, inr, arith}
 use Rattle.std.specs.Prelude.{is_some, IsSome}
 use Rattle.std.proofs.lemmas.Grind.{common_steps}
+use Rattle.std.proofs.lemmas.Bool.{both_ways, cases_Bool, cases_eq}
 use Rattle.std.proofs.lemmas.Bool.Decides.{nat_tests}
 use Rattle.byte_streams.specs.Streams.{Rose}
 use Rattle.slab.specs.Slab.{Slab, get, with_value}
@@ -14,29 +15,9 @@ use Rattle.node_loop.specs.Clients.{answers_of, is_connected}
 use Rattle.node_loop.proofs.Speaking.{apart}
 use Rattle.node_loop.specs.Lives.{Lives, Stays, Gave, Gives_later, Then, LivesAt, LiveOn, ReadsAt, OthersStay, Admits, StillLive, FailsAt}
 
-one-of-three : (t k : ℕ) → (t ≡ k) ⊎ ((t < k) ⊎ (k < t))
-one-of-three t k = grind arith
-
--- a ticket is this one or another
-pub tested : (t k : ℕ) → (t ≡ k) ⊎ (t ≢ k)
-tested t k =
-    elim (one-of-three t k) [
-      | inl same ↦ inl same
-      | inr (inl less) ↦ inr (λ same. apart t k less same)
-      | inr (inr more) ↦ inr (λ same. apart k t more (sym same))
-    ]
-
 pub nobody : {X : Type 0} (x : Option X) → is_some x ≡ false → x ≡ None
 nobody None e = refl
 nobody (Some c) e = grind (arith, e)
-
-both-ways : (b : Bool) → b ≡ true → b ≡ false → ⊥
-both-ways true p q = absurd cc
-both-ways false p q = absurd cc
-
-is-or-not : (b : Bool) → (b ≡ true) ⊎ (b ≡ false)
-is-or-not true = inl refl
-is-or-not false = inr refl
 
 pub there : {P : Type 0} (s : Slab (Client P)) (k : ℕ) (old : Client P) → Some old ≡ get s k → IsSome (get s k)
 there s k old e = subst (λ x. IsSome x) e refl
@@ -79,7 +60,7 @@ module _ {P : Type 0} (gave took : P → Option (List ℕ)) (counts : P → Coun
   pub touched-at : (s : Slab (Client P)) (k : ℕ) (old new : Client P) → Some old ≡ get s k → Lives gave took counts old.pipe new.pipe
       → (t : ℕ) → LivesAt gave took counts (get s t) (get (with_value s k new) t)
   touched-at s k old new e l t =
-      elim (tested t k) [
+      elim (cases_eq t k) [
         | inl same ↦ subst (λ u. LivesAt gave took counts (get s u) (get (with_value s k new) u)) (sym same) (touched-here s k old new e l)
         | inr other ↦ same-at (get s t) (get (with_value s k new) t) ((Updates-with_value s k new (there s k old e)).others t other)
       ]
@@ -94,7 +75,7 @@ module _ {P A : Type 0} (gave took : P → Option (List ℕ)) (counts : P → Co
   -- it is enough to look at the one ticket that was touched
   pub live-one : (k : ℕ) (old new : Clients P A) → OthersStay k old new → LivesAt gave took counts (get old.table k) (get new.table k) → LiveOn gave took counts old new
   live-one k old new others at t =
-      elim (tested t k) [
+      elim (cases_eq t k) [
         | inl same ↦ subst (λ u. LivesAt gave took counts (get old.table u) (get new.table u)) (sym same) at
         | inr other ↦ same-at gave took counts (get old.table t) (get new.table t) (others t other)
       ]
@@ -115,7 +96,7 @@ module _ {P A : Type 0} where
 module _ {P A : Type 0} where
   -- nobody came
   pub admits-none : (clients : Clients P A) → Admits clients clients
-  admits-none clients t = (λ was. (refl, refl), λ n y. absurd (both-ways (is_connected clients t) y n))
+  admits-none clients t = (λ was. (refl, refl), λ n y. absurd (both_ways (is_connected clients t) n y))
 
   connected-still : (a b : Clients P A) (t : ℕ) → Admits a b → is_connected a t ≡ true → is_connected b t ≡ true
   connected-still a b t f was = ap (λ x. is_some x) ((f t).0 was).0 ∙ was
@@ -125,7 +106,7 @@ module _ {P A : Type 0} where
   admits-join a b c f g t = (
     λ was. (let more = (g t).0 (connected-still a b t f was) in let first = (f t).0 was in (more.0 ∙ first.0, more.1 ∙ first.1)),
     λ n y.
-        elim (is-or-not (is_connected b t)) [
+        elim (cases_Bool (is_connected b t)) [
           | inl there ↦ ((g t).0 there).1 ∙ (f t).1 n there
           | inr none ↦ (g t).1 none y
         ],
@@ -135,14 +116,14 @@ module _ {P A : Type 0} where
   pub admits-one : (k : ℕ) (old new : Clients P A) → is_connected old k ≡ false → ((t : ℕ) → t ≢ k → (get new.table t ≡ get old.table t) × (answers_of new t ≡ answers_of old t))
       → (is_connected new k ≡ true → answers_of new k ≡ []) → Admits old new
   admits-one k old new free others silent t =
-      elim (tested t k) [
+      elim (cases_eq t k) [
         | inl same ↦ (
-          λ was. absurd (both-ways (is_connected old t) was (subst (λ u. is_connected old u ≡ false) (sym same) free)),
+          λ was. absurd (both_ways (is_connected old t) (subst (λ u. is_connected old u ≡ false) (sym same) free) was),
           λ n y. subst (λ u. is_connected new u ≡ true → answers_of new u ≡ []) (sym same) silent y,
         )
         | inr other ↦ (
           λ was. others t other,
-          λ n y. absurd (both-ways (is_connected new t) y (ap (λ x. is_some x) (others t other).0 ∙ n)),
+          λ n y. absurd (both_ways (is_connected new t) (ap (λ x. is_some x) (others t other).0 ∙ n) y),
         )
       ]
 

@@ -3,12 +3,13 @@ use Rattle.std.proofs.Common.{◌≡◌, ◌≢◌, ◌<◌, ◌≤◌, ◌+◌,
 use Rattle.std.specs.Prelude.{slice_set}
 use Rattle.std.proofs.lemmas.List.{length-set}
 use Rattle.std.proofs.lemmas.Option.{slice_get_past}
+use Rattle.std.proofs.lemmas.Bool.{cases_lt}
 use Rattle.circular_buffer.proofs.Places.{slice_get-set_same, slice_get-last, slice_get-append_left, slice_get-append_right}
 use Rattle.node_loop.specs.declared.port.NodePort.{NodePort}
 use Rattle.node_loop.specs.LinkSights.{link_at}
 use Rattle.node_loop.specs.Loose.{AreKept, AreLoose, is_linked}
 use Rattle.node_loop.proofs.Hearing.{others-set}
-use Rattle.node_loop.proofs.Speaking.{apart, below-or-from, below-or-last, none-below, none-there}
+use Rattle.node_loop.proofs.Speaking.{apart, below-or-last, none-below, none-there}
 
 module _ {P : Type 0} where
   unlinked : (q : NodePort P) → q.link.pipe ≡ None → q.greeting ≡ None → is_linked (Some q) ≡ false
@@ -48,7 +49,7 @@ module _ {P : Type 0} where
 
   pub all-closed : (ns : List ℕ) (old new : List (NodePort P)) (i : ℕ) → length new ≤ i → AreClosed ns old new i → AreLoose ns new
   all-closed ns old new i all so w not =
-      elim (below-or-from w i) [
+      elim (cases_lt w i) [
         | inl less ↦ so.closed w less not
         | inr from ↦ (let past : length new ≤ w = omega arith in rw (slice_get_past new w past) refl)
       ]

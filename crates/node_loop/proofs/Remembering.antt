@@ -1,12 +1,12 @@
 -- What a pace remembers while a node listens and ticks.
 use Rattle.std.proofs.Common.{◌≡◌, ◌≢◌, ℕ, Bool, refl, inl, inr, sym, subst, ap, ◌∙◌}
+use Rattle.std.proofs.lemmas.Bool.{cases_eq}
 use Rattle.topology.specs.declared.frame.Frame.{Frame}
 use Rattle.pace.specs.Plans.{called_port, port_of}
 use Rattle.pace.specs.Ports.{fresh_port, heard_port}
 use Rattle.pace.specs.declared.pace.Pace.{Pace}
 use Rattle.pace.specs.declared.port.PortPace.{PortPace}
 use Rattle.node_loop.specs.Remembering.{Remembers, StillGiven}
-use Rattle.node_loop.proofs.Hearing.{same-or-not}
 
 still-same : (p : PortPace) → StillGiven p p
 still-same p = inl (refl, refl)
@@ -42,7 +42,7 @@ remembers-attached old new id fresh others manner = record {
 } where
   at : (p : ℕ) → StillGiven (port_of old.ports p) (port_of new.ports p)
   at p =
-      elim (same-or-not p id) [
+      elim (cases_eq p id) [
         | inl e ↦ inr (ap (λ x. (port_of new.ports x).given) e ∙ ap (λ x. x.given) fresh)
         | inr n ↦ subst (λ x. StillGiven (port_of old.ports p) x) (sym (others p n)) (still-same (port_of old.ports p))
       ]
@@ -56,7 +56,7 @@ remembers-heard old new id now frame calls heard others manner = record {
 } where
   at : (p : ℕ) → StillGiven (port_of old.ports p) (port_of new.ports p)
   at p =
-      elim (same-or-not p id) [
+      elim (cases_eq p id) [
         | inl e ↦ rw e (subst (λ x. StillGiven (port_of old.ports id) x) (sym heard) (still-heard (port_of old.ports id) frame now))
         | inr n ↦ subst (λ x. StillGiven (port_of old.ports p) x) (sym (others p n)) (still-called (port_of old.ports p) (calls p))
       ]

@@ -2,6 +2,7 @@
 use Rattle.std.proofs.Common.{◌≡◌, ◌≢◌, ℕ, false, List, [], ◌∷◌, ◌++◌, Option, None, Some, take, drop, slice_index_or, refl, sym, subst, ap, inl, inr, ◌∙◌, append-nil, append_assoc}
 use Rattle.std.specs.Prelude.{option_map}
 use Rattle.std.proofs.lemmas.List.{take-append-drop}
+use Rattle.std.proofs.lemmas.Bool.{cases_eq}
 use Rattle.circular_buffer.specs.Buffer.{buffer}
 use Rattle.slab.specs.Slab.{Slab, get}
 use Rattle.lock_desk.specs.declared.client_line.ClientLine.{ClientLine}
@@ -17,7 +18,7 @@ use Rattle.node_loop.specs.Clients.{answers_of, is_connected, Reports}
 use Rattle.node_loop.specs.Lives.{LiveOn, OthersStay, ReadsAt}
 use Rattle.node_loop.specs.Said.{answers_to, said, SaidAt, IsSaid, NothingSaid, SaidTo, AreAnswered, HasAnswered}
 use Rattle.node_loop.proofs.BeingRead.{all-then}
-use Rattle.node_loop.proofs.Lives.{nobody, tested}
+use Rattle.node_loop.proofs.Lives.{nobody}
 
 -- ---- bytes
 
@@ -92,7 +93,7 @@ module _ {P : Type 0} (took : P → Option (List ℕ)) where
   pub said-at : (k : ℕ) (table after : Slab (Client P)) (waited waits : ℕ → List ℕ) → SaidAt took [] (get table k) (waited k) (get after k) (waits k)
       → ((t : ℕ) → t ≢ k → get after t ≡ get table t) → ((t : ℕ) → t ≢ k → waits t ≡ waited t) → (t : ℕ) → SaidAt took [] (get table t) (waited t) (get after t) (waits t)
   said-at k table after waited waits here others answers t =
-      elim (tested t k) [
+      elim (cases_eq t k) [
         | inl same ↦ subst (λ u. SaidAt took [] (get table u) (waited u) (get after u) (waits u)) (sym same) here
         | inr other ↦ said-same (get table t) (get after t) (waited t) (waits t) (others t other) (answers t other)
       ]
@@ -120,7 +121,7 @@ module _ {P A : Type 0} (took : P → Option (List ℕ)) where
 
   pub nothing-one : (k : ℕ) (old new : Clients P A) → IsSaid took [] k old new → ((t : ℕ) → t ≢ k → IsSaid took [] t old new) → NothingSaid took old new
   nothing-one k old new here others t =
-      elim (tested t k) [
+      elim (cases_eq t k) [
         | inl same ↦ subst (λ u. IsSaid took [] u old new) (sym same) here
         | inr other ↦ others t other
       ]
@@ -149,7 +150,7 @@ module _ {P A : Type 0} (took : P → Option (List ℕ)) where
 
   pub answered-to : (site : Site) (line : ClientLine) (state : LocalState) (k : ℕ) (old new : Clients P A) → SaidTo took (answer_text site k line state) k old new → AreAnswered took site old new
   answered-to site line state k old new f t =
-      elim (tested t k) [
+      elim (cases_eq t k) [
         | inl same ↦ (
           (line, state) ∷ [],
           subst (λ u. IsSaid took (answers_to site u ((line, state) ∷ [])) u old new) (sym same)

@@ -4,7 +4,7 @@ use Rattle.std.proofs.Common.{◌≡◌, ◌≢◌, ◌<◌, ◌≤◌, ◌+◌,
 use Rattle.std.specs.Prelude.{slice_index_or}
 use Rattle.std.proofs.Math.ListN.{replicate}
 use Rattle.std.specs.Cmp.{both_ways}
-use Rattle.std.proofs.lemmas.Bool.{false≢true}
+use Rattle.std.proofs.lemmas.Bool.{cases_eq, cases_lt, false≢true}
 use Rattle.std.proofs.lemmas.List.Elements.{Contains-append_left, Contains-get_or, Contains-push, Contains-push_cases}
 use Rattle.std.proofs.lemmas.List.{take_more, get_or_past, get_or-replicate, get_or-set_same, get_or-set_other, length-replicate, length-set}
 use Rattle.topology.specs.Network.{Network, IsAcceptedNetwork}
@@ -18,10 +18,7 @@ use Rattle.node_core.specs.View.{NodeView, site_in, state_of}
 use Rattle.pace.specs.declared.port.PortSight.{PortSight}
 use Rattle.node_loop.specs.declared.port.NodePort.{NodePort}
 use Rattle.node_loop.specs.Speaking.{sight_at}
-use Rattle.node_loop.proofs.Speaking.{below-or-from, none-there}
-
-same-or-other : (w v : ℕ) → (w ≡ v) ⊎ (w ≢ v)
-same-or-other w v = grind arith
+use Rattle.node_loop.proofs.Speaking.{none-there}
 
 -- what a port shows is what is seen there
 pub seen-as : {P : Type 0} (node : NodeView) (ports : List (NodePort P)) (id : ℕ) (port : NodePort P) (takes : Bool) (frame : Frame) (present : Payload)
@@ -44,7 +41,7 @@ seen-next f none ws xs v x here same so = record {
   size = length-set xs v x ∙ so.size;
   seen = λ w has.
       elim (Contains-push_cases ws v w has) [
-        | inl before ↦ elim (same-or-other w v) [
+        | inl before ↦ elim (cases_eq w v) [
           | inl is ↦ rw (is, get_or-set_same xs v x none (rw so.size here)) same
           | inr other ↦ rw (get_or-set_other xs v w x none other) (so.seen w before)
         ]
@@ -58,7 +55,7 @@ NoneElse ws xs = (w : ℕ) → (¬ Contains ws w) → slice_index_or xs w 0 ≡ 
 
 pub none-start : NoneElse [] (replicate 64 0)
 none-start w not =
-    elim (below-or-from w 64) [
+    elim (cases_lt w 64) [
       | inl less ↦ get_or-replicate 64 w 0 0 less
       | inr from ↦ get_or_past (replicate 64 0) w 0 (rw (length-replicate {A = ℕ} 64 0) from)
     ]
@@ -99,14 +96,14 @@ OnlyTrue f xs = (w : ℕ) → slice_index_or xs w false ≡ true → f w ≡ tru
 
 pub only-start : (f : ℕ → Bool) → OnlyTrue f (replicate 64 false)
 only-start f w on =
-    elim (below-or-from w 64) [
+    elim (cases_lt w 64) [
       | inl less ↦ absurd (false≢true (sym (get_or-replicate 64 w false false less) ∙ on))
       | inr from ↦ absurd (false≢true (sym (get_or_past (replicate 64 false) w false (rw (length-replicate {A = Bool} 64 false) from)) ∙ on))
     ]
 
 pub only-next : (f : ℕ → Bool) (xs : List Bool) (v : ℕ) (x : Bool) → v < length xs → x ≡ f v → OnlyTrue f xs → OnlyTrue f (slice_set xs v x)
 only-next f xs v x here same so w on =
-    elim (same-or-other w v) [
+    elim (cases_eq w v) [
       | inl is ↦ (let true-there : x ≡ true = rw (is, get_or-set_same xs v x false here) at on in rw is (sym same ∙ true-there))
       | inr other ↦ so w (rw (get_or-set_other xs v w x false other) at on)
     ]

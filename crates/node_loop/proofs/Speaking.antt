@@ -2,6 +2,7 @@
 use Rattle.std.proofs.Common.{◌≡◌, ◌≢◌, ◌⊎◌, ◌<◌, ◌≤◌, ◌+◌, ℕ, Bool, true, false, List, [], ◌++◌, All, Option, Contains, slice_get, slice_index_or, refl, inl, inr, sym, ap, arith, ◌∙◌, subst, append-nil}
 use Rattle.std.proofs.lemmas.Grind.{common_steps}
 use Rattle.std.proofs.lemmas.List.Elements.{All-append, All-cons, All-nil}
+use Rattle.std.proofs.lemmas.Bool.{cases_lt}
 use Rattle.topology.specs.declared.frame.Frame.{Frame}
 use Rattle.data_link.specs.Port.{frame_of}
 use Rattle.node_core.specs.View.{site_in, state_of}
@@ -14,9 +15,6 @@ use Rattle.node_loop.specs.Moments.{AtBoth, Moment}
 use Rattle.node_loop.specs.Noting.{sends_if}
 use Rattle.node_loop.specs.Speaking.{Speaks, SpeaksTo, sent_if}
 use Rattle.node_loop.proofs.Became.{leads-join, sent-join}
-
-pub below-or-from : (w i : ℕ) → (w < i) ⊎ (i ≤ w)
-below-or-from w i = grind arith
 
 pub below-or-last : (w i : ℕ) → w < i + 1 → (w < i) ⊎ (w ≡ i)
 below-or-last w i below = grind arith
@@ -147,7 +145,7 @@ module _ {P : Type 0} (gave took : P → Option (List ℕ)) (counts : P → Coun
     leads = so.leads;
     neighbours = λ w node has. rw (ports, pace) (so.below w (omega arith) has);
     others = λ w not.
-        rw (ports, pace) elim (below-or-from w i) [
+        rw (ports, pace) elim (cases_lt w i) [
           | inl less ↦ so.others w less not
           | inr from ↦ so.above w from
         ];

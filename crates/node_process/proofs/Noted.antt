@@ -13,17 +13,6 @@ use Rattle.node_recorder.specs.Turns.{Records}
 use Rattle.node_recorder.specs.declared.recorder.NodeRecorder.{NodeRecorder}
 use Rattle.node_process.specs.Noted.{link_change, link_changes, RecordsEach}
 
-one-of-three : (i k : ℕ) → (i ≡ k) ⊎ ((i < k) ⊎ (k < i))
-one-of-three i k = grind arith
-
-pub same-or-other : (i k : ℕ) → (i ≡ k) ⊎ (i ≢ k)
-same-or-other i k =
-    elim (one-of-three i k) [
-      | inl same ↦ inl same
-      | inr (inl less) ↦ inr (λ same. omega (arith, less, same))
-      | inr (inr more) ↦ inr (λ same. omega (arith, more, same))
-    ]
-
 pub apart : (a b : Bool) → not (beq a b) ≡ true → a ≢ b
 apart false false differ same = absurd cc
 apart true true differ same = absurd cc

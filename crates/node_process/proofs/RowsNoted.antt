@@ -1,6 +1,7 @@
 -- Turns that a record has, and some that it has not.
 use Rattle.std.proofs.Common.{◌≡◌, ◌≢◌, ◌⊎◌, ◌∙◌, ℕ, Bool, true, false, List, [], ◌∷◌, None, Some, refl, sym, ap, subst, inl, inr}
 use Rattle.std.specs.Prelude.{nat_le, IsTrue}
+use Rattle.std.proofs.lemmas.Bool.{both_ways}
 use Rattle.node_core.specs.View.{NodeView}
 use Rattle.node_recorder.specs.Backlog.{has_room, is_long, nothing, with_turn}
 use Rattle.node_recorder.specs.BacklogView.{BacklogView}
@@ -26,10 +27,6 @@ seen-up = refl
 seen_not-none : is_seen_up None ≡ false
 seen_not-none = refl
 
-not-both : (b : Bool) → b ≡ true → b ≡ false → ⊥
-not-both true p q = absurd cc
-not-both false p q = absurd cc
-
 module _ {A : Type 0} (node : NodeView) where
   -- a recorder that has stopped records nothing
   each-stopped : (old : NodeRecorder A) → old.pages.is_stopped ≡ true → RecordsEach 5 false node (Connects 2 ∷ []) old old
@@ -52,14 +49,14 @@ module _ {A : Type 0} (node : NodeView) where
 
   due : (old : NodeRecorder A) → old.backlog ≡ nothing → (true ≡ false) ⊎ IsTrue (is_long (with_turn 5 (Ticks ∷ []) old.backlog)) → ⊥
   due old none (inl e) = absurd cc
-  due old none (inr e) = not-both (is_long (with_turn 5 (Ticks ∷ []) old.backlog)) e (rw none refl)
+  due old none (inr e) = both_ways (is_long (with_turn 5 (Ticks ∷ []) old.backlog)) (rw none refl) e
 
   skipped : (old turned linked : NodeRecorder A) → old.pages.is_stopped ≡ false → old.is_lost ≡ false → old.backlog ≡ nothing → Records 5 (Ticks ∷ []) true true node old turned
       → linked ≡ turned → IsWrittenOrNot linked old → ⊥
-  skipped old turned linked runs known none (inl rests) same ends = not-both old.pages.is_stopped rests.0 runs
-  skipped old turned linked runs known none (inr (inl state)) same ends = not-both old.is_lost state.lost known
+  skipped old turned linked runs known none (inl rests) same ends = both_ways old.pages.is_stopped runs rests.0
+  skipped old turned linked runs known none (inr (inl state)) same ends = both_ways old.is_lost known state.lost
   skipped old turned linked runs known none (inr (inr (inl all))) same ends =
-      not-both (has_room 1 old.backlog) (rw none refl) (all.needed refl)
+      both_ways (has_room 1 old.backlog) (all.needed refl) (rw none refl)
   skipped old turned linked runs known none (inr (inr (inr (inl keeps)))) same ends =
       let kept : linked.backlog ≡ with_turn 5 (Ticks ∷ []) old.backlog = ap (λ r. r.backlog) (same ∙ keeps.rest) in
       let e : ◌≡◌ {A = List Deed} [] (Ticks ∷ []) =

@@ -4,6 +4,7 @@ use Rattle.std.specs.Prelude.{min}
 use Rattle.std.proofs.lemmas.Grind.{common_steps}
 use Rattle.std.proofs.lemmas.Bool.Decides.{nat_tests}
 use Rattle.std.proofs.lemmas.List.{get_or-set_same, get_or-set_other, get_or-replicate, get_or_past, length-set, length-replicate}
+use Rattle.std.proofs.lemmas.Bool.{cases_lt}
 use Rattle.pace.specs.declared.node.Outlook.{Outlook}
 use Rattle.pace.specs.declared.node.NodePace.{NodePace}
 use Rattle.pace.specs.declared.pace.Manner.{Manner}
@@ -17,13 +18,10 @@ apart p i less same = omega arith
 past : (p i : ℕ) → i + 1 ≤ p → p ≡ i → ⊥
 past p i from same = omega arith
 
-below-or-from : (p i : ℕ) → (p < i) ⊎ (i ≤ p)
-below-or-from p i = grind arith
-
 -- each place of a list of equal values has that value, and so has each beyond its end
 all-same : {X : Type 0} (n p : ℕ) (x : X) → slice_index_or (replicate n x) p x ≡ x
 all-same n p x =
-    elim (below-or-from p n) [
+    elim (cases_lt p n) [
       | inl before ↦ get_or-replicate n p x x before
       | inr from ↦ get_or_past (replicate n x) p x (rw (length-replicate n x) from)
     ]
@@ -134,7 +132,7 @@ pub passed-end : (trees : List Bool) (but : Option ℕ) (old ports : List PortPa
     → IsPassed (λ p. called_port (is_tree trees p && is_other but p) (port_of old p)) old ports i
     → (p : ℕ) → port_of ports p ≡ called_port (is_tree trees p && is_other but p) (port_of old p)
 passed-end trees but old ports i end l p =
-    elim (below-or-from p i) [
+    elim (cases_lt p i) [
       | inl before ↦ l.below p before
       | inr from ↦ rw (l.above p from) (sym (not-called (is_tree trees p) (is_other but p) (port_of old p) (no-tree trees p (omega arith))))
     ]

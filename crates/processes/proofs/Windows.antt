@@ -2,6 +2,7 @@
 use Rattle.std.proofs.Common.{◌≡◌, ◌⊎◌, inl, inr, ℕ, zero, suc, ◌+◌, ◌-◌, ◌*◌, ◌<◌, ◌≤◌, List, [], ◌∷◌, ◌++◌, map, length, Option, IsTrue, false, refl, ap, ◌∙◌, sym, subst, arith}
 use Rattle.std.proofs.lemmas.List.{append_assoc}
 use Rattle.std.specs.List.{AllByRecursion}
+use Rattle.std.proofs.lemmas.Bool.{cases_lt}
 use Rattle.topology.specs.Network.{are_joined}
 use Rattle.topology.specs.Eccentricity.{sharp_of}
 use Rattle.topology.specs.Laws.{NeighboursAreJoined, JoinedBack, JoinedAreNodes}
@@ -63,16 +64,13 @@ acts-earlier u v n (m ∷ ms) all =
 abbrev Cut : ℕ → List Mark → Type 0
 Cut n ms = (xs ys : List Mark) × (ms ≡ xs ++ ys) × AreBefore n xs × AreSince n ys × AreOrdered ys
 
-lt-or : (a b : ℕ) → (a < b) ⊎ (b ≤ a)
-lt-or a b = grind arith
-
 cut-first : (n : ℕ) (m : Mark) (ms : List Mark) → AreOrdered (m ∷ ms) → Cut n ms → (mark_moment m < 2 * n) ⊎ (2 * n ≤ mark_moment m) → Cut n (m ∷ ms)
 cut-first n m ms o rest (inr late) = ([], m ∷ ms, refl, tt, (late, all-more (λ x. mark_moment m ≤ mark_moment x) (λ x. 2 * n ≤ mark_moment x) ms (λ x l. omega (arith, l, late)) o.0), o)
 cut-first n m ms o rest (inl soon) = (m ∷ rest.0, rest.1, ap (λ xs. m ∷ xs) rest.2, (soon, rest.3), rest.4, rest.5)
 
 cut : (n : ℕ) (ms : List Mark) → AreOrdered ms → Cut n ms
 cut n [] o = ([], [], refl, tt, tt, tt)
-cut n (m ∷ ms) o = cut-first n m ms o (cut n ms o.1) (lt-or (mark_moment m) (2 * n))
+cut n (m ∷ ms) o = cut-first n m ms o (cut n ms o.1) (cases_lt (mark_moment m) (2 * n))
 
 ordered-later : (xs ys : List Mark) → AreOrdered (xs ++ ys) → AreOrdered ys
 ordered-later [] ys o = o

@@ -4,6 +4,7 @@ use Rattle.std.proofs.lemmas.Grind.{common_steps}
 use Rattle.std.proofs.lemmas.Slice.Eq.{bytes_eq-Decides}
 use Rattle.std.specs.Str.{bytes_eq}
 use Rattle.std.specs.Prelude.{if◌then◌else◌, nat_lt}
+use Rattle.std.proofs.lemmas.Bool.{both_ways}
 use Rattle.topology.specs.Network.{are_joined}
 use Rattle.topology.specs.declared.frame.Frame.{Frame}
 use Rattle.topology.specs.declared.frame.Payload.{Payload}
@@ -29,11 +30,8 @@ use Rattle.record_gathering.proofs.Same.{node-self, node-same, payload-self, pay
 
 -- ---- tests of equality
 
-clash : (b : Bool) → b ≡ true → b ≡ false → ⊥
-clash b t f = cc (sym t ∙ f)
-
 apart : {X : Type 0} (same : X → X → Bool) → ((x : X) → same x x ≡ true) → (x y : X) → same x y ≡ false → x ≢ y
-apart same self x y f e = clash (same x y) (subst (λ z. same x z ≡ true) e (self x)) f
+apart same self x y f e = both_ways (same x y) f (subst (λ z. same x z ≡ true) e (self x))
 
 number-self : (n : ℕ) → (n == n) ≡ true
 number-self n = grind (arith, common_steps)

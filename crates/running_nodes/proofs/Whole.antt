@@ -1,5 +1,6 @@
 -- Nodes that run are processes.
 use Rattle.std.proofs.Common.{◌≡◌, ◌⊎◌, ◌<◌, ◌≤◌, ℕ, Bool, true, false, List, [], Option, Contains, IsTrue, refl, inl, inr, sym, subst, ◌∙◌, arith}
+use Rattle.std.proofs.lemmas.Bool.{cases_lt}
 use Rattle.topology.specs.Network.{are_joined, neighbours_of}
 use Rattle.topology.specs.Laws.{JoinedAreNodes, JoinedBack, NeighboursAreJoined}
 use Rattle.topology.specs.Ranges.{ranges_of}
@@ -19,9 +20,6 @@ use Rattle.running_nodes.specs.Stood.{Stood, PortWas, StartsAt}
 use Rattle.running_nodes.specs.Stretches.{all_deeds}
 use Rattle.running_nodes.proofs.Joining.{pipes-are-bytes}
 use Rattle.running_nodes.proofs.Turning.{turns-go, turns-lead}
-
-below-or-from : (v n : ℕ) → (v < n) ⊎ (n ≤ v)
-below-or-from v n = grind arith
 
 module _ {P : Type 0} (gave took : P → Option (List ℕ)) (counts : P → Counts) (nodes : JoinedAreNodes) (neighbours : NeighboursAreJoined) (back : JoinedBack) where
   module _ (w last : World) (runs : Runs P) (account : ℕ → List Timed) (range : IsWorldInRange w) (are : AreNodeRuns gave took counts w runs account last) where
@@ -53,7 +51,7 @@ module _ {P : Type 0} (gave took : P → Option (List ℕ)) (counts : P → Coun
     are-connections u v is = (found u v).1 is
 
     pub leads : (v : ℕ) → Leads (site_of w.net v) (deeds (account v)) (w.node v) (last.node v)
-    leads v = by (below-or-from v w.net.nodes) where
+    leads v = by (cases_lt v w.net.nodes) where
       by : (v < w.net.nodes) ⊎ (w.net.nodes ≤ v) → Leads (site_of w.net v) (deeds (account v)) (w.node v) (last.node v)
       by (inl below) =
           subst (λ ds. Leads (site_of w.net v) ds (w.node v) (last.node v)) (sym (are.deeds_are v below))

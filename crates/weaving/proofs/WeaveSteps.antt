@@ -3,6 +3,7 @@ use Rattle.std.proofs.Common.{◌≡◌, ◌⊎◌, ℕ, zero, suc, ◌<◌, ◌
 use Rattle.std.proofs.Math.Path.{fun_ext}
 use Rattle.std.proofs.Math.Numerals.{add-one}
 use Rattle.std.proofs.lemmas.List.{append_assoc}
+use Rattle.std.proofs.lemmas.Bool.{cases_lt}
 use Rattle.topology.specs.At.{at}
 use Rattle.run_model.specs.declared.event.Event.{Event}
 use Rattle.weaving.specs.declared.journal.Entry.{Entry}
@@ -50,9 +51,6 @@ reads-on js read v e enough first rise =
           = λ l. let e : ◌≡◌ {A = List Entry} [] (x ∷ xs) = sym (journal-past (unread js read) u (subst (λ n. n ≤ u) (sym (unread-length js read)) l)) ∙ h in absurd cc in
           grind (arith, past)
 
-below-or-not : (u n : ℕ) → (u < n) ⊎ (n ≤ u)
-below-or-not u n = grind arith
-
 -- a journal is no longer than all of them
 pub one-of-all : (js : List (List Entry)) (v : ℕ) → length (journal_of js v) ≤ entry_count js
 one-of-all [] v = omega arith
@@ -63,7 +61,7 @@ one-of-all (j ∷ js) (suc v) = let l = one-of-all js v in omega (arith, l)
 pub all-read : (js : List (List Entry)) (read : List ℕ) → IsFirst (unread js read) (length js) None → IsWoven (journal_of (unread js read)) []
 all-read js read none = woven-none (journal_of (unread js read)) (λ u. by-place js read none u) where
   by-place : (js : List (List Entry)) (read : List ℕ) → IsFirst (unread js read) (length js) None → (u : ℕ) → journal_of (unread js read) u ≡ []
-  by-place js read none u = elim (below-or-not u (length js)) [
+  by-place js read none u = elim (cases_lt u (length js)) [
     | inl l ↦ none u l
     | inr l ↦ journal-past (unread js read) u (subst (λ n. n ≤ u) (sym (unread-length js read)) l)
   ]

@@ -3,7 +3,8 @@ use Rattle.std.specs.Prelude.{slice_index_or}
 use Rattle.std.proofs.lemmas.List.{get_or-set_same, get_or-set_other}
 use Rattle.node_recorder.specs.flight_recorder.flight_records.declared.entry.Deed.TheVariants.{Connects, Disconnects}
 use Rattle.node_process.specs.Noted.{is_linked, is_seen_up, link_change, link_changes, RecordsEach}
-use Rattle.node_process.proofs.Noted.{alike, apart, change-here, change-none, changes-more, each-more, same-or-other}
+use Rattle.node_process.proofs.Noted.{alike, apart, change-here, change-none, changes-more, each-more}
+use Rattle.std.proofs.lemmas.Bool.{cases_eq}
 use Rattle.node_process.proofs.tape.Tape.note_links.Goals.{then-is_linked-self, else-is_linked-self}
 use Rattle.node_process.proofs.tape.Tape.note_links.Goals as goal
 
@@ -30,7 +31,7 @@ loop-id-preserved g c =
             noted = subst (λ ds. RecordsEach c.args.instant c.args.may_wait c.args.run.now.node ds c.args.self.now.recorder new.recorder) deed
                 (each-more c.args.instant c.args.may_wait c.args.run.now.node (link_changes was is id) w.link_deed.result c.args.self.now.recorder c.loop-id.self.recorder new.recorder before.noted w.note_link.ensures.noted);
             seen = λ i less.
-                elim (same-or-other i id) [
+                elim (cases_eq i id) [
                   | inl same ↦ rw (same, w.note_link.ensures.names.1, get_or-set_same c.loop-id.self.linked id c.is_up-is_linked.result false (rw c.loop-id.self.ids within)) up
                   | inr differs ↦ rw (w.note_link.ensures.names.1, get_or-set_other c.loop-id.self.linked id i c.is_up-is_linked.result false differs) (before.seen i (omega (arith, less, differs)))
                 ];
@@ -45,7 +46,7 @@ loop-id-preserved g c =
             settled = before.settled;
             noted = subst (λ ds. RecordsEach c.args.instant c.args.may_wait c.args.run.now.node ds c.args.self.now.recorder c.loop-id.self.recorder) none before.noted;
             seen = λ i less.
-                elim (same-or-other i id) [
+                elim (cases_eq i id) [
                   | inl this ↦ rw this (old ∙ same)
                   | inr differs ↦ before.seen i (omega (arith, less, differs))
                 ];
