@@ -12,6 +12,7 @@ pub mod GoingOut
 pub mod BeingRead
 pub mod Accounts
 pub mod Lives
+pub mod Heard
 pub mod Saying
 pub mod Rooms
 pub mod Arrivals
@@ -23,3 +24,4 @@ mod RowsLives
 mod RowsPorts
 mod RowsVisitors
 mod RowsSaid
+mod RowsHeard

@@ -13,6 +13,7 @@ use Rattle.node_loop.specs.declared.clients.Client.{Client}
 use Rattle.node_loop.specs.declared.clients.Clients.{Clients}
 use Rattle.node_loop.specs.Clients.{answers_of, is_connected}
 use Rattle.node_loop.proofs.Speaking.{apart}
+use Rattle.node_loop.specs.Heard.{HasNewReader}
 use Rattle.node_loop.specs.Lives.{Lives, Stays, Gave, Gives_later, Then, LivesAt, LiveOn, ReadsAt, OthersStay, Admits, StillLive, FailsAt}
 
 pub nobody : {X : Type 0} (x : Option X) → is_some x ≡ false → x ≡ None
@@ -107,19 +108,25 @@ module _ {P A : Type 0} where
     λ was. (let more = (g t).0 (connected-still a b t f was) in let first = (f t).0 was in (more.0 ∙ first.0, more.1 ∙ first.1)),
     λ n y.
         elim (cases_Bool (is_connected b t)) [
-          | inl there ↦ ((g t).0 there).1 ∙ (f t).1 n there
+          | inl there ↦ (
+            ((g t).0 there).1 ∙ ((f t).1 n there).0,
+            subst (λ x. HasNewReader x) (sym ((g t).0 there).0) ((f t).1 n there).1,
+          )
           | inr none ↦ (g t).1 none y
         ],
   )
 
   -- one came, to a ticket that was free
   pub admits-one : (k : ℕ) (old new : Clients P A) → is_connected old k ≡ false → ((t : ℕ) → t ≢ k → (get new.table t ≡ get old.table t) × (answers_of new t ≡ answers_of old t))
-      → (is_connected new k ≡ true → answers_of new k ≡ []) → Admits old new
-  admits-one k old new free others silent t =
+      → (is_connected new k ≡ true → answers_of new k ≡ []) → (is_connected new k ≡ true → HasNewReader (get new.table k)) → Admits old new
+  admits-one k old new free others silent fresh t =
       elim (cases_eq t k) [
         | inl same ↦ (
           λ was. absurd (both_ways (is_connected old t) (subst (λ u. is_connected old u ≡ false) (sym same) free) was),
-          λ n y. subst (λ u. is_connected new u ≡ true → answers_of new u ≡ []) (sym same) silent y,
+          λ n y. (
+            subst (λ u. is_connected new u ≡ true → answers_of new u ≡ []) (sym same) silent y,
+            subst (λ u. is_connected new u ≡ true → HasNewReader (get new.table u)) (sym same) fresh y,
+          ),
         )
         | inr other ↦ (
           λ was. others t other,

@@ -10,6 +10,7 @@ use Rattle.node_loop.specs.declared.clients.Client.{Client}
 use Rattle.node_loop.specs.declared.clients.Clients.{Clients}
 use Rattle.node_loop.specs.Clients.{answers_of, SameClients}
 use Rattle.node_loop.proofs.BeingRead.{read-here}
+use Rattle.node_loop.specs.Heard.{HasNewReader}
 use Rattle.node_loop.specs.Lives.{FailsAt, IsRead, IsReadAt, Lives, Stays, Gave, Gives_later, Took, Takes_later, Then, LivesAt, LiveOn, ReadsAt, OthersStay, Admits, StillLive}
 
 not-rose : (n m : ℕ) → Rose n m → m ≡ 0 → ⊥
@@ -117,8 +118,8 @@ module _ {P A : Type 0} (gave took : P → Option (List ℕ)) (counts : P → Co
   still-came none u was = (let e : ◌≡◌ {A = Bool} false true = rw (none u) at was in absurd cc)
 
   -- somebody comes to a ticket that is free, and nothing waits for it
-  admits-free : ((u : ℕ) → get old.table u ≡ None) → ((u : ℕ) → answers_of new u ≡ []) → Admits old new
-  admits-free none silent u = (λ was. (let e : ◌≡◌ {A = Bool} false true = rw (none u) at was in absurd cc), λ n y. silent u)
+  admits-free : ((u : ℕ) → get old.table u ≡ None) → ((u : ℕ) → answers_of new u ≡ []) → ((u : ℕ) → HasNewReader (get new.table u)) → Admits old new
+  admits-free none silent fresh u = (λ was. (let e : ◌≡◌ {A = Bool} false true = rw (none u) at was in absurd cc), λ n y. (silent u, fresh u))
 
   -- not to one that is taken
   admits_not-taken : get old.table t ≡ Some a → get new.table t ≡ None → ¬ Admits old new
@@ -126,7 +127,7 @@ module _ {P A : Type 0} (gave took : P → Option (List ℕ)) (counts : P → Co
 
   -- and nothing for an earlier client with that ticket waits for it
   admits_not-reported : get old.table t ≡ None → get new.table t ≡ Some b → answers_of new t ≡ codes "lost\n" → ¬ Admits old new
-  admits_not-reported was is waits f = (let e : ◌≡◌ {A = List ℕ} (codes "lost\n") [] = rw waits at ((f t).1 (rw was refl) (rw is refl)) in absurd cc)
+  admits_not-reported was is waits f = (let e : ◌≡◌ {A = List ℕ} (codes "lost\n") [] = rw waits at ((f t).1 (rw was refl) (rw is refl)).0 in absurd cc)
 
   others_not-changed : (u : ℕ) → t ≢ u → get old.table t ≡ Some a → get new.table t ≡ None → ¬ OthersStay u old new
   others_not-changed u other was is f = (let e : ◌≡◌ {A = Option (Client P)} None (Some a) = rw (was, is) at (f t other) in absurd cc)

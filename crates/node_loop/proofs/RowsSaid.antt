@@ -23,8 +23,9 @@ use Rattle.node_loop.specs.Lives.{GoesOutAt}
 use Rattle.node_loop.specs.Said.{answers_to, AreAnswered, AttendSays, HasAnswered, IsSaid, NothingSaid, said, SaidAt, SaidTo, TurnSays, WritesOut}
 use Rattle.node_loop.proofs.BeingRead.{read-gone}
 use Rattle.node_loop.proofs.GoingOut.{out-nothing}
+use Rattle.node_loop.proofs.Heard.{unheard-same}
 use Rattle.node_loop.proofs.Lives.{admits-none, stay}
-use Rattle.node_loop.proofs.Saying.{is-said-join, nothing-same, reported-said}
+use Rattle.node_loop.proofs.Saying.{answered-nothing, is-said-join, nothing-same, reported-said}
 
 abbrev bytes-of : Option (List ℕ) → List ℕ
 bytes-of None = []
@@ -110,8 +111,8 @@ module _ {P A : Type 0} (gave took : P → Option (List ℕ)) (counts : P → Co
   nothing-still : NothingSaid took old old
   nothing-still = nothing-same took old old refl refl
 
-  answered-still : AreAnswered took site old old
-  answered-still t = ([], nothing-still t)
+  answered-still : AreAnswered gave took site old old
+  answered-still = answered-nothing gave took site old old (unheard-same gave old old refl) nothing-still
 
   -- nobody is connected
   abbrev IsAlone : Clients P A → Type 0
@@ -135,6 +136,7 @@ module _ {P A : Type 0} (gave took : P → Option (List ℕ)) (counts : P → Co
   writes-nothing : (clients : Clients P A) → NoneWaits clients → WritesOut gave took counts clients clients
   writes-nothing clients none = record {
     lives = stay gave took counts clients clients refl;
+    hears_nothing = unheard-same gave clients clients refl;
     says_nothing = nothing-same took clients clients refl refl;
     goes_out = λ t. out-nothing counts (get clients.table t) (get clients.table t) (answers_of clients t) (answers_of clients t) (none t);
   }
@@ -179,15 +181,15 @@ module _ {P A : Type 0} (gave took : P → Option (List ℕ)) (counts : P → Co
 
     -- what was said in a turn
     said-in : (act : DeskAct) (text : List ℕ) → ((x y : Clients P A) → IsReported act x y → IsSaid took text 3 x y) → (x : TurnSays gave took counts site act old new)
-        → answers_of new 3 ≡ answers_to site 3 (x.answers.answers 3).0 ++ text
+        → answers_of new 3 ≡ answers_to site 3 (x.answers.answers 3).1.lines ++ text
     said-in act text reports x =
-        let lines = (x.answers.answers 3).0 in
+        let lines = (x.answers.answers 3).1.lines in
         let came = x.answers.came in
         let there : is_connected old 3 ≡ true = rw was refl in
         let same = (x.answers.admits 3).0 there in
         let answered : IsSaid took (answers_to site 3 lines) 3 old x.heard =
         subst (λ o. SaidAt took (answers_to site 3 lines) o (answers_of old 3) (get x.heard.table 3) (answers_of x.heard 3)) same.0
-        (subst (λ xs. SaidAt took (answers_to site 3 lines) (get came.table 3) xs (get x.heard.table 3) (answers_of x.heard 3)) same.1 (x.answers.answers 3).1) in
+        (subst (λ xs. SaidAt took (answers_to site 3 lines) (get came.table 3) xs (get x.heard.table 3) (answers_of x.heard 3)) same.1 (x.answers.answers 3).1.said) in
         let reported = is-said-join took (answers_to site 3 lines) text 3 old x.heard x.acted answered (reports x.heard x.acted x.reported) in
         waits-said (answers_to site 3 lines ++ text)
         (subst (λ all. IsSaid took all 3 old new) (append-nil (answers_to site 3 lines ++ text)) (is-said-join took (answers_to site 3 lines ++ text) [] 3 old x.acted new reported (x.writes.says_nothing 3)))
@@ -196,20 +198,20 @@ module _ {P A : Type 0} (gave took : P → Option (List ℕ)) (counts : P → Co
     turn_not-silent : answers_of new 3 ≡ [] → ¬ TurnSays gave took counts site (Lost 3) old new
     turn_not-silent silent x =
         let all = said-in (Lost 3) (codes "lost\n") (λ c d reported. (reported-said took (codes "lost\n") 3 c d reported).0) x in
-        not-nothing (answers_to site 3 (x.answers.answers 3).0) 108 (codes "ost\n") (sym all ∙ silent)
+        not-nothing (answers_to site 3 (x.answers.answers 3).1.lines) 108 (codes "ost\n") (sym all ∙ silent)
 
     -- no client hears that it has the lock if no loan began
     turn_not-granted : answers_of new 3 ≡ codes "granted\n" → ¬ TurnSays gave took counts site Quiet old new
     turn_not-granted text x =
         let all = said-in Quiet [] (λ c d reported. nothing-same took c d (ap (λ z. z.table) reported) (ap (λ z. z.answers) reported) 3) x in
-        let lines = (x.answers.answers 3).0 in
+        let lines = (x.answers.answers 3).1.lines in
         not-granted site lines (sym (append-nil (answers_to site 3 lines)) ∙ (sym all ∙ text))
 
     said-to_not-silent : answers_of new 3 ≡ [] → ¬ SaidTo took (codes "full\n") 3 old new
     said-to_not-silent silent s = (let e : ◌≡◌ {A = List ℕ} [] (codes "full\n") = sym silent ∙ waits-said (codes "full\n") s.0 in absurd cc)
 
-    answered_not-granted : answers_of new 3 ≡ codes "granted\n" → ¬ AreAnswered took site old new
-    answered_not-granted text f = not-granted site (f 3).0 (sym (waits-said (answers_to site 3 (f 3).0) (f 3).1) ∙ text)
+    answered_not-granted : answers_of new 3 ≡ codes "granted\n" → ¬ AreAnswered gave took site old new
+    answered_not-granted text f = not-granted site (f 3).1.lines (sym (waits-said (answers_to site 3 (f 3).1.lines) (f 3).1.said) ∙ text)
 
     -- nothing is said unasked
     nothing_not-said : answers_of new 3 ≡ codes "x" → ¬ NothingSaid took old new

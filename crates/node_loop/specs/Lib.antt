@@ -3,6 +3,7 @@ pub mod Greetings
 pub mod Deeds
 pub mod Answers
 pub mod Clients
+pub mod Heard
 pub mod Lives
 pub mod Said
 pub mod Arrivals

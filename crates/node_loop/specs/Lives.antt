@@ -10,6 +10,7 @@ use Rattle.socket_links.specs.declared.pipe.WriteAnswer.TheVariants as write
 use Rattle.node_loop.specs.declared.clients.Client.{Client}
 use Rattle.node_loop.specs.declared.clients.Clients.{Clients}
 use Rattle.node_loop.specs.Clients.{answers_of, is_connected}
+use Rattle.node_loop.specs.Heard.{HasNewReader}
 
 -- a pipe that says so has neither closed nor failed
 abbrev pub IsOfLive : ReadAnswer → Type 0
@@ -93,14 +94,15 @@ module _ {P A : Type 0} where
   abbrev pub OthersStay : ℕ → Clients P A → Clients P A → Type 0
   OthersStay ticket old new = (t : ℕ) → t ≢ ticket → get new.table t ≡ get old.table t
 
-  -- Clients came, or none did, and nothing waits for them yet. A client that was connected is as
-  -- before, and so is what waits for it.
+  -- Clients came, or none did. Nothing waits for them yet, and their readers have taken nothing. A client
+  -- that was connected is as before, and so is what waits for it.
   abbrev pub Admits : Clients P A → Clients P A → Type 0
   Admits old new =
       (t : ℕ)
       → (is_connected old t ≡ true
       → (get new.table t ≡ get old.table t) × (answers_of new t ≡ answers_of old t))
-      × (is_connected old t ≡ false → is_connected new t ≡ true → answers_of new t ≡ [])
+      × (is_connected old t ≡ false → is_connected new t ≡ true
+      → (answers_of new t ≡ []) × HasNewReader (get new.table t))
 
 module _ {P A : Type 0} (gave took : P → Option (List ℕ)) (counts : P → Counts) where
   -- a client that was connected and still is lives on; others may have come

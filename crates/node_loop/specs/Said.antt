@@ -1,5 +1,5 @@
 -- What is said to clients: the bytes that a client's pipe took, and then those that wait for it.
-use Rattle.std.specs.Prelude.{◌≢◌, ℕ, List, [], ◌∷◌, ◌++◌, Option, None, Some, option_map, ⊤}
+use Rattle.std.specs.Prelude.{◌≢◌, ℕ, List, [], ◌∷◌, ◌++◌, Option, None, Some, map, option_map, ⊤}
 use Rattle.slab.specs.Slab.{get}
 use Rattle.lock_desk.specs.declared.act.DeskAct.{DeskAct}
 use Rattle.lock_desk.specs.declared.client_line.ClientLine.{ClientLine}
@@ -11,6 +11,7 @@ use Rattle.node_loop.specs.declared.clients.Client.{Client}
 use Rattle.node_loop.specs.declared.clients.Clients.{Clients}
 use Rattle.node_loop.specs.Answers.{answer_text}
 use Rattle.node_loop.specs.Clients.{answers_of, IsReported}
+use Rattle.node_loop.specs.Heard.{HeardAt, NothingHeard}
 use Rattle.node_loop.specs.Lives.{Admits, AllGoOut, AllRead, LiveOn}
 
 -- the answers to these lines of the client with ticket t, one after the other; each with the state in
@@ -45,23 +46,38 @@ module _ {P A : Type 0} (took : P → Option (List ℕ)) where
   abbrev pub SaidTo : List ℕ → ℕ → Clients P A → Clients P A → Type 0
   SaidTo more t old new = IsSaid more t old new × ((u : ℕ) → u ≢ t → IsSaid [] u old new)
 
-  -- to each client just the answers to some of its lines were said, if to any
+module _ {P A : Type 0} (gave took : P → Option (List ℕ)) where
+  -- The pipe of the client with ticket t gave these bytes, and its reader took those. Just the answers to
+  -- the lines that these ended were said to it, each with the state in which the node was.
+  pub record IsServed (site : Site) (given read : List ℕ) (t : ℕ) (old new : Clients P A)
+      : Type 0 where
+    pub lines : List (ClientLine × LocalState)
+    pub heard : HeardAt gave given read (map (λ asked. asked.0) lines)
+        (get old.table t) (get new.table t)
+    pub said : IsSaid took (answers_to site t lines) t old new
+
+  -- the reader of the client with ticket t took these bytes, and it was served so; no other was
+  abbrev pub IsServedAlone : Site → List ℕ → ℕ → Clients P A → Clients P A → Type 0
+  IsServedAlone site read t old new =
+      IsServed site [] read t old new × ((u : ℕ) → u ≢ t → IsServed site [] [] u old new)
+
+  -- each client's reader took just the bytes that its pipe gave, and it was served so
   abbrev pub AreAnswered : Site → Clients P A → Clients P A → Type 0
-  AreAnswered site old new =
-      (t : ℕ) → (lines : List (ClientLine × LocalState)) × IsSaid (answers_to site t lines) t old new
+  AreAnswered site old new = (t : ℕ) → (bytes : List ℕ) × IsServed site bytes bytes t old new
 
 module _ {P A : Type 0} (gave took : P → Option (List ℕ)) (counts : P → Counts) where
   -- clients came, or none did; and then each was read, and it was so
   pub record HasAnswered (site : Site) (old new : Clients P A) : Type 0 where
     pub came : Clients P A
     pub admits : Admits old came
-    pub answers : AreAnswered took site came new
+    pub answers : AreAnswered gave took site came new
     pub reads : AllRead gave took counts came new
 
-  -- Answers were written to clients: nothing more was said to anybody, and what waited for a client has
-  -- begun to go out, as far as its pipe took it.
+  -- Answers were written to clients: nothing was heard from anybody, and nothing more said. What waited for
+  -- a client has begun to go out, as far as its pipe took it.
   pub record WritesOut (old new : Clients P A) : Type 0 where
     pub lives : LiveOn gave took counts old new
+    pub hears_nothing : NothingHeard gave old new
     pub says_nothing : NothingSaid took old new
     pub goes_out : AllGoOut counts old new
 

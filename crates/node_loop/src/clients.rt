@@ -1,5 +1,6 @@
 //! The clients that are connected to a node.
-ghost use Rattle.std.specs.Prelude.{◌≡◌, ◌≢◌, ◌<◌, ◌≤◌, ◌&&◌, ◌==◌, ◌++◌, ℕ, not, true, false};
+ghost use Rattle.std.specs.Prelude.{◌≡◌, ◌≢◌, ◌<◌, ◌≤◌, ◌&&◌, ◌==◌, ◌++◌, ◌∷◌, ℕ, not, true, false};
+ghost use Rattle.std.specs.Option.{option_to_list};
 ghost use Rattle.std.specs.Prelude.{IsTrue, []};
 ghost use Rattle.std.specs.Prelude.{IfOk, IfSome, OnSome, IsSome, length, slice_index_or};
 ghost use Rattle.circular_buffer.specs.Buffer.{buffer};
@@ -42,6 +43,7 @@ pub(crate) struct Clients<P, A: Allocator + Copy = Global> {
 impl<P: Pipe, A: Allocator + Copy> Clients<P, A> {
     ghost use Rattle.node_loop.specs.Clients.{answers_of, is_connected, room_of};
     ghost use Rattle.node_loop.specs.Clients.{SameClients, GivesWithin};
+    ghost use Rattle.node_loop.specs.Heard.{HasNewReader, HeardAt, NothingHeard, SameReader};
     ghost use Rattle.node_loop.specs.Lives.{FailsAt, GoesOutAt, LivesAt, LiveOn, OthersStay, ReadsAt};
     ghost use Rattle.node_loop.specs.Said.{NothingSaid};
 
@@ -84,6 +86,9 @@ impl<P: Pipe, A: Allocator + Copy> Clients<P, A> {
         ensures admitted { slab_len self.old.table < 128 → self.old.table.vacant_key < 128
             → IfSome (get self.new.table self.old.table.vacant_key) (λ client. client.pipe ≡ pipe)
             × (is_connected self.new self.old.table.vacant_key ≡ true) }
+        // Its reader has taken nothing.
+        ensures reader { is_connected self.new self.old.table.vacant_key ≡ true
+            → HasNewReader (get self.new.table self.old.table.vacant_key) }
         // No answer to an earlier client with that ticket waits for it.
         ensures silent { is_connected self.new self.old.table.vacant_key ≡ true
             → answers_of self.new self.old.table.vacant_key ≡ [] }
@@ -116,6 +121,7 @@ impl<P: Pipe, A: Allocator + Copy> Clients<P, A> {
         // What came is what its pipe gave, and no other client was read.
         ensures reads { ReadsAt P.gave P.took P.counts result bytes.new
             (get self.old.table ticket) (get self.new.table ticket) }
+        ensures reader { SameReader (get self.old.table ticket) (get self.new.table ticket) }
         ensures others { OthersStay ticket self.old self.new }
         ensures answers { self.new.answers ≡ self.old.answers }
     {
@@ -130,6 +136,10 @@ impl<P: Pipe, A: Allocator + Copy> Clients<P, A> {
         ensures same { SameClients self.old self.new }
         ensures lives { LiveOn P.gave P.took P.counts self.old self.new }
         ensures nothing { NothingSaid P.took self.old self.new }
+        // Its reader took the byte, and read the line in it, if that ends one. No other client changed.
+        ensures heard { HeardAt P.gave [] (byte ∷ []) (option_to_list result)
+            (get self.old.table ticket) (get self.new.table ticket) }
+        ensures others { OthersStay ticket self.old self.new }
         // Only a connected client has lines.
         ensures there { OnSome result (is_connected self.old ticket ≡ true) }
     {
@@ -170,6 +180,7 @@ impl<P: Pipe, A: Allocator + Copy> Clients<P, A> {
             → FailsAt P.counts (get self.old.table ticket) (get self.new.table ticket) }
         ensures others_stay { OthersStay ticket self.old self.new }
         ensures others { (t : ℕ) → t ≢ ticket → answers_of self.new t ≡ answers_of self.old t }
+        ensures heard { NothingHeard P.gave self.old self.new }
         // What the pipe took is the front of what waited, and the rest of that waits.
         ensures nothing { IsTrue result → NothingSaid P.took self.old self.new }
         // If something waited, the pipe took some of it or said that it takes none now.

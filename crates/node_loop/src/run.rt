@@ -134,9 +134,10 @@ impl<D: Doors, S: Store + Drop, A: Allocator + Copy> NodeRun<D, S, A> {
         // A client that was connected and still is lives on: no read and no write said that its pipe
         // closed or failed.
         ensures lives { StillLive D.P.gave D.P.took D.P.counts self.old.clients self.new.clients }
-        // A client that stays connected was read, and sent the answers to its lines, and then `granted` or `lost`
-        // if the tick began or ended its loan. Nothing else was sent, and no byte is lost: its pipe took
-        // it, or it waits. None waits at the end without a write: its pipe took some, or takes none now.
+        // A client that stays connected was read, and sent the answers to the lines that ended in the bytes
+        // that its pipe gave, and then `granted` or `lost` if the tick began or ended its loan. Nothing
+        // else was sent, and no byte is lost: its pipe took it, or it waits. None waits at the end without
+        // a write: its pipe took some, or takes none now.
         ensures says { TurnSays D.P.gave D.P.took D.P.counts (site_in self.old.node)
             result.ticked.act self.old.clients self.new.clients }
         // In each 256th turn, and in no other, the state is stored as it is at the turn's end.
@@ -194,7 +195,8 @@ impl<D: Doors, S: Store + Drop, A: Allocator + Copy> NodeRun<D, S, A> {
         // A client that was connected and still is lives on: no read and no write said that its pipe
         // closed or failed.
         ensures lives { StillLive D.P.gave D.P.took D.P.counts self.old.clients self.new.clients }
-        // A client that stays connected was read, and sent the answers to its lines, and nothing else.
+        // A client that stays connected was read, and sent the answers to the lines that ended in the bytes
+        // that its pipe gave, and nothing else.
         ensures answers { HasAnswered D.P.gave D.P.took D.P.counts (site_in self.old.node)
             self.old.clients self.new.clients }
         // No answer waits at the end without a write: the client's pipe took some, or takes none now.

@@ -9,7 +9,8 @@ ghost use Rattle.node_loop.specs.Clients.{AreConnected, is_connected, IsReported
 ghost use Rattle.node_loop.specs.Deeds.{IsLeave, IsOfClient, Leaves};
 ghost use Rattle.node_loop.specs.Lives.{AllGoOut, AllRead, IsReadAt, LiveOn, OthersStay};
 ghost use Rattle.node_loop.specs.Noting.{after_all, Did, DidAct};
-ghost use Rattle.node_loop.specs.Said.{AreAnswered, NothingSaid, SaidTo};
+ghost use Rattle.node_loop.specs.Heard.{NothingHeard};
+ghost use Rattle.node_loop.specs.Said.{AreAnswered, IsServedAlone, NothingSaid, SaidTo};
 
 use crate::answer::{ANSWER, answer};
 use crate::clients::{Clients, PIECE, PLACES};
@@ -63,6 +64,7 @@ fn reply<P: Pipe, A: Allocator + Copy>(
     ensures connected { AreConnected clients.old node.old → AreConnected clients.new node.new }
     ensures reported { Reports text.now ticket clients.old clients.new }
     ensures lives { LiveOn P.gave P.took P.counts clients.old clients.new }
+    ensures heard { NothingHeard P.gave clients.old clients.new }
 {
     if !clients.say(ticket, text) {
         dismiss(node, notes, clients, ticket);
@@ -78,7 +80,7 @@ pub(crate) fn serve_all<P: Pipe, A: Allocator + Copy>(
     ensures node { Did IsOfClient node.old node.new notes.old notes.new }
     // A client whose read says that it is gone is no longer connected.
     ensures lives { LiveOn P.gave P.took P.counts clients.old clients.new }
-    ensures answers { AreAnswered P.took (site_in node.old) clients.old clients.new }
+    ensures answers { AreAnswered P.gave P.took (site_in node.old) clients.old clients.new }
     // Each client that is still there was read.
     ensures reads { AllRead P.gave P.took P.counts clients.old clients.new }
 {
@@ -104,7 +106,7 @@ fn serve<P: Pipe, A: Allocator + Copy>(
 ) -> bool
     ensures node { Did IsOfClient node.old node.new notes.old notes.new }
     ensures lives { LiveOn P.gave P.took P.counts clients.old clients.new }
-    ensures answers { AreAnswered P.took (site_in node.old) clients.old clients.new }
+    ensures answers { AreAnswered P.gave P.took (site_in node.old) clients.old clients.new }
     // It was read, if it is still there.
     ensures reads { IsReadAt P.gave P.took P.counts (get clients.old.table ticket)
         (get clients.new.table ticket) }
@@ -138,7 +140,9 @@ fn serve_bytes<P: Pipe, A: Allocator + Copy>(
 )
     ensures node { Did IsOfClient node.old node.new notes.old notes.new }
     ensures lives { LiveOn P.gave P.took P.counts clients.old clients.new }
-    ensures answers { AreAnswered P.took (site_in node.old) clients.old clients.new }
+    // The client is served by them, and no other.
+    ensures answers { IsServedAlone P.gave P.took (site_in node.old) bytes.now ticket
+        clients.old clients.new }
 {
     for byte in bytes {
         if let Some(line) = clients.push(ticket, *byte) {
@@ -161,6 +165,7 @@ fn serve_line<P: Pipe, A: Allocator + Copy>(
     ensures answers { SaidTo P.took
         (answer_text (site_in node.old) ticket line (state_of node.old)) ticket
         clients.old clients.new }
+    ensures heard { NothingHeard P.gave clients.old clients.new }
 {
     let mut text = [0; ANSWER];
     let count = answer(node, ticket, line, &mut text);
@@ -258,6 +263,7 @@ pub(crate) fn write_all<P: Pipe, A: Allocator + Copy>(
     // A client to which a write fails is no longer connected.
     ensures lives { LiveOn P.gave P.took P.counts clients.old clients.new }
     ensures nothing { NothingSaid P.took clients.old clients.new }
+    ensures heard { NothingHeard P.gave clients.old clients.new }
     ensures out { AllGoOut P.counts clients.old clients.new }
 {
     if clients.is_empty() {

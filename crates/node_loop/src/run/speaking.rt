@@ -24,6 +24,7 @@ use topology::Frame;
 impl<D: Doors, S: Store + Drop, A: Allocator + Copy> NodeRun<D, S, A> {
     ghost use Rattle.node_loop.specs.Clients.{AreConnected, IsReported};
     ghost use Rattle.node_loop.specs.Noting.{after_all, sends_if, DidAct, DidSpeak};
+    ghost use Rattle.node_loop.specs.Heard.{NothingHeard};
     ghost use Rattle.node_loop.specs.Lives.{AllGoOut, LiveOn};
     ghost use Rattle.node_loop.specs.Remembering.{Remembers};
     ghost use Rattle.node_loop.specs.Said.{NothingSaid};
@@ -62,6 +63,7 @@ impl<D: Doors, S: Store + Drop, A: Allocator + Copy> NodeRun<D, S, A> {
             → AreConnected self.new.clients self.new.node }
         ensures lives { LiveOn D.P.gave D.P.took D.P.counts self.old.clients self.new.clients }
         ensures nothing { NothingSaid D.P.took self.old.clients self.new.clients }
+        ensures heard { NothingHeard D.P.gave self.old.clients self.new.clients }
         ensures out { AllGoOut D.P.counts self.old.clients self.new.clients }
         ensures rest { (self.new.net ≡ self.old.net) × (self.new.turns ≡ self.old.turns)
             × (self.new.store ≡ self.old.store) }

@@ -1,3 +1,4 @@
+use Rattle.node_loop.proofs.Heard.{unheard-gone, unheard-join, unheard-same}
 use Rattle.node_loop.proofs.Lives.{stay, live-join, live-gone, closed-gone}
 use Rattle.node_loop.specs.Deeds.{IsLeave}
 use Rattle.node_loop.proofs.Noting.{did-none}
@@ -16,3 +17,14 @@ returns-then-not-say-clause-lives g c =
 
 pub returns-else-not-say-clause-lives : goal.returns-else-not-say-clause-lives
 returns-else-not-say-clause-lives g c = stay g.P.Pipe.gave g.P.Pipe.took g.P.Pipe.counts c.args.clients.now c.say.new.self c.say.ensures.table
+
+pub returns-then-not-say-clause-heard : goal.returns-then-not-say-clause-heard
+returns-then-not-say-clause-heard g c =
+    let old = c.args.clients.now in
+    let mid = c.say.new.self in
+    let new = c.dismiss.new.clients in
+    unheard-join g.P.Pipe.gave old mid new (unheard-same g.P.Pipe.gave old mid c.say.ensures.table)
+    (unheard-gone g.P.Pipe.gave c.args.ticket mid new c.dismiss.ensures.others (closed-gone c.args.ticket mid new c.dismiss.ensures.closed))
+
+pub returns-else-not-say-clause-heard : goal.returns-else-not-say-clause-heard
+returns-else-not-say-clause-heard g c = unheard-same g.P.Pipe.gave c.args.clients.now c.say.new.self c.say.ensures.table

@@ -7,12 +7,13 @@ use Rattle.node_loop.proofs.Noting.{did-joins, did-none}
 use Rattle.slab.specs.Slab.{get}
 use Rattle.node_loop.proofs.BeingRead.{all-of_none, read-gone, read-next, read-start}
 use Rattle.node_loop.proofs.Lives.{stay, live-join, nobody}
+use Rattle.node_loop.proofs.Heard.{unheard-same}
 use Rattle.node_loop.proofs.Saying.{answered-join, answered-nothing, nothing-same}
 use Rattle.node_loop.proofs.service.serve_all.Goals.{then-contains, else-contains}
 use Rattle.node_loop.proofs.service.serve_all.Goals as goal
 
 pub loop-ticket-init : goal.loop-ticket-init
-loop-ticket-init g c = (did-none IsOfClient c.args.node.now c.args.notes.now, stay g.P.Pipe.gave g.P.Pipe.took g.P.Pipe.counts c.args.clients.now c.args.clients.now refl, answered-nothing g.P.Pipe.took (site_in c.args.node.now) c.args.clients.now c.args.clients.now (nothing-same g.P.Pipe.took c.args.clients.now c.args.clients.now refl refl), read-start g.P.Pipe.gave g.P.Pipe.took g.P.Pipe.counts c.args.clients.now)
+loop-ticket-init g c = (did-none IsOfClient c.args.node.now c.args.notes.now, stay g.P.Pipe.gave g.P.Pipe.took g.P.Pipe.counts c.args.clients.now c.args.clients.now refl, answered-nothing g.P.Pipe.gave g.P.Pipe.took (site_in c.args.node.now) c.args.clients.now c.args.clients.now (unheard-same g.P.Pipe.gave c.args.clients.now c.args.clients.now refl) (nothing-same g.P.Pipe.took c.args.clients.now c.args.clients.now refl refl), read-start g.P.Pipe.gave g.P.Pipe.took g.P.Pipe.counts c.args.clients.now)
 
 pub loop-ticket-preserved : goal.loop-ticket-preserved
 loop-ticket-preserved g c =
@@ -20,8 +21,8 @@ loop-ticket-preserved g c =
       | then-contains w ↦ rw (w.node-is, w.notes-is, w.clients-is) (
         did-joins IsOfClient c.args.node.now c.loop-ticket.node w.serve-has_more.new.node c.args.notes.now c.loop-ticket.notes w.serve-has_more.new.notes c.loop-ticket.invariant.0 w.serve-has_more.ensures.node,
         live-join g.P.Pipe.gave g.P.Pipe.took g.P.Pipe.counts c.args.clients.now c.loop-ticket.clients w.serve-has_more.new.clients c.loop-ticket.invariant.1 w.serve-has_more.ensures.lives,
-        answered-join g.P.Pipe.took (site_in c.args.node.now) c.args.clients.now c.loop-ticket.clients w.serve-has_more.new.clients c.loop-ticket.invariant.2
-            (subst (λ x. AreAnswered g.P.Pipe.took x c.loop-ticket.clients w.serve-has_more.new.clients) c.loop-ticket.invariant.0.became.site w.serve-has_more.ensures.answers),
+        answered-join g.P.Pipe.gave g.P.Pipe.took (site_in c.args.node.now) c.args.clients.now c.loop-ticket.clients w.serve-has_more.new.clients c.loop-ticket.invariant.2
+            (subst (λ x. AreAnswered g.P.Pipe.gave g.P.Pipe.took x c.loop-ticket.clients w.serve-has_more.new.clients) c.loop-ticket.invariant.0.became.site w.serve-has_more.ensures.answers),
         read-next g.P.Pipe.gave g.P.Pipe.took g.P.Pipe.counts c.loop-ticket.ticket c.args.clients.now c.loop-ticket.clients w.serve-has_more.new.clients c.loop-ticket.invariant.3
             c.loop-ticket.invariant.1 w.serve-has_more.ensures.lives w.serve-has_more.ensures.reads,
       )
@@ -46,3 +47,8 @@ returns-then-is_empty-clause-reads g c = all-of_none g.P.Pipe.gave g.P.Pipe.took
 
 pub returns-clause-reads : goal.returns-clause-reads
 returns-clause-reads g c t few = c.loop-ticket.invariant.3 t (let end = c.loop-ticket-test.false in omega (arith, few, end))
+
+pub returns-then-is_empty-clause-answers : goal.returns-then-is_empty-clause-answers
+returns-then-is_empty-clause-answers g c =
+    let clients = c.args.clients.now in
+    answered-nothing g.P.Pipe.gave g.P.Pipe.took (site_in c.args.node.now) clients clients (unheard-same g.P.Pipe.gave clients clients refl) (nothing-same g.P.Pipe.took clients clients refl refl)

@@ -9,6 +9,7 @@ use Rattle.node_loop.specs.NotesView.{NotesView}
 use Rattle.node_loop.specs.Noting.{after_all, deeds_of_line, Did}
 use Rattle.node_loop.specs.Deeds.{IsOfClient, Asks, Leaves}
 use Rattle.node_loop.proofs.Noting.{did-joins, did-one, did-same, leaves-did}
+use Rattle.node_loop.proofs.Heard.{unheard-same}
 use Rattle.node_loop.proofs.Lives.{stay}
 use Rattle.node_loop.proofs.service.serve_line.Goals as goal
 
@@ -34,3 +35,6 @@ returns-else-count-gt0-clause-node g c =
 
 pub returns-else-count-gt0-clause-lives : goal.returns-else-count-gt0-clause-lives
 returns-else-count-gt0-clause-lives g c = stay g.P.Pipe.gave g.P.Pipe.took g.P.Pipe.counts c.args.clients.now c.args.clients.now refl
+
+pub returns-else-count-gt0-clause-heard : goal.returns-else-count-gt0-clause-heard
+returns-else-count-gt0-clause-heard g c = unheard-same g.P.Pipe.gave c.args.clients.now c.args.clients.now refl

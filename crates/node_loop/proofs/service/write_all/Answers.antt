@@ -6,12 +6,13 @@ use Rattle.node_loop.specs.Deeds.{IsLeave}
 use Rattle.node_loop.proofs.Noting.{did-joins, did-none}
 use Rattle.node_loop.proofs.Lives.{stay, live-one, live-join, live-gone, others-join, closed-gone, nobody}
 use Rattle.node_loop.proofs.GoingOut.{below-all, below-next, below-start, out-gone, out-of_none}
+use Rattle.node_loop.proofs.Heard.{unheard-gone, unheard-join, unheard-same}
 use Rattle.node_loop.proofs.Saying.{answers-same, nothing-gone, nothing-join, nothing-same}
 use Rattle.node_loop.proofs.service.write_all.Goals.{then-not-write, else-not-write}
 use Rattle.node_loop.proofs.service.write_all.Goals as goal
 
 pub loop-ticket-init : goal.loop-ticket-init
-loop-ticket-init g c = (did-none IsLeave c.args.node.now c.args.notes.now, λ were. were, stay g.P.Pipe.gave g.P.Pipe.took g.P.Pipe.counts c.args.clients.now c.args.clients.now refl, nothing-same g.P.Pipe.took c.args.clients.now c.args.clients.now refl refl, below-start g.P.Pipe.counts c.args.clients.now)
+loop-ticket-init g c = (did-none IsLeave c.args.node.now c.args.notes.now, λ were. were, stay g.P.Pipe.gave g.P.Pipe.took g.P.Pipe.counts c.args.clients.now c.args.clients.now refl, nothing-same g.P.Pipe.took c.args.clients.now c.args.clients.now refl refl, below-start g.P.Pipe.counts c.args.clients.now, unheard-same g.P.Pipe.gave c.args.clients.now c.args.clients.now refl)
 
 pub loop-ticket-preserved : goal.loop-ticket-preserved
 loop-ticket-preserved g c =
@@ -36,6 +37,9 @@ loop-ticket-preserved g c =
             (λ u o. answers-same g.P.Pipe.took written w.dismiss.new.clients w.dismiss.ensures.answers u ∙ c.write.ensures.others u o)
             (out-gone g.P.Pipe.counts (get mid.table t) (get w.dismiss.new.clients.table t) (answers_of mid t) (answers_of w.dismiss.new.clients t)
             (nobody (get w.dismiss.new.clients.table t) (closed-gone t written w.dismiss.new.clients w.dismiss.ensures.closed))),
+        unheard-join g.P.Pipe.gave old mid w.dismiss.new.clients before.5
+            (unheard-gone g.P.Pipe.gave t mid w.dismiss.new.clients (others-join t mid written w.dismiss.new.clients c.write.ensures.others_stay w.dismiss.ensures.others)
+            (closed-gone t written w.dismiss.new.clients w.dismiss.ensures.closed)),
       )
       | else-not-write w ↦ rw (w.node-is, w.notes-is, w.clients-is) (
         before.0,
@@ -43,6 +47,7 @@ loop-ticket-preserved g c =
         live-join g.P.Pipe.gave g.P.Pipe.took g.P.Pipe.counts old mid written before.2 (live-one g.P.Pipe.gave g.P.Pipe.took g.P.Pipe.counts t mid written c.write.ensures.others_stay (w.if-not-write.ensures.lives refl)),
         nothing-join g.P.Pipe.took old mid written before.3 (w.if-not-write.ensures.nothing refl),
         below-next g.P.Pipe.counts t old mid written before.4 c.write.ensures.others_stay c.write.ensures.others (w.if-not-write.ensures.out refl),
+        unheard-join g.P.Pipe.gave old mid written before.5 c.write.ensures.heard,
       )
     ]
 
@@ -54,3 +59,6 @@ returns-then-is_empty-clause-out g c = out-of_none g.P.Pipe.counts c.args.client
 
 pub returns-clause-out : goal.returns-clause-out
 returns-clause-out g c = below-all g.P.Pipe.counts c.loop-ticket.ticket c.args.clients.now c.loop-ticket.clients (let end = c.loop-ticket-test.false in omega arith) c.args.clients.now.answers_are c.loop-ticket.invariant.4
+
+pub returns-then-is_empty-clause-heard : goal.returns-then-is_empty-clause-heard
+returns-then-is_empty-clause-heard g c = unheard-same g.P.Pipe.gave c.args.clients.now c.args.clients.now refl

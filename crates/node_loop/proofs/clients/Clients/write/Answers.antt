@@ -1,4 +1,4 @@
-use Rattle.std.proofs.Common.{◌≡◌, ◌<◌, ◌≤◌, ◌∙◌, ℕ, List, [], length, take, drop, ap, sym, subst, inl, inr, arith}
+use Rattle.std.proofs.Common.{◌≡◌, ◌<◌, ◌≤◌, ◌∙◌, ℕ, List, [], length, take, drop, ap, refl, sym, subst, inl, inr, arith}
 use Rattle.std.specs.Prelude.{slice_index_or, slice_set}
 use Rattle.std.proofs.lemmas.List.{get_or-set_same, length-take}
 use Rattle.circular_buffer.specs.Buffer.{buffer}
@@ -11,8 +11,9 @@ use Rattle.socket_links.specs.Pipes.{GoesOn, Writes}
 use Rattle.socket_links.specs.declared.pipe.WriteAnswer.TheVariants as write
 use Rattle.node_loop.proofs.GoingOut.{buffer-at, buffer-other, buffer-set, front-moved, no-items, not-there, nothing-past, out-gone, out-here, out-nothing, rest-put, shorter}
 use Rattle.node_loop.specs.declared.clients.Client.{Client}
+use Rattle.node_loop.proofs.Heard.{goes-nothing, heard-written, unheard-same}
 use Rattle.node_loop.proofs.Lives.{failed-here, stays-at, there, touched-here}
-use Rattle.node_loop.proofs.Saying.{goes-nothing, said-at, said-out}
+use Rattle.node_loop.proofs.Saying.{said-at, said-out}
 use Rattle.node_loop.proofs.clients.Clients.write.Goals.{in-Wrote, in-Later, then-key-ge-PLACES-via-then-key-ge-PLACES, then-key-ge-PLACES-via-else-key-ge-PLACES+then-not-contains}
 use Rattle.node_loop.proofs.clients.Clients.write.Given as given
 use Rattle.node_loop.proofs.clients.Clients.write.Goals as goal
@@ -140,3 +141,19 @@ returns-clause-nothing g c _ =
           let is : c.match-try_write.written ≡ 0 = w.written-is in
           all (omega (arith, is)) (rw (is, wrote.0) (goes-nothing (g.P.Pipe.took client.pipe)))
     ]
+
+pub returns-then-key-ge-PLACES-clause-heard : goal.returns-then-key-ge-PLACES-clause-heard
+returns-then-key-ge-PLACES-clause-heard g c = unheard-same g.P.Pipe.gave c.args.self.now c.args.self.now refl
+
+pub returns-then-count-eq0-clause-heard : goal.returns-then-count-eq0-clause-heard
+returns-then-count-eq0-clause-heard g c = unheard-same g.P.Pipe.gave c.args.self.now c.args.self.now refl
+
+pub returns-in-Failed-clause-heard : goal.returns-in-Failed-clause-heard
+returns-in-Failed-clause-heard g c =
+    let client = c.in-Some.client.now in
+    heard-written g.P.Pipe.gave c.args.self.now.table c.args.ticket client (record { pipe = c.try_write.new.self; reader = client.reader }) c.in-Some.ensures.value c.try_write.ensures.gave refl
+
+pub returns-clause-heard : goal.returns-clause-heard
+returns-clause-heard g c =
+    let client = c.in-Some.client.now in
+    heard-written g.P.Pipe.gave c.args.self.now.table c.args.ticket client (record { pipe = c.try_write.new.self; reader = client.reader }) c.in-Some.ensures.value c.try_write.ensures.gave refl

@@ -12,4 +12,4 @@ loop-preserved g c =
     let mid = c.loop.self.clients in
     let new = c.admit.new.self in
     let key = mid.table.vacant_key in
-    (before.0, before.1, before.2, before.3, before.4, admits-join start mid new before.5 (admits-one key mid new c.admit.ensures.was_free c.admit.ensures.others c.admit.ensures.silent), before.6)
+    (before.0, before.1, before.2, before.3, before.4, admits-join start mid new before.5 (admits-one key mid new c.admit.ensures.was_free c.admit.ensures.others c.admit.ensures.silent c.admit.ensures.reader), before.6)

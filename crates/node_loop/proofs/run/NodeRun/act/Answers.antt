@@ -56,5 +56,5 @@ returns-clause-says g c = record {
   acted = c.tick-ticked.new.self.clients;
   answers = c.listen.ensures.answers;
   reported = c.tick-ticked.ensures.reported;
-  writes = record { lives = c.speak.ensures.lives; says_nothing = c.speak.ensures.nothing; goes_out = c.speak.ensures.out };
+  writes = record { lives = c.speak.ensures.lives; hears_nothing = c.speak.ensures.heard; says_nothing = c.speak.ensures.nothing; goes_out = c.speak.ensures.out };
 }

@@ -41,11 +41,11 @@ returns-clause-lives g c =
 pub returns-clause-answers : goal.returns-clause-answers
 returns-clause-answers g c =
     has-nothing g.D.P.Pipe.gave g.D.P.Pipe.took g.D.P.Pipe.counts (site_in c.args.self.now.node) c.args.self.now.clients c.listen.new.self.clients c.speak.new.self.clients
-    c.listen.ensures.answers c.speak.ensures.nothing c.speak.ensures.lives
+    c.listen.ensures.answers c.speak.ensures.heard c.speak.ensures.nothing c.speak.ensures.lives
 
 pub returns-clause-says : goal.returns-clause-says
 returns-clause-says g c = record {
   heard = c.listen.new.self.clients;
   answers = c.listen.ensures.answers;
-  writes = record { lives = c.speak.ensures.lives; says_nothing = c.speak.ensures.nothing; goes_out = c.speak.ensures.out };
+  writes = record { lives = c.speak.ensures.lives; hears_nothing = c.speak.ensures.heard; says_nothing = c.speak.ensures.nothing; goes_out = c.speak.ensures.out };
 }

@@ -63,7 +63,7 @@ returns-clause-answers g c =
     record {
       came = admitted;
       admits = subst (λ x. Admits x admitted) c.accept_links.ensures.rest.3 c.accept_clients.ensures.admits;
-      answers = subst (λ x. AreAnswered g.D.P.Pipe.took x admitted served) site
-          (subst (λ x. AreAnswered g.D.P.Pipe.took (site_in c.pull_all.new.self.node) x served) heard c.serve_all.ensures.answers);
+      answers = subst (λ x. AreAnswered g.D.P.Pipe.gave g.D.P.Pipe.took x admitted served) site
+          (subst (λ x. AreAnswered g.D.P.Pipe.gave g.D.P.Pipe.took (site_in c.pull_all.new.self.node) x served) heard c.serve_all.ensures.answers);
       reads = subst (λ x. AllRead g.D.P.Pipe.gave g.D.P.Pipe.took g.D.P.Pipe.counts x served) heard c.serve_all.ensures.reads;
     }

@@ -1,4 +1,5 @@
 use Rattle.std.proofs.Common.{◌≡◌, ◌≤◌, ◌∙◌, List, ap, refl, subst, arith}
+use Rattle.node_loop.specs.Heard.{NothingHeard}
 use Rattle.node_loop.specs.Lives.{AllGoOut, LiveOn}
 use Rattle.data_link.specs.Port.{frame_of}
 use Rattle.node_core.specs.View.{NodeView, state_of}
@@ -61,3 +62,6 @@ returns-clause-nothing g c = subst (λ x. NothingSaid g.D.P.Pipe.took x c.write_
 
 pub returns-clause-out : goal.returns-clause-out
 returns-clause-out g c = subst (λ x. AllGoOut g.D.P.Pipe.counts x c.write_all.new.clients) c.loop-id.invariant.4 c.write_all.ensures.out
+
+pub returns-clause-heard : goal.returns-clause-heard
+returns-clause-heard g c = subst (λ x. NothingHeard g.D.P.Pipe.gave x c.write_all.new.clients) c.loop-id.invariant.4 c.write_all.ensures.heard
