@@ -1,12 +1,12 @@
 -- Deeds one after the other.
-use Rattle.std.proofs.Common.{arith, ◌≡◌, ℕ, List, [], ◌∷◌, ◌++◌, ◌∙◌, All, refl, subst}
+use Rattle.std.proofs.Common.{arith, ◌≡◌, ℕ, Bool, List, [], ◌∷◌, ◌++◌, ◌∙◌, All, refl, subst}
 use Rattle.std.proofs.lemmas.Grind.{common_steps}
-use Rattle.std.proofs.lemmas.List.Elements.{All-append, All-cons, All-nil}
+use Rattle.std.proofs.lemmas.List.Elements.{All-append, All-cons, All-head, All-nil, All-tail}
 use Rattle.node_core.specs.Site.{Site}
 use Rattle.node_core.specs.State.{LocalState}
 use Rattle.node_core.specs.View.{NodeView, site_in, state_of}
 use Rattle.node_core.specs.declared.ticked.Ticked.{Ticked}
-use Rattle.node_loop.specs.Deeds.{Deed, Acts, Became, IsLeave, IsOfClient, Leads, Takes, Asks, Leaves, Ticks, Sends, taken_from, sent_to}
+use Rattle.node_loop.specs.Deeds.{Deed, Acts, Became, IsLeave, IsLeaveOfGone, IsOfClient, Leads, Takes, Asks, Leaves, Ticks, Sends, taken_from, sent_to}
 
 -- the second list goes on where the first ended
 pub leads-join : (site : Site) (ds es : List Deed) (s t u : LocalState) → Leads site ds s t → Leads site es t u → Leads site (ds ++ es) s u
@@ -76,6 +76,23 @@ leave-kinds (d ∷ ds) k = grind (arith, leave-kinds ds, leave-kind d)
 
 abbrev pub leaves-are-clients : (x y : NodeView) → Became IsLeave x y → Became IsOfClient x y
 leaves-are-clients x y f = record { site = f.site; deeds = f.deeds; kinds = leave-kinds f.deeds f.kinds; leads = f.leads }
+
+module _ (connected : ℕ → Bool) where
+  gone-leave : (d : Deed) → IsLeaveOfGone connected d → IsLeave d
+  gone-leave (Takes w f) k = k
+  gone-leave (Asks t) k = k
+  gone-leave (Leaves t) k = tt
+  gone-leave Ticks k = k
+  gone-leave (Sends w f) k = k
+
+  pub gone-leaves : (ds : List Deed) → All (IsLeaveOfGone connected) ds → All IsLeave ds
+  gone-leaves [] k = All-nil IsLeave
+  gone-leaves (d ∷ ds) k =
+      All-cons IsLeave d ds (gone-leave d (All-head (IsLeaveOfGone connected) d ds k)) (gone-leaves ds (All-tail (IsLeaveOfGone connected) d ds k))
+
+  -- they are leaves
+  abbrev pub are-leaves : (x y : NodeView) → Became (IsLeaveOfGone connected) x y → Became IsLeave x y
+  are-leaves x y f = record { site = f.site; deeds = f.deeds; kinds = gone-leaves f.deeds f.kinds; leads = f.leads }
 
 -- after a tick some more tickets left
 pub act-more : (says : Ticked) (x y z : NodeView) → Acts says x y → Became IsLeave y z → Acts says x z

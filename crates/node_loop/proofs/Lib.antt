@@ -14,6 +14,7 @@ pub mod Accounts
 pub mod Lives
 pub mod Heard
 pub mod Saying
+pub mod Serving
 pub mod Rooms
 pub mod Arrivals
 mod Rows

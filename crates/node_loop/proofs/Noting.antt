@@ -7,14 +7,14 @@ use Rattle.lock_desk.specs.Act.{desk_act}
 use Rattle.node_core.specs.Step.{ticked}
 use Rattle.node_core.specs.View.{NodeView, site_in, state_of}
 use Rattle.node_core.specs.declared.ticked.Ticked.{Ticked}
-use Rattle.node_loop.specs.Deeds.{Deed, IsLeave, IsOfClient, Leads, Ticks}
+use Rattle.node_loop.specs.Deeds.{Deed, IsLeaveOfGone, Leads, Ticks}
 use Rattle.node_loop.specs.declared.port.NodePort.{NodePort}
 use Rattle.node_loop.specs.NotesView.{NotesView}
 use Rattle.node_loop.specs.Noting.{after_all, after_note, as_entry, Did, DidAct, DidTake}
 use Rattle.node_loop.specs.Moments.{Moment}
 use Rattle.node_loop.proofs.Speaking.{SpokenTo}
 use Rattle.node_loop.proofs.Hearing.{HeardBelow, heard-next, heard-start, takes-join}
-use Rattle.node_loop.proofs.Became.{joins, leaves-are-clients, one, same, stays}
+use Rattle.node_loop.proofs.Became.{are-leaves, joins, one, stays}
 
 -- deeds and then deeds
 pub all-join : (ds es : List Deed) (n : NotesView) → after_all (ds ++ es) n ≡ after_all es (after_all ds n)
@@ -29,29 +29,24 @@ grown ds es n m o f g = g ∙ (ap (λ x. after_all es x) f ∙ sym (all-join ds 
 abbrev pub did-none : (kind : Deed → Type 0) (x : NodeView) (n : NotesView) → Did kind x x n n
 did-none kind x n = record { became = stays kind x; noted = refl }
 
-pub did-same : (kind : Deed → Type 0) (x y : NodeView) (n : NotesView) → site_in y ≡ site_in x → state_of y ≡ state_of x → Did kind x y n n
-did-same kind x y n site state = record { became = same kind x y site state; noted = refl }
-
 -- one deed
 pub did-one : (kind : Deed → Type 0) (d : Deed) (x y : NodeView) (n m : NotesView) → kind d → site_in y ≡ site_in x
     → Leads (site_in x) (d ∷ []) (state_of x) (state_of y) → m ≡ after_all (d ∷ []) n → Did kind x y n m
 did-one kind d x y n m k site leads noted = record { became = one kind d x y k site leads; noted = noted }
 
 -- deeds and then deeds
-pub did-joins : (kind : Deed → Type 0) (x y z : NodeView) (n m o : NotesView) → Did kind x y n m → Did kind y z m o → Did kind x z n o
+abbrev pub did-joins : (kind : Deed → Type 0) (x y z : NodeView) (n m o : NotesView) → Did kind x y n m → Did kind y z m o → Did kind x z n o
 did-joins kind x y z n m o f g = record {
   became = joins kind x y z f.became g.became;
   noted = grown f.became.deeds g.became.deeds n m o f.noted g.noted;
 }
 
-pub leaves-did : (x y : NodeView) (n m : NotesView) → Did IsLeave x y n m → Did IsOfClient x y n m
-leaves-did x y n m f = record { became = leaves-are-clients x y f.became; noted = f.noted }
-
 -- a tick, and then some tickets left
-pub did-act : (says : Ticked) (x y z : NodeView) (n m o : NotesView) → says.act ≡ desk_act (state_of x).desk (state_of y).desk → says.full ≡ is_none (state_of y).desk.lent
-    → site_in y ≡ site_in x → state_of y ≡ ticked (site_in x) (state_of x) → m ≡ after_note (as_entry Ticks) n → Did IsLeave y z m o → DidAct says x z n o
-did-act says x y z n m o act full site state ticks f = record {
-  acts = record { acted = y; act = act; full = full; site = site; state = state; leaves = f.became };
+pub did-act : (connected : ℕ → Bool) (says : Ticked) (x y z : NodeView) (n m o : NotesView) → says.act ≡ desk_act (state_of x).desk (state_of y).desk → says.full ≡ is_none (state_of y).desk.lent
+    → site_in y ≡ site_in x → state_of y ≡ ticked (site_in x) (state_of x) → m ≡ after_note (as_entry Ticks) n → Did (IsLeaveOfGone connected) y z m o → DidAct (IsLeaveOfGone connected) says x z n o
+did-act connected says x y z n m o act full site state ticks f = record {
+  acts = record { acted = y; act = act; full = full; site = site; state = state; leaves = are-leaves connected y z f.became };
+  kinds = f.became.kinds;
   noted = f.noted ∙ ap (λ w. after_all f.became.deeds w) ticks;
 }
 

@@ -1,5 +1,7 @@
 -- Small examples of what is said to clients, and some that look like them and are not.
-use Rattle.std.proofs.Common.{◌≡◌, ◌≢◌, ◌∙◌, ℕ, Bool, true, false, if◌then◌else◌, List, [], ◌∷◌, ◌++◌, Option, None, Some, codes, refl, sym, subst, ap, inl, inr, arith, append-nil}
+use Rattle.std.proofs.Common.{◌≡◌, ◌≢◌, ◌∙◌, ℕ, Bool, true, false, if◌then◌else◌, List, [], ◌∷◌, ◌++◌, Option, None, Some, codes, refl, sym, subst, ap, inl, inr, arith, append-nil, All}
+use Rattle.std.proofs.lemmas.Bool.{both_ways}
+use Rattle.std.proofs.lemmas.List.Elements.{All-head, All-nil}
 use Rattle.std.specs.Prelude.{option_map}
 use Rattle.std.proofs.lemmas.Grind.{common_steps}
 use Rattle.byte_streams.specs.Streams.{Rose}
@@ -13,19 +15,26 @@ use Rattle.lock_desk.specs.declared.fault.AskFault.{AskFault}
 use Rattle.lock_desk.specs.declared.fault.AskFault.TheVariants.{Full, Twice}
 use Rattle.node_core.specs.Site.{Site}
 use Rattle.node_core.specs.State.{LocalState}
+use Rattle.node_core.specs.View.{NodeView, site_in, state_of}
+use Rattle.node_core.specs.declared.ticked.Ticked.{Ticked}
 use Rattle.socket_links.specs.Counts.{Counts}
 use Rattle.socket_links.specs.Pipes.{GoesOn}
 use Rattle.node_loop.specs.declared.clients.Client.{Client}
 use Rattle.node_loop.specs.declared.clients.Clients.{Clients}
 use Rattle.node_loop.specs.Answers.{answer_text, lock_answer}
 use Rattle.node_loop.specs.Clients.{answers_of, is_connected, IsReported, Reports}
+use Rattle.node_loop.specs.Deeds.{Became, Deed, IsLeaveOfGone, IsOfClient, Leaves}
 use Rattle.node_loop.specs.Lives.{GoesOutAt}
-use Rattle.node_loop.specs.Said.{answers_to, AreAnswered, AttendSays, HasAnswered, IsSaid, NothingSaid, said, SaidAt, SaidTo, TurnSays, WritesOut}
+use Rattle.node_loop.specs.Moments.{Moment}
+use Rattle.node_loop.specs.Noting.{AttendIsNoted, DidListen, TurnIsNoted}
+use Rattle.node_loop.specs.NotesView.{NotesView}
+use Rattle.node_loop.specs.Said.{answers_to, AttendSays, HasAnswered, IsSaid, ListensTo, NothingSaid, said, SaidAt, TurnSays, WritesOut}
+use Rattle.node_loop.specs.Services.{lines_of}
 use Rattle.node_loop.proofs.BeingRead.{read-gone}
 use Rattle.node_loop.proofs.GoingOut.{out-nothing}
 use Rattle.node_loop.proofs.Heard.{unheard-same}
 use Rattle.node_loop.proofs.Lives.{admits-none, stay}
-use Rattle.node_loop.proofs.Saying.{answered-nothing, is-said-join, nothing-same, reported-said}
+use Rattle.node_loop.proofs.Saying.{is-said-join, nothing-same, reported-said}
 
 abbrev bytes-of : Option (List ℕ) → List ℕ
 bytes-of None = []
@@ -107,27 +116,26 @@ rose_not-same : ¬ Rose 5 5
 rose_not-same (inl more) = omega (arith, more)
 rose_not-same (inr most) = grind (arith, most)
 
-module _ {P A : Type 0} (gave took : P → Option (List ℕ)) (counts : P → Counts) (site : Site) (old new : Clients P A) (a b : Client P) where
+module _ {P A : Type 0} (gave took : P → Option (List ℕ)) (counts : P → Counts) (old new : Clients P A) (a b : Client P) where
   nothing-still : NothingSaid took old old
   nothing-still = nothing-same took old old refl refl
-
-  answered-still : AreAnswered gave took site old old
-  answered-still = answered-nothing gave took site old old (unheard-same gave old old refl) nothing-still
 
   -- nobody is connected
   abbrev IsAlone : Clients P A → Type 0
   IsAlone clients = (t : ℕ) → get clients.table t ≡ None
 
-  has-answered : IsAlone old → HasAnswered gave took counts site old old
-  has-answered alone = record {
+  -- a node without clients does nothing for them
+  has-answered : {x y : NodeView} (serves : Became IsOfClient x y) → serves.deeds ≡ [] → IsAlone old → HasAnswered gave took counts serves old old
+  has-answered serves none alone = record {
     came = old;
     admits = admits-none old;
-    answers = answered-still;
+    services = [];
+    deeds_are = none;
+    gone = tt;
+    heard = λ t. ([], unheard-same gave old old refl t);
+    said = nothing-still;
     reads = λ t few. read-gone gave took counts (get old.table t) (get old.table t) (alone t);
   }
-
-  said-to-reported : Reports (codes "full\n") 3 old new → SaidTo took (codes "full\n") 3 old new
-  said-to-reported reports = reported-said took (codes "full\n") 3 old new reports
 
   -- nothing waits for anybody
   abbrev NoneWaits : Clients P A → Type 0
@@ -141,16 +149,41 @@ module _ {P A : Type 0} (gave took : P → Option (List ℕ)) (counts : P → Co
     goes_out = λ t. out-nothing counts (get clients.table t) (get clients.table t) (answers_of clients t) (answers_of clients t) (none t);
   }
 
+  all-of_none : (kind : Deed → Type 0) (ds : List Deed) → ds ≡ [] → All kind ds
+  all-of_none kind ds none = subst (λ es. All kind es) (sym none) (All-nil kind)
+
   -- a turn in which nothing is said
-  turn-quiet : IsAlone old → NoneWaits old → TurnSays gave took counts site Quiet old old
-  turn-quiet alone none = record { heard = old; acted = old; answers = has-answered alone; reported = refl; writes = writes-nothing old none }
+  turn-quiet : (ticked : Ticked) (now : ℕ) (m w : Moment P) (n o : NotesView) (did : TurnIsNoted gave took counts ticked now m w n o) → did.turns.listens.serves.deeds ≡ [] → did.turns.acts.leaves.deeds ≡ []
+      → did.turns.leaves.deeds ≡ [] → ticked.act ≡ Quiet → IsAlone old → NoneWaits old → TurnSays gave took counts ticked now m w n o old old
+  turn-quiet ticked now m w n o did served gone last quiet alone none = record {
+    did = did;
+    heard = old;
+    acted = old;
+    answers = has-answered did.turns.listens.serves served alone;
+    reported = subst (λ act. IsReported act old old) (sym quiet) refl;
+    writes = writes-nothing old none;
+    gone = all-of_none (IsLeaveOfGone (is_connected old)) did.turns.acts.leaves.deeds gone;
+    gone_at_last = all-of_none (IsLeaveOfGone (is_connected old)) did.turns.leaves.deeds last;
+  }
 
-  -- one in which a client hears that it lost the lock
-  turn-lost : HasAnswered gave took counts site old old → Reports (codes "lost\n") 3 old new → WritesOut gave took counts new new → TurnSays gave took counts site (Lost 3) old new
-  turn-lost answers reports writes = record { heard = old; acted = new; answers = answers; reported = reports; writes = writes }
+  attend-quiet : (now : ℕ) (m w : Moment P) (n o : NotesView) (did : AttendIsNoted gave took counts now m w n o) → did.attends.listens.serves.deeds ≡ [] → did.attends.leaves.deeds ≡ []
+      → IsAlone old → NoneWaits old → AttendSays gave took counts now m w n o old old
+  attend-quiet now m w n o did served last alone none = record {
+    did = did;
+    heard = old;
+    answers = has-answered did.attends.listens.serves served alone;
+    writes = writes-nothing old none;
+    gone = all-of_none (IsLeaveOfGone (is_connected old)) did.attends.leaves.deeds last;
+  }
 
-  attend-quiet : IsAlone old → NoneWaits old → AttendSays gave took counts site old old
-  attend-quiet alone none = record { heard = old; answers = has-answered alone; writes = writes-nothing old none }
+  listens-alone : (m w : Moment P) (n o : NotesView) (did : DidListen gave took counts m w n o) → did.listens.serves.deeds ≡ [] → IsAlone old → ListensTo gave took counts m w n o old old
+  listens-alone m w n o did served alone = record { did = did; answers = has-answered did.listens.serves served alone }
+
+  -- a connected client's ticket does not leave after the tick
+  attend_not-left : (now : ℕ) (m w : Moment P) (n o : NotesView) → is_connected new 3 ≡ true → (x : AttendSays gave took counts now m w n o old new) → x.did.attends.leaves.deeds ≡ Leaves 3 ∷ [] → ⊥
+  attend_not-left now m w n o there x leaves =
+      let gone : is_connected new 3 ≡ false = All-head (IsLeaveOfGone (is_connected new)) (Leaves 3) [] (subst (λ ds. All (IsLeaveOfGone (is_connected new)) ds) leaves x.gone) in
+      both_ways (is_connected new 3) gone there
 
   -- an answer of which a part goes out, and one that a full pipe does not take
   out-part : GoesOutAt counts (Some a) (codes "lost\n") (Some b) (codes "st\n")
@@ -180,38 +213,33 @@ module _ {P A : Type 0} (gave took : P → Option (List ℕ)) (counts : P → Co
         let h = subst (λ xs. SaidAt took more (Some a) xs (Some b) (answers_of new 3)) waits g in plain-said took a b more (answers_of new 3) before after h
 
     -- what was said in a turn
-    said-in : (act : DeskAct) (text : List ℕ) → ((x y : Clients P A) → IsReported act x y → IsSaid took text 3 x y) → (x : TurnSays gave took counts site act old new)
-        → answers_of new 3 ≡ answers_to site 3 (x.answers.answers 3).1.lines ++ text
-    said-in act text reports x =
-        let lines = (x.answers.answers 3).1.lines in
+    said-in : (ticked : Ticked) (now : ℕ) (m w : Moment P) (n o : NotesView) (text : List ℕ) → ((x y : Clients P A) → IsReported ticked.act x y → IsSaid took text 3 x y) → (x : TurnSays gave took counts ticked now m w n o old new)
+        → answers_of new 3 ≡ answers_to (site_in x.did.turns.listens.heard) 3 (lines_of 3 x.answers.services (state_of x.did.turns.listens.heard)) ++ text
+    said-in ticked now m w n o text reports x =
+        let told = answers_to (site_in x.did.turns.listens.heard) 3 (lines_of 3 x.answers.services (state_of x.did.turns.listens.heard)) in
         let came = x.answers.came in
         let there : is_connected old 3 ≡ true = rw was refl in
         let same = (x.answers.admits 3).0 there in
-        let answered : IsSaid took (answers_to site 3 lines) 3 old x.heard =
-        subst (λ o. SaidAt took (answers_to site 3 lines) o (answers_of old 3) (get x.heard.table 3) (answers_of x.heard 3)) same.0
-        (subst (λ xs. SaidAt took (answers_to site 3 lines) (get came.table 3) xs (get x.heard.table 3) (answers_of x.heard 3)) same.1 (x.answers.answers 3).1.said) in
-        let reported = is-said-join took (answers_to site 3 lines) text 3 old x.heard x.acted answered (reports x.heard x.acted x.reported) in
-        waits-said (answers_to site 3 lines ++ text)
-        (subst (λ all. IsSaid took all 3 old new) (append-nil (answers_to site 3 lines ++ text)) (is-said-join took (answers_to site 3 lines ++ text) [] 3 old x.acted new reported (x.writes.says_nothing 3)))
+        let answered : IsSaid took told 3 old x.heard =
+        subst (λ o. SaidAt took told o (answers_of old 3) (get x.heard.table 3) (answers_of x.heard 3)) same.0
+        (subst (λ xs. SaidAt took told (get came.table 3) xs (get x.heard.table 3) (answers_of x.heard 3)) same.1 (x.answers.said 3)) in
+        let reported = is-said-join took told text 3 old x.heard x.acted answered (reports x.heard x.acted x.reported) in
+        waits-said (told ++ text) (subst (λ all. IsSaid took all 3 old new) (append-nil (told ++ text)) (is-said-join took (told ++ text) [] 3 old x.acted new reported (x.writes.says_nothing 3)))
 
     -- a client that lost the lock hears so
-    turn_not-silent : answers_of new 3 ≡ [] → ¬ TurnSays gave took counts site (Lost 3) old new
-    turn_not-silent silent x =
-        let all = said-in (Lost 3) (codes "lost\n") (λ c d reported. (reported-said took (codes "lost\n") 3 c d reported).0) x in
-        not-nothing (answers_to site 3 (x.answers.answers 3).1.lines) 108 (codes "ost\n") (sym all ∙ silent)
+    turn_not-silent : (ticked : Ticked) (now : ℕ) (m w : Moment P) (n o : NotesView) → ticked.act ≡ Lost 3 → answers_of new 3 ≡ [] → ¬ TurnSays gave took counts ticked now m w n o old new
+    turn_not-silent ticked now m w n o lost silent x =
+        let all = said-in ticked now m w n o (codes "lost\n") (λ c d reported. (reported-said took (codes "lost\n") 3 c d (subst (λ act. IsReported act c d) lost reported)).0) x in
+        not-nothing (answers_to (site_in x.did.turns.listens.heard) 3 (lines_of 3 x.answers.services (state_of x.did.turns.listens.heard))) 108 (codes "ost\n") (sym all ∙ silent)
 
     -- no client hears that it has the lock if no loan began
-    turn_not-granted : answers_of new 3 ≡ codes "granted\n" → ¬ TurnSays gave took counts site Quiet old new
-    turn_not-granted text x =
-        let all = said-in Quiet [] (λ c d reported. nothing-same took c d (ap (λ z. z.table) reported) (ap (λ z. z.answers) reported) 3) x in
-        let lines = (x.answers.answers 3).1.lines in
+    turn_not-granted : (ticked : Ticked) (now : ℕ) (m w : Moment P) (n o : NotesView) → ticked.act ≡ Quiet → answers_of new 3 ≡ codes "granted\n" → ¬ TurnSays gave took counts ticked now m w n o old new
+    turn_not-granted ticked now m w n o quiet text x =
+        let same = λ (c d : Clients P A) (reported : IsReported ticked.act c d). subst (λ act. IsReported act c d) quiet reported in
+        let all = said-in ticked now m w n o [] (λ c d reported. nothing-same took c d (ap (λ z. z.table) (same c d reported)) (ap (λ z. z.answers) (same c d reported)) 3) x in
+        let lines = lines_of 3 x.answers.services (state_of x.did.turns.listens.heard) in
+        let site = site_in x.did.turns.listens.heard in
         not-granted site lines (sym (append-nil (answers_to site 3 lines)) ∙ (sym all ∙ text))
-
-    said-to_not-silent : answers_of new 3 ≡ [] → ¬ SaidTo took (codes "full\n") 3 old new
-    said-to_not-silent silent s = (let e : ◌≡◌ {A = List ℕ} [] (codes "full\n") = sym silent ∙ waits-said (codes "full\n") s.0 in absurd cc)
-
-    answered_not-granted : answers_of new 3 ≡ codes "granted\n" → ¬ AreAnswered gave took site old new
-    answered_not-granted text f = not-granted site (f 3).1.lines (sym (waits-said (answers_to site 3 (f 3).1.lines) (f 3).1.said) ∙ text)
 
     -- nothing is said unasked
     nothing_not-said : answers_of new 3 ≡ codes "x" → ¬ NothingSaid took old new

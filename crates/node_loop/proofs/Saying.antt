@@ -1,7 +1,7 @@
 -- What is said to clients, one call after the other.
-use Rattle.std.proofs.Common.{◌≡◌, ◌≢◌, ℕ, false, List, [], ◌∷◌, ◌++◌, Option, None, Some, map, take, drop, slice_index_or, refl, sym, subst, ap, inl, inr, ◌∙◌, append-nil, append_assoc}
+use Rattle.std.proofs.Common.{◌≡◌, ◌≢◌, ℕ, false, List, [], ◌∷◌, ◌++◌, Option, None, Some, take, drop, slice_index_or, refl, sym, subst, ap, inl, inr, ◌∙◌, append-nil, append_assoc}
 use Rattle.std.specs.Prelude.{option_map}
-use Rattle.std.proofs.lemmas.List.{map-append, take-append-drop}
+use Rattle.std.proofs.lemmas.List.{take-append-drop}
 use Rattle.std.proofs.lemmas.Bool.{cases_eq}
 use Rattle.circular_buffer.specs.Buffer.{buffer}
 use Rattle.slab.specs.Slab.{Slab, get}
@@ -15,11 +15,9 @@ use Rattle.node_loop.specs.declared.clients.Client.{Client}
 use Rattle.node_loop.specs.declared.clients.Clients.{Clients}
 use Rattle.node_loop.specs.Answers.{answer_text}
 use Rattle.node_loop.specs.Clients.{answers_of, is_connected, Reports}
-use Rattle.node_loop.specs.Lives.{LiveOn, OthersStay, ReadsAt}
-use Rattle.node_loop.specs.Heard.{HeardAt, NothingHeard}
-use Rattle.node_loop.specs.Said.{answers_to, said, SaidAt, IsSaid, NothingSaid, SaidTo, IsServed, IsServedAlone, AreAnswered, HasAnswered}
-use Rattle.node_loop.proofs.BeingRead.{all-then}
-use Rattle.node_loop.proofs.Heard.{goes-join, goes-nothing, heard-join, others-unheard, unheard-same}
+use Rattle.node_loop.specs.Lives.{OthersStay, ReadsAt}
+use Rattle.node_loop.specs.Said.{answers_to, said, SaidAt, IsSaid, NothingSaid}
+use Rattle.node_loop.proofs.Heard.{goes-join, goes-nothing}
 use Rattle.node_loop.proofs.Lives.{nobody}
 
 -- ---- bytes
@@ -37,7 +35,7 @@ goes-out (Some bytes) p n xs f =
     subst (λ q. GoesOn [] (Some (bytes ++ xs)) (option_map (λ b. b ++ drop n xs) q)) (sym f) (subst (λ ys. GoesOn [] (Some (bytes ++ xs)) (Some ys)) (sym all) (goes-nothing (Some (bytes ++ xs))))
 
 -- answers to some lines, and then to others
-answers-join : (site : Site) (t : ℕ) (xs ys : List (ClientLine × LocalState)) → answers_to site t xs ++ answers_to site t ys ≡ answers_to site t (xs ++ ys)
+pub answers-join : (site : Site) (t : ℕ) (xs ys : List (ClientLine × LocalState)) → answers_to site t xs ++ answers_to site t ys ≡ answers_to site t (xs ++ ys)
 answers-join site t [] ys = refl
 answers-join site t (x ∷ xs) ys =
     append_assoc (answer_text site t x.0 x.1) (answers_to site t xs) (answers_to site t ys) ∙ ap (λ text. answer_text site t x.0 x.1 ++ text) (answers-join site t xs ys)
@@ -95,6 +93,10 @@ module _ {P : Type 0} (took : P → Option (List ℕ)) where
 -- ---- all clients
 
 module _ {P A : Type 0} (took : P → Option (List ℕ)) where
+  -- to the client with this ticket these bytes were said, and nothing to others
+  abbrev pub SaidTo : List ℕ → ℕ → Clients P A → Clients P A → Type 0
+  SaidTo more t old new = IsSaid took more t old new × ((u : ℕ) → u ≢ t → IsSaid took [] u old new)
+
   pub answers-same : (old new : Clients P A) → new.answers ≡ old.answers → (t : ℕ) → answers_of new t ≡ answers_of old t
   answers-same old new e t = ap (λ answers. (slice_index_or answers.items t (buffer [] 0)).items) e
 
@@ -133,86 +135,8 @@ module _ {P A : Type 0} (took : P → Option (List ℕ)) where
       (others-nothing k old new others (λ t o. answers-same old new answers t))
 
   -- a client that heard of it, or was closed for lack of room
-  pub reported-said : (text : List ℕ) (k : ℕ) (old new : Clients P A) → Reports text k old new → SaidTo took text k old new
+  pub reported-said : (text : List ℕ) (k : ℕ) (old new : Clients P A) → Reports text k old new → SaidTo text k old new
   reported-said text k old new (inl reported, others) =
       (said-text took text (get old.table k) (get new.table k) (answers_of old k) (answers_of new k) reported.1 reported.0, others-nothing k old new (λ t o. (others t o).1) (λ t o. (others t o).0))
   reported-said text k old new (inr closed, others) =
       (said-gone took text (get old.table k) (get new.table k) (answers_of old k) (answers_of new k) (nobody (get new.table k) closed.1), others-nothing k old new (λ t o. (others t o).1) (λ t o. (others t o).0))
-
-module _ {P A : Type 0} (gave took : P → Option (List ℕ)) where
-  served-nothing : (site : Site) (t : ℕ) (old new : Clients P A) → HeardAt gave [] [] [] (get old.table t) (get new.table t) → IsSaid took [] t old new → IsServed gave took site [] [] t old new
-  served-nothing site t old new heard nothing = record { lines = []; heard = heard; said = nothing }
-
-  served-join : (site : Site) (g h r s : List ℕ) (t : ℕ) (a b c : Clients P A) → IsServed gave took site g r t a b → IsServed gave took site h s t b c → IsServed gave took site (g ++ h) (r ++ s) t a c
-  served-join site g h r s t a b c f k =
-      let asked : ClientLine × LocalState → ClientLine = λ x. x.0 in record {
-        lines = f.lines ++ k.lines;
-        heard = subst (λ lines. HeardAt gave (g ++ h) (r ++ s) lines (get a.table t) (get c.table t)) (sym (map-append asked f.lines k.lines))
-            (heard-join gave g h r s (map asked f.lines) (map asked k.lines) (get a.table t) (get b.table t) (get c.table t) f.heard k.heard);
-        said = subst (λ text. IsSaid took text t a c) (answers-join site t f.lines k.lines) (is-said-join took (answers_to site t f.lines) (answers_to site t k.lines) t a b c f.said k.said);
-      }
-
-  pub alone-nothing : (site : Site) (k : ℕ) (clients : Clients P A) → IsServedAlone gave took site [] k clients clients
-  alone-nothing site k clients =
-      let same : (t : ℕ) → IsServed gave took site [] [] t clients clients =
-      λ t. served-nothing site t clients clients (unheard-same gave clients clients refl t) (nothing-same took clients clients refl refl t) in
-      (same k, λ u other. same u)
-
-  pub alone-join : (site : Site) (r s : List ℕ) (k : ℕ) (a b c : Clients P A) → IsServedAlone gave took site r k a b → IsServedAlone gave took site s k b c → IsServedAlone gave took site (r ++ s) k a c
-  alone-join site r s k a b c f g = (served-join site [] [] r s k a b c f.0 g.0, λ u other. served-join site [] [] [] [] u a b c (f.1 u other) (g.1 u other))
-
-  -- a reader took a byte that ended no line
-  pub alone-silent : (site : Site) (byte k : ℕ) (a b : Clients P A) → HeardAt gave [] (byte ∷ []) [] (get a.table k) (get b.table k) → OthersStay k a b → NothingSaid took a b
-      → IsServedAlone gave took site (byte ∷ []) k a b
-  alone-silent site byte k a b heard others nothing = (
-    record { lines = []; heard = heard; said = nothing k },
-    λ u other. served-nothing site u a b (others-unheard gave k a b others u other) (nothing u),
-  )
-
-  -- one that ended a line, which was answered
-  pub alone-line : (site : Site) (byte : ℕ) (line : ClientLine) (state : LocalState) (k : ℕ) (a b c : Clients P A)
-      → HeardAt gave [] (byte ∷ []) (line ∷ []) (get a.table k) (get b.table k) → OthersStay k a b → NothingSaid took a b
-      → SaidTo took (answer_text site k line state) k b c → NothingHeard gave b c → IsServedAlone gave took site (byte ∷ []) k a c
-  alone-line site byte line state k a b c heard others nothing said unheard = (
-    record {
-      lines = (line, state) ∷ [];
-      heard = heard-join gave [] [] (byte ∷ []) [] (line ∷ []) [] (get a.table k) (get b.table k) (get c.table k) heard (unheard k);
-      said = subst (λ text. IsSaid took text k a c) (sym (append-nil (answer_text site k line state))) (is-said-join took [] (answer_text site k line state) k a b c (nothing k) said.0);
-    },
-    λ u other. served-join site [] [] [] [] u a b c
-        (served-nothing site u a b (others-unheard gave k a b others u other) (nothing u))
-        (served-nothing site u b c (unheard u) (said.1 u other)),
-  )
-
-  pub answered-nothing : (site : Site) (old new : Clients P A) → NothingHeard gave old new → NothingSaid took old new → AreAnswered gave took site old new
-  answered-nothing site old new heard nothing t = ([], served-nothing site t old new (heard t) (nothing t))
-
-  pub answered-join : (site : Site) (a b c : Clients P A) → AreAnswered gave took site a b → AreAnswered gave took site b c → AreAnswered gave took site a c
-  answered-join site a b c f g t = ((f t).0 ++ (g t).0, served-join site (f t).0 (g t).0 (f t).0 (g t).0 t a b c (f t).1 (g t).1)
-
-  -- a client was read, and then its reader took the bytes that came
-  pub answered-bytes : (site : Site) (bytes : List ℕ) (k : ℕ) (a b c : Clients P A) → HeardAt gave bytes [] [] (get a.table k) (get b.table k) → OthersStay k a b → NothingSaid took a b
-      → IsServedAlone gave took site bytes k b c → AreAnswered gave took site a c
-  answered-bytes site bytes k a b c heard others nothing alone t =
-      elim (cases_eq t k) [
-        | inl same ↦ (
-          bytes,
-          subst (λ u. IsServed gave took site bytes bytes u a c) (sym same)
-              (subst (λ given. IsServed gave took site given bytes k a c) (append-nil bytes)
-              (served-join site bytes [] [] bytes k a b c (record { lines = []; heard = heard; said = nothing k }) alone.0)),
-        )
-        | inr other ↦ (
-          [],
-          served-join site [] [] [] [] t a b c (served-nothing site t a b (others-unheard gave k a b others t other) (nothing t)) (alone.1 t other),
-        )
-      ]
-
-module _ {P A : Type 0} (gave took : P → Option (List ℕ)) (counts : P → Counts) where
-  -- all were answered, and then nothing more was said
-  pub has-nothing : (site : Site) (a b c : Clients P A) → HasAnswered gave took counts site a b → NothingHeard gave b c → NothingSaid took b c → LiveOn gave took counts b c → HasAnswered gave took counts site a c
-  has-nothing site a b c f unheard nothing lives = record {
-    came = f.came;
-    admits = f.admits;
-    answers = answered-join gave took site f.came b c f.answers (answered-nothing gave took site b c unheard nothing);
-    reads = all-then gave took counts f.came b c f.reads lives;
-  }

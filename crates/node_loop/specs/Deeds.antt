@@ -1,5 +1,5 @@
 -- What a node does by itself: it takes frames, its clients ask and leave, it ticks, and it sends.
-use Rattle.std.specs.Prelude.{◌≡◌, ℕ, ◌+◌, List, [], ◌∷◌, All, ⊤, is_none}
+use Rattle.std.specs.Prelude.{◌≡◌, ℕ, ◌+◌, Bool, false, List, [], ◌∷◌, All, ⊤, is_none}
 use Rattle.lock_desk.specs.Act.{desk_act}
 use Rattle.node_core.specs.Step.{ticked}
 use Rattle.node_core.specs.View.{NodeView, site_in, state_of}
@@ -39,6 +39,14 @@ IsLeave (Asks t) = ⊥
 IsLeave (Leaves t) = ⊤
 IsLeave Ticks = ⊥
 IsLeave (Sends w f) = ⊥
+
+-- the deed is the leave of a ticket that no connected client has
+abbrev pub IsLeaveOfGone : (ℕ → Bool) → Deed → Type 0
+IsLeaveOfGone connected (Takes w f) = ⊥
+IsLeaveOfGone connected (Asks t) = ⊥
+IsLeaveOfGone connected (Leaves t) = connected t ≡ false
+IsLeaveOfGone connected Ticks = ⊥
+IsLeaveOfGone connected (Sends w f) = ⊥
 
 -- the deed is a frame for a neighbour
 abbrev pub IsSend : Deed → Type 0

@@ -5,7 +5,6 @@ pub mod Answers
 pub mod Clients
 pub mod Heard
 pub mod Lives
-pub mod Said
 pub mod Arrivals
 pub mod Moments
 pub mod Hearing
@@ -16,3 +15,5 @@ pub mod Loose
 pub mod LinkSights
 pub mod NotesView
 pub mod Noting
+pub mod Services
+pub mod Said

@@ -1,5 +1,5 @@
 -- What is noted of the deeds of a turn.
-use Rattle.std.specs.Prelude.{◌≡◌, ℕ, Bool, true, false, nat_lt, if◌then◌else◌, List, [], ◌∷◌, ◌++◌, length, Option}
+use Rattle.std.specs.Prelude.{◌≡◌, ℕ, Bool, true, false, nat_lt, if◌then◌else◌, List, [], ◌∷◌, ◌++◌, length, All, Option}
 use Rattle.flight_records.specs.declared.entry.Deed.TheVariants as entry
 use Rattle.flight_records.specs.declared.entry.Deed as entries
 use Rattle.lock_desk.specs.declared.client_line.ClientLine.{ClientLine}
@@ -56,9 +56,11 @@ pub record Did (kind : Deed → Type 0) (old new : NodeView) (before after : Not
   pub became : Became kind old new
   pub noted : after ≡ after_all became.deeds before
 
--- The node ticked once, and then some tickets left; just that was noted.
-pub record DidAct (says : Ticked) (old new : NodeView) (before after : NotesView) : Type 0 where
+-- The node ticked once, and then some tickets left, each by a deed of this kind; just that was noted.
+pub record DidAct (kind : Deed → Type 0) (says : Ticked) (old new : NodeView)
+    (before after : NotesView) : Type 0 where
   pub acts : Acts says old new
+  pub kinds : All kind acts.leaves.deeds
   pub noted : after ≡ after_all (Ticks ∷ acts.leaves.deeds) before
 
 -- The node took frames at one port, and just these were noted.
@@ -79,11 +81,13 @@ pub record DidListen {P : Type 0} (gave took : P → Option (List ℕ)) (counts 
   pub listens : Listens gave took counts old new
   pub noted : after ≡ after_all (listens.hears.takes.deeds ++ listens.serves.deeds) before
 
--- The node spoke to its neighbours, and then some tickets left; just that was noted.
-pub record DidSpeak {P : Type 0} (gave took : P → Option (List ℕ)) (counts : P → Counts)
+-- The node spoke to its neighbours, and then some tickets left, each by a deed of this kind; just that was
+-- noted.
+pub record DidSpeak {P : Type 0} (kind : Deed → Type 0) (gave took : P → Option (List ℕ)) (counts : P → Counts)
     (offers : List Bool) (now : ℕ) (old new : Moment P) (before after : NotesView) : Type 0 where
   pub speaks : Speaks gave took counts offers now old new
   pub leaves : Became IsLeave old.node new.node
+  pub kinds : All kind leaves.deeds
   pub noted : after ≡ after_all (speaks.sends ++ leaves.deeds) before
 
 -- A turn, of whose account all is noted, in its order, as far as there is room.

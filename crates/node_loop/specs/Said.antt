@@ -1,18 +1,24 @@
 -- What is said to clients: the bytes that a client's pipe took, and then those that wait for it.
-use Rattle.std.specs.Prelude.{◌≢◌, ℕ, List, [], ◌∷◌, ◌++◌, Option, None, Some, map, option_map, ⊤}
+use Rattle.std.specs.Prelude.{◌≡◌, ◌≢◌, ℕ, List, [], ◌∷◌, ◌++◌, All, Option, None, Some, map, option_map, ⊤}
 use Rattle.slab.specs.Slab.{get}
-use Rattle.lock_desk.specs.declared.act.DeskAct.{DeskAct}
 use Rattle.lock_desk.specs.declared.client_line.ClientLine.{ClientLine}
 use Rattle.node_core.specs.Site.{Site}
 use Rattle.node_core.specs.State.{LocalState}
+use Rattle.node_core.specs.View.{NodeView, site_in, state_of}
+use Rattle.node_core.specs.declared.ticked.Ticked.{Ticked}
 use Rattle.socket_links.specs.Counts.{Counts}
 use Rattle.socket_links.specs.Pipes.{GoesOn}
 use Rattle.node_loop.specs.declared.clients.Client.{Client}
 use Rattle.node_loop.specs.declared.clients.Clients.{Clients}
 use Rattle.node_loop.specs.Answers.{answer_text}
-use Rattle.node_loop.specs.Clients.{answers_of, IsReported}
+use Rattle.node_loop.specs.Clients.{answers_of, is_connected, IsReported}
+use Rattle.node_loop.specs.Deeds.{Became, IsLeaveOfGone, IsOfClient}
 use Rattle.node_loop.specs.Heard.{HeardAt, NothingHeard}
 use Rattle.node_loop.specs.Lives.{Admits, AllGoOut, AllRead, LiveOn}
+use Rattle.node_loop.specs.Moments.{Moment}
+use Rattle.node_loop.specs.Noting.{AttendIsNoted, Did, DidListen, TurnIsNoted}
+use Rattle.node_loop.specs.NotesView.{NotesView}
+use Rattle.node_loop.specs.Services.{AreGone, deeds_of_all, lines_of, Service}
 
 -- the answers to these lines of the client with ticket t, one after the other; each with the state in
 -- which the node was
@@ -42,36 +48,59 @@ module _ {P A : Type 0} (took : P → Option (List ℕ)) where
   abbrev pub NothingSaid : Clients P A → Clients P A → Type 0
   NothingSaid old new = (t : ℕ) → IsSaid [] t old new
 
-  -- so it is, but to the client with this ticket these bytes were said
-  abbrev pub SaidTo : List ℕ → ℕ → Clients P A → Clients P A → Type 0
-  SaidTo more t old new = IsSaid more t old new × ((u : ℕ) → u ≢ t → IsSaid [] u old new)
+module _ {P A : Type 0} (gave : P → Option (List ℕ)) (old new : Clients P A) where
+  -- the client's reader took these bytes, and they ended these lines; no other client's took any
+  abbrev pub IsHeardAlone : ℕ → List ℕ → ℕ → List ClientLine → Type 0
+  IsHeardAlone ticket read t lines =
+      (t ≡ ticket → HeardAt gave [] read lines (get old.table t) (get new.table t))
+      × (t ≢ ticket → HeardAt gave [] [] lines (get old.table t) (get new.table t))
 
-module _ {P A : Type 0} (gave took : P → Option (List ℕ)) where
-  -- The pipe of the client with ticket t gave these bytes, and its reader took those. Just the answers to
-  -- the lines that these ended were said to it, each with the state in which the node was.
-  pub record IsServed (site : Site) (given read : List ℕ) (t : ℕ) (old new : Clients P A)
-      : Type 0 where
-    pub lines : List (ClientLine × LocalState)
-    pub heard : HeardAt gave given read (map (λ asked. asked.0) lines)
-        (get old.table t) (get new.table t)
-    pub said : IsSaid took (answers_to site t lines) t old new
+  -- a client's pipe gave some bytes, or none; its reader took just these, and they ended these lines
+  abbrev pub IsHeard : ℕ → List ClientLine → Type 0
+  IsHeard t lines =
+      (bytes : List ℕ) × HeardAt gave bytes bytes lines (get old.table t) (get new.table t)
 
-  -- the reader of the client with ticket t took these bytes, and it was served so; no other was
-  abbrev pub IsServedAlone : Site → List ℕ → ℕ → Clients P A → Clients P A → Type 0
-  IsServedAlone site read t old new =
-      IsServed site [] read t old new × ((u : ℕ) → u ≢ t → IsServed site [] [] u old new)
+-- the client had this line, and no other client had one
+abbrev pub IsLineAlone : ℕ → ClientLine → ℕ → List ClientLine → Type 0
+IsLineAlone ticket line t lines = (t ≡ ticket → lines ≡ line ∷ []) × (t ≢ ticket → lines ≡ [])
 
-  -- each client's reader took just the bytes that its pipe gave, and it was served so
-  abbrev pub AreAnswered : Site → Clients P A → Clients P A → Type 0
-  AreAnswered site old new = (t : ℕ) → (bytes : List ℕ) × IsServed site bytes bytes t old new
+module _ {P A : Type 0} (took : P → Option (List ℕ)) where
+  -- By some services a node became what it is; just their deeds were noted, and only tickets of clients that
+  -- are gone left. Each client had these lines, and the answers to them, and nothing else, were said to it.
+  pub record Serves (lines : ℕ → List ClientLine → Type 0) (before after : NodeView)
+      (noted notes : NotesView) (old new : Clients P A) : Type 0 where
+    pub services : List Service
+    pub did : Did IsOfClient before after noted notes
+    pub deeds_are : did.became.deeds ≡ deeds_of_all services
+    pub gone : AreGone (is_connected new) services
+    pub lines_are : (t : ℕ)
+        → lines t (map (λ asked. asked.0) (lines_of t services (state_of before)))
+    pub said : (t : ℕ)
+        → IsSaid took (answers_to (site_in before) t (lines_of t services (state_of before)))
+        t old new
 
 module _ {P A : Type 0} (gave took : P → Option (List ℕ)) (counts : P → Counts) where
-  -- clients came, or none did; and then each was read, and it was so
-  pub record HasAnswered (site : Site) (old new : Clients P A) : Type 0 where
+  -- Clients came, or none did; and then each was read, and served by these deeds of the node: its lines are
+  -- those that the bytes from its pipe ended, and the answers to them, and nothing else, were said to it.
+  pub record HasAnswered {before after : NodeView} (deeds : Became IsOfClient before after)
+      (old new : Clients P A) : Type 0 where
     pub came : Clients P A
     pub admits : Admits old came
-    pub answers : AreAnswered gave took site came new
+    pub services : List Service
+    pub deeds_are : deeds.deeds ≡ deeds_of_all services
+    pub gone : AreGone (is_connected new) services
+    pub heard : (t : ℕ)
+        → IsHeard gave came new t (map (λ asked. asked.0) (lines_of t services (state_of before)))
+    pub said : (t : ℕ)
+        → IsSaid took (answers_to (site_in before) t (lines_of t services (state_of before)))
+        t came new
     pub reads : AllRead gave took counts came new
+
+  -- the first part of a turn, in which clients were answered
+  pub record ListensTo (old new : Moment P) (noted notes : NotesView) (before after : Clients P A)
+      : Type 0 where
+    pub did : DidListen gave took counts old new noted notes
+    pub answers : HasAnswered did.listens.serves before after
 
   -- Answers were written to clients: nothing was heard from anybody, and nothing more said. What waited for
   -- a client has begun to go out, as far as its pipe took it.
@@ -81,17 +110,25 @@ module _ {P A : Type 0} (gave took : P → Option (List ℕ)) (counts : P → Co
     pub says_nothing : NothingSaid took old new
     pub goes_out : AllGoOut counts old new
 
-  -- clients were answered, and then answers were written
-  pub record AttendSays (site : Site) (old new : Clients P A) : Type 0 where
+  -- What is done between two turns: clients were answered, and then answers were written. Then only
+  -- tickets of clients left that are gone.
+  pub record AttendSays (now : ℕ) (old new : Moment P) (noted notes : NotesView)
+      (before after : Clients P A) : Type 0 where
+    pub did : AttendIsNoted gave took counts now old new noted notes
     pub heard : Clients P A
-    pub answers : HasAnswered site old heard
-    pub writes : WritesOut heard new
+    pub answers : HasAnswered did.attends.listens.serves before heard
+    pub writes : WritesOut heard after
+    pub gone : All (IsLeaveOfGone (is_connected after)) did.attends.leaves.deeds
 
-  -- Clients were answered; then the client whose loan the tick began or ended heard of it; and then
-  -- answers were written.
-  pub record TurnSays (site : Site) (act : DeskAct) (old new : Clients P A) : Type 0 where
+  -- A turn: clients were answered; then the client whose loan the tick began or ended heard of it; and then
+  -- answers were written. After the tick only tickets of clients left that are gone.
+  pub record TurnSays (says : Ticked) (now : ℕ) (old new : Moment P) (noted notes : NotesView)
+      (before after : Clients P A) : Type 0 where
+    pub did : TurnIsNoted gave took counts says now old new noted notes
     pub heard : Clients P A
     pub acted : Clients P A
-    pub answers : HasAnswered site old heard
-    pub reported : IsReported act heard acted
-    pub writes : WritesOut acted new
+    pub answers : HasAnswered did.turns.listens.serves before heard
+    pub reported : IsReported says.act heard acted
+    pub writes : WritesOut acted after
+    pub gone : All (IsLeaveOfGone (is_connected acted)) did.turns.acts.leaves.deeds
+    pub gone_at_last : All (IsLeaveOfGone (is_connected after)) did.turns.leaves.deeds

@@ -69,7 +69,7 @@ impl<D: Doors, S: Store + Drop, A: Allocator + Copy> NodeRun<D, S, A> {
     ghost use Rattle.node_loop.specs.Clients.{AreConnected};
     ghost use Rattle.node_loop.specs.Lives.{StillLive};
     ghost use Rattle.node_loop.specs.Noting.{AttendIsNoted, TurnIsNoted};
-    ghost use Rattle.node_loop.specs.Said.{AttendSays, HasAnswered, TurnSays};
+    ghost use Rattle.node_loop.specs.Said.{AttendSays, TurnSays};
     ghost use Rattle.node_loop.specs.Turns.{Attends, Turns};
     ghost use Rattle.node_loop.specs.Moments.{moment_of};
 
@@ -138,8 +138,11 @@ impl<D: Doors, S: Store + Drop, A: Allocator + Copy> NodeRun<D, S, A> {
         // that its pipe gave, and then `granted` or `lost` if the tick began or ended its loan. Nothing
         // else was sent, and no byte is lost: its pipe took it, or it waits. None waits at the end without
         // a write: its pipe took some, or takes none now.
-        ensures says { TurnSays D.P.gave D.P.took D.P.counts (site_in self.old.node)
-            result.ticked.act self.old.clients self.new.clients }
+        // Only tickets of clients that are gone leave without a line.
+        ensures says { TurnSays D.P.gave D.P.took D.P.counts result.ticked now
+            (moment_of self.old.node self.old.ports.items self.old.pace self.old.let_go)
+            (moment_of self.new.node self.new.ports.items self.new.pace self.new.let_go)
+            notes.old notes.new self.old.clients self.new.clients }
         // In each 256th turn, and in no other, the state is stored as it is at the turn's end.
         ensures saves { IsSome result.saved ↔ (self.old.turns ≡ 255) }
         ensures counts { self.new.turns ≡ (self.old.turns + 1) % 256 }
@@ -164,8 +167,10 @@ impl<D: Doors, S: Store + Drop, A: Allocator + Copy> NodeRun<D, S, A> {
             notes.old notes.new }
         ensures connected { AreConnected self.new.clients self.new.node }
         ensures lives { StillLive D.P.gave D.P.took D.P.counts self.old.clients self.new.clients }
-        ensures says { TurnSays D.P.gave D.P.took D.P.counts (site_in self.old.node) result.act
-            self.old.clients self.new.clients }
+        ensures says { TurnSays D.P.gave D.P.took D.P.counts result now
+            (moment_of self.old.node self.old.ports.items self.old.pace self.old.let_go)
+            (moment_of self.new.node self.new.ports.items self.new.pace self.new.let_go)
+            notes.old notes.new self.old.clients self.new.clients }
         ensures rest { (self.new.net ≡ self.old.net) × (self.new.turns ≡ self.old.turns)
             × (self.new.store ≡ self.old.store) }
     {
@@ -196,12 +201,12 @@ impl<D: Doors, S: Store + Drop, A: Allocator + Copy> NodeRun<D, S, A> {
         // closed or failed.
         ensures lives { StillLive D.P.gave D.P.took D.P.counts self.old.clients self.new.clients }
         // A client that stays connected was read, and sent the answers to the lines that ended in the bytes
-        // that its pipe gave, and nothing else.
-        ensures answers { HasAnswered D.P.gave D.P.took D.P.counts (site_in self.old.node)
-            self.old.clients self.new.clients }
-        // No answer waits at the end without a write: the client's pipe took some, or takes none now.
-        ensures says { AttendSays D.P.gave D.P.took D.P.counts (site_in self.old.node)
-            self.old.clients self.new.clients }
+        // that its pipe gave, and nothing else. No answer waits at the end without a write: the client's
+        // pipe took some, or takes none now. Only tickets of clients that are gone leave without a line.
+        ensures says { AttendSays D.P.gave D.P.took D.P.counts now
+            (moment_of self.old.node self.old.ports.items self.old.pace self.old.let_go)
+            (moment_of self.new.node self.new.ports.items self.new.pace self.new.let_go)
+            notes.old notes.new self.old.clients self.new.clients }
         // Its network stays, and it stores nothing.
         ensures rest { (self.new.net ≡ self.old.net) × (self.new.turns ≡ self.old.turns)
             × (self.new.store ≡ self.old.store) }

@@ -4,13 +4,12 @@ ghost use Rattle.slab.specs.Slab.{get};
 ghost use Rattle.lock_desk.specs.Desk.{after_leave, is_ticket};
 ghost use Rattle.node_core.specs.Step.{ticked};
 ghost use Rattle.node_core.specs.View.{site_in, state_of};
-ghost use Rattle.node_loop.specs.Answers.{answer_text};
 ghost use Rattle.node_loop.specs.Clients.{AreConnected, is_connected, IsReported, Reports};
-ghost use Rattle.node_loop.specs.Deeds.{IsLeave, IsOfClient, Leaves};
+ghost use Rattle.node_loop.specs.Deeds.{IsLeaveOfGone, Leaves};
 ghost use Rattle.node_loop.specs.Lives.{AllGoOut, AllRead, IsReadAt, LiveOn, OthersStay};
 ghost use Rattle.node_loop.specs.Noting.{after_all, Did, DidAct};
 ghost use Rattle.node_loop.specs.Heard.{NothingHeard};
-ghost use Rattle.node_loop.specs.Said.{AreAnswered, IsServedAlone, NothingSaid, SaidTo};
+ghost use Rattle.node_loop.specs.Said.{IsHeard, IsHeardAlone, IsLineAlone, NothingSaid, Serves};
 
 use crate::answer::{ANSWER, answer};
 use crate::clients::{Clients, PIECE, PLACES};
@@ -39,7 +38,8 @@ fn dismiss<P: Pipe, A: Allocator + Copy>(
     clients: &mut Clients<P, A>,
     ticket: u16,
 )
-    ensures node { Did IsLeave node.old node.new notes.old notes.new }
+    ensures node { Did (IsLeaveOfGone (is_connected clients.new))
+        node.old node.new notes.old notes.new }
     ensures connected { AreConnected clients.old node.old → AreConnected clients.new node.new }
     ensures closed { (t : ℕ) → is_connected clients.new t
         ≡ (is_connected clients.old t && not (t == ticket)) }
@@ -60,7 +60,8 @@ fn reply<P: Pipe, A: Allocator + Copy>(
     ticket: u16,
     text: &[u8],
 )
-    ensures node { Did IsLeave node.old node.new notes.old notes.new }
+    ensures node { Did (IsLeaveOfGone (is_connected clients.new))
+        node.old node.new notes.old notes.new }
     ensures connected { AreConnected clients.old node.old → AreConnected clients.new node.new }
     ensures reported { Reports text.now ticket clients.old clients.new }
     ensures lives { LiveOn P.gave P.took P.counts clients.old clients.new }
@@ -77,10 +78,10 @@ pub(crate) fn serve_all<P: Pipe, A: Allocator + Copy>(
     notes: &mut Notes<A>,
     clients: &mut Clients<P, A>,
 ) -> bool
-    ensures node { Did IsOfClient node.old node.new notes.old notes.new }
     // A client whose read says that it is gone is no longer connected.
     ensures lives { LiveOn P.gave P.took P.counts clients.old clients.new }
-    ensures answers { AreAnswered P.gave P.took (site_in node.old) clients.old clients.new }
+    ensures serves { Serves P.took (IsHeard P.gave clients.old clients.new)
+        node.old node.new notes.old notes.new clients.old clients.new }
     // Each client that is still there was read.
     ensures reads { AllRead P.gave P.took P.counts clients.old clients.new }
 {
@@ -104,9 +105,9 @@ fn serve<P: Pipe, A: Allocator + Copy>(
     clients: &mut Clients<P, A>,
     ticket: u16,
 ) -> bool
-    ensures node { Did IsOfClient node.old node.new notes.old notes.new }
     ensures lives { LiveOn P.gave P.took P.counts clients.old clients.new }
-    ensures answers { AreAnswered P.gave P.took (site_in node.old) clients.old clients.new }
+    ensures serves { Serves P.took (IsHeard P.gave clients.old clients.new)
+        node.old node.new notes.old notes.new clients.old clients.new }
     // It was read, if it is still there.
     ensures reads { IsReadAt P.gave P.took P.counts (get clients.old.table ticket)
         (get clients.new.table ticket) }
@@ -138,11 +139,10 @@ fn serve_bytes<P: Pipe, A: Allocator + Copy>(
     ticket: u16,
     bytes: &[u8],
 )
-    ensures node { Did IsOfClient node.old node.new notes.old notes.new }
     ensures lives { LiveOn P.gave P.took P.counts clients.old clients.new }
-    // The client is served by them, and no other.
-    ensures answers { IsServedAlone P.gave P.took (site_in node.old) bytes.now ticket
-        clients.old clients.new }
+    // The client is served by its lines, and no other is.
+    ensures serves { Serves P.took (IsHeardAlone P.gave clients.old clients.new ticket bytes.now)
+        node.old node.new notes.old notes.new clients.old clients.new }
 {
     for byte in bytes {
         if let Some(line) = clients.push(ticket, *byte) {
@@ -159,12 +159,10 @@ fn serve_line<P: Pipe, A: Allocator + Copy>(
     ticket: u16,
     line: ClientLine,
 )
-    ensures node { Did IsOfClient node.old node.new notes.old notes.new }
     ensures lives { LiveOn P.gave P.took P.counts clients.old clients.new }
-    // The client is answered, and no other.
-    ensures answers { SaidTo P.took
-        (answer_text (site_in node.old) ticket line (state_of node.old)) ticket
-        clients.old clients.new }
+    // The client is answered, and no other is.
+    ensures serves { Serves P.took (IsLineAlone ticket line)
+        node.old node.new notes.old notes.new clients.old clients.new }
     ensures heard { NothingHeard P.gave clients.old clients.new }
 {
     let mut text = [0; ANSWER];
@@ -181,7 +179,8 @@ pub(crate) fn leave_absent<P: Pipe, A: Allocator + Copy>(
     notes: &mut Notes<A>,
     clients: &Clients<P, A>,
 )
-    ensures node { Did IsLeave node.old node.new notes.old notes.new }
+    ensures node { Did (IsLeaveOfGone (is_connected clients.now))
+        node.old node.new notes.old notes.new }
     ensures connected { AreConnected clients.now node.new }
 {
     leave_lent(node, notes, clients);
@@ -194,7 +193,8 @@ fn leave_lent<P: Pipe, A: Allocator + Copy>(
     notes: &mut Notes<A>,
     clients: &Clients<P, A>,
 )
-    ensures node { Did IsLeave node.old node.new notes.old notes.new }
+    ensures node { Did (IsLeaveOfGone (is_connected clients.now))
+        node.old node.new notes.old notes.new }
     ensures connected { (t : ℕ) → is_ticket (state_of node.new).desk.lent t ≡ true
         → is_connected clients.now t ≡ true }
 {
@@ -216,7 +216,8 @@ fn leave_waiting<P: Pipe, A: Allocator + Copy>(
 )
     requires { (t : ℕ) → is_ticket (state_of node.old).desk.lent t ≡ true
         → is_connected clients.now t ≡ true }
-    ensures node { Did IsLeave node.old node.new notes.old notes.new }
+    ensures node { Did (IsLeaveOfGone (is_connected clients.now))
+        node.old node.new notes.old notes.new }
     ensures connected { AreConnected clients.now node.new }
 {
     let mut place = 0;
@@ -236,8 +237,9 @@ pub(crate) fn tick<P: Pipe, A: Allocator + Copy>(
     notes: &mut Notes<A>,
     clients: &mut Clients<P, A>,
 ) -> Ticked
-    // One tick, and then nothing but leaves.
-    ensures node { DidAct result node.old node.new notes.old notes.new }
+    // One tick, and then nothing but the leave of a client that is closed.
+    ensures node { DidAct (IsLeaveOfGone (is_connected clients.new)) result
+        node.old node.new notes.old notes.new }
     ensures reported { IsReported result.act clients.old clients.new }
     ensures lives { LiveOn P.gave P.took P.counts clients.old clients.new }
     ensures connected { AreConnected clients.old node.old → AreConnected clients.new node.new }
@@ -258,7 +260,8 @@ pub(crate) fn write_all<P: Pipe, A: Allocator + Copy>(
     notes: &mut Notes<A>,
     clients: &mut Clients<P, A>,
 )
-    ensures node { Did IsLeave node.old node.new notes.old notes.new }
+    ensures node { Did (IsLeaveOfGone (is_connected clients.new))
+        node.old node.new notes.old notes.new }
     ensures connected { AreConnected clients.old node.old → AreConnected clients.new node.new }
     // A client to which a write fails is no longer connected.
     ensures lives { LiveOn P.gave P.took P.counts clients.old clients.new }

@@ -19,21 +19,19 @@ impl<D: Doors, S: Store + Drop, A: Allocator + Copy> NodeRun<D, S, A> {
     ghost use Rattle.node_loop.specs.Clients.{AreConnected};
     ghost use Rattle.node_loop.specs.Hearing.{AreWired, Wires};
     ghost use Rattle.node_loop.specs.Lives.{Admits, StillLive};
-    ghost use Rattle.node_loop.specs.Noting.{DidListen, emptied};
+    ghost use Rattle.node_loop.specs.Noting.{emptied};
     ghost use Rattle.node_loop.specs.Remembering.{Remembers};
-    ghost use Rattle.node_loop.specs.Said.{HasAnswered};
+    ghost use Rattle.node_loop.specs.Said.{ListensTo};
     ghost use Rattle.node_loop.specs.Moments.{moment_of};
 
     /// First part of a turn: the node takes all that came, and clients that are gone leave.
     pub(super) fn listen(&mut self, now: u64, notes: &mut Notes<A>)
-        ensures listens { DidListen D.P.gave D.P.took D.P.counts
+        ensures listens { ListensTo D.P.gave D.P.took D.P.counts
             (moment_of self.old.node self.old.ports.items self.old.pace self.old.let_go)
             (moment_of self.new.node self.new.ports.items self.new.pace self.new.let_go)
-            (emptied notes.old) notes.new }
+            (emptied notes.old) notes.new self.old.clients self.new.clients }
         ensures connected { AreConnected self.new.clients self.new.node }
         ensures lives { StillLive D.P.gave D.P.took D.P.counts self.old.clients self.new.clients }
-        ensures answers { HasAnswered D.P.gave D.P.took D.P.counts (site_in self.old.node)
-            self.old.clients self.new.clients }
         ensures pace { Remembers self.old.pace self.new.pace }
         ensures rest { (self.new.net ≡ self.old.net) × (self.new.turns ≡ self.old.turns)
             × (self.new.store ≡ self.old.store) }

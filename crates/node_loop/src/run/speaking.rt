@@ -22,7 +22,8 @@ use std::alloc::Allocator;
 use topology::Frame;
 
 impl<D: Doors, S: Store + Drop, A: Allocator + Copy> NodeRun<D, S, A> {
-    ghost use Rattle.node_loop.specs.Clients.{AreConnected, IsReported};
+    ghost use Rattle.node_loop.specs.Clients.{AreConnected, is_connected, IsReported};
+    ghost use Rattle.node_loop.specs.Deeds.{IsLeaveOfGone};
     ghost use Rattle.node_loop.specs.Noting.{after_all, sends_if, DidAct, DidSpeak};
     ghost use Rattle.node_loop.specs.Heard.{NothingHeard};
     ghost use Rattle.node_loop.specs.Lives.{AllGoOut, LiveOn};
@@ -32,7 +33,8 @@ impl<D: Doors, S: Store + Drop, A: Allocator + Copy> NodeRun<D, S, A> {
 
     /// Second part of a turn: one tick.
     pub(super) fn tick(&mut self, now: u64, notes: &mut Notes<A>) -> Ticked
-        ensures node { DidAct result self.old.node self.new.node notes.old notes.new }
+        ensures node { DidAct (IsLeaveOfGone (is_connected self.new.clients)) result
+            self.old.node self.new.node notes.old notes.new }
         // The client whose loan it began or ended hears of it.
         ensures reported { IsReported result.act self.old.clients self.new.clients }
         ensures ports { (self.new.ports ≡ self.old.ports) × (self.new.let_go ≡ self.old.let_go) }
@@ -55,7 +57,8 @@ impl<D: Doors, S: Store + Drop, A: Allocator + Copy> NodeRun<D, S, A> {
 
     /// Third part of a turn: frames on the ports of the plan, and answers to clients.
     pub(super) fn speak(&mut self, offers: &[bool; NODES], now: u64, notes: &mut Notes<A>)
-        ensures spoken { DidSpeak D.P.gave D.P.took D.P.counts offers.now now
+        ensures spoken { DidSpeak (IsLeaveOfGone (is_connected self.new.clients))
+            D.P.gave D.P.took D.P.counts offers.now now
             (moment_of self.old.node self.old.ports.items self.old.pace self.old.let_go)
             (moment_of self.new.node self.new.ports.items self.new.pace self.new.let_go)
             notes.old notes.new }

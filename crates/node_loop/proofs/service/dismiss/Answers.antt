@@ -1,13 +1,16 @@
 use Rattle.std.proofs.Common.{◌≡◌, false, ap, subst}
 use Rattle.lock_desk.specs.Desk.{is_stranger}
 use Rattle.node_loop.specs.Clients.{is_connected}
-use Rattle.node_loop.specs.Deeds.{IsLeave, Leaves}
+use Rattle.node_loop.specs.Deeds.{IsLeaveOfGone, Leaves}
+use Rattle.node_loop.proofs.Lives.{closed-gone}
 use Rattle.node_loop.proofs.Noting.{did-one}
 use Rattle.node_loop.proofs.Leaving.{dismissed}
 use Rattle.node_loop.proofs.service.dismiss.Goals as goal
 
 pub returns-clause-node : goal.returns-clause-node
-returns-clause-node g c = did-one IsLeave (Leaves c.args.ticket) c.args.node.now c.leave.new.node c.args.notes.now c.leave.new.notes tt c.leave.ensures.site c.leave.ensures.state c.leave.ensures.noted
+returns-clause-node g c =
+    did-one (IsLeaveOfGone (is_connected c.close.new.self)) (Leaves c.args.ticket) c.args.node.now c.leave.new.node c.args.notes.now c.leave.new.notes
+    (closed-gone c.args.ticket c.args.clients.now c.close.new.self c.close.ensures.closed) c.leave.ensures.site c.leave.ensures.state c.leave.ensures.noted
 
 pub returns-clause-connected : goal.returns-clause-connected
 returns-clause-connected g c were t known =

@@ -1,13 +1,13 @@
 use Rattle.std.proofs.Common.{◌≡◌, ◌<◌, ◌-◌, ◌∙◌, true, false, length, take, slice_index, ap, sym, subst, arith}
 use Rattle.lock_desk.specs.Desk.{after_leave, is_in, is_ticket}
 use Rattle.node_loop.specs.Clients.{is_connected}
-use Rattle.node_loop.specs.Deeds.{IsLeave, Leaves}
+use Rattle.node_loop.specs.Deeds.{IsLeaveOfGone, Leaves}
 use Rattle.node_loop.proofs.Noting.{did-none, did-one, did-joins}
 use Rattle.node_loop.proofs.Leaving.{at-place, fewer-from, looked-stay, lent-stays}
 use Rattle.node_loop.proofs.service.leave_waiting.Goals as goal
 
 pub loop-place-init : goal.loop-place-init
-loop-place-init g c = (did-none IsLeave c.args.node.now c.args.notes.now, c.requires, λ u looked. cc)
+loop-place-init g c = (did-none (IsLeaveOfGone (is_connected c.args.clients.now)) c.args.node.now c.args.notes.now, c.requires, λ u looked. cc)
 
 pub loop-place-smaller : goal.loop-place-smaller
 loop-place-smaller g c =
@@ -32,8 +32,8 @@ loop-place-preserved g c =
     let state : y.desk.state ≡ after_leave t d = subst (λ ts. y.desk.state ≡ after_leave (slice_index ts k) d) c.tickets.ensures (ap (λ s. s.desk) c.leave.ensures.state) in
     let n = c.loop-place.notes in
     let m = c.leave.new.notes in
-    let left = did-one IsLeave (Leaves (slice_index c.tickets.result.now k)) x y n m tt c.leave.ensures.site c.leave.ensures.state c.leave.ensures.noted in (
-      did-joins IsLeave c.args.node.now x y c.args.notes.now n m c.loop-place.invariant.0 left,
+    let left = did-one (IsLeaveOfGone connected) (Leaves (slice_index c.tickets.result.now k)) x y n m (sym c.if-contains.ensures) c.leave.ensures.site c.leave.ensures.state c.leave.ensures.noted in (
+      did-joins (IsLeaveOfGone connected) c.args.node.now x y c.args.notes.now n m c.loop-place.invariant.0 left,
       λ u lent. c.loop-place.invariant.1 u (subst (λ l. is_ticket l u ≡ true) (ap (λ e. e.lent) state ∙ lent-stays t d there) lent),
       λ u looked. looked-stay connected t k d absent c.loop-place.invariant.2 there u (subst (λ e. is_in (take k e.waiting) u ≡ true) state looked),
     )

@@ -1,11 +1,12 @@
 use Rattle.node_loop.proofs.Heard.{unheard-gone, unheard-join, unheard-same}
 use Rattle.node_loop.proofs.Lives.{stay, live-join, live-gone, closed-gone}
-use Rattle.node_loop.specs.Deeds.{IsLeave}
+use Rattle.node_loop.specs.Clients.{is_connected}
+use Rattle.node_loop.specs.Deeds.{IsLeaveOfGone}
 use Rattle.node_loop.proofs.Noting.{did-none}
 use Rattle.node_loop.proofs.service.reply.Goals as goal
 
 pub returns-else-not-say-clause-node : goal.returns-else-not-say-clause-node
-returns-else-not-say-clause-node g c = did-none IsLeave c.args.node.now c.args.notes.now
+returns-else-not-say-clause-node g c = did-none (IsLeaveOfGone (is_connected c.say.new.self)) c.args.node.now c.args.notes.now
 
 pub returns-then-not-say-clause-lives : goal.returns-then-not-say-clause-lives
 returns-then-not-say-clause-lives g c =

@@ -1,57 +1,73 @@
-use Rattle.std.proofs.Common.{◌∷◌, [], get_or, take, refl, sym, subst, arith}
+use Rattle.std.proofs.Common.{◌≡◌, ◌++◌, ◌∷◌, [], ℕ, List, get_or, take, refl, sym, subst, arith}
 use Rattle.std.specs.Option.{option_to_list}
 use Rattle.std.proofs.lemmas.List.{take_all, take_more}
 use Rattle.slab.specs.Slab.{get}
-use Rattle.node_core.specs.View.{site_in, state_of}
-use Rattle.node_loop.specs.Deeds.{IsOfClient}
+use Rattle.lock_desk.specs.declared.client_line.ClientLine.{ClientLine}
 use Rattle.node_loop.specs.Heard.{HeardAt}
-use Rattle.node_loop.specs.Said.{IsServedAlone}
-use Rattle.node_loop.proofs.Noting.{did-joins, did-none}
+use Rattle.node_loop.specs.Said.{IsHeardAlone, IsLineAlone, Serves}
 use Rattle.node_loop.proofs.Lives.{stay, live-join}
-use Rattle.node_loop.proofs.Saying.{alone-join, alone-line, alone-nothing, alone-silent}
+use Rattle.node_loop.proofs.Saying.{nothing-same}
+use Rattle.node_loop.proofs.Serving.{alone-none, heard-alone-join, heard-byte, heard-line, serves-join, serves-none}
 use Rattle.node_loop.proofs.service.serve_bytes.Goals.{in-Some, in_default}
 use Rattle.node_loop.proofs.service.serve_bytes.Goals as goal
 
 pub loop-byte-init : goal.loop-byte-init
-loop-byte-init g c = (did-none IsOfClient c.args.node.now c.args.notes.now, stay g.P.Pipe.gave g.P.Pipe.took g.P.Pipe.counts c.args.clients.now c.args.clients.now refl, alone-nothing g.P.Pipe.gave g.P.Pipe.took (site_in c.args.node.now) c.args.ticket c.args.clients.now)
+loop-byte-init g c =
+    let clients = c.args.clients.now in (
+      serves-none g.P.Pipe.took (IsHeardAlone g.P.Pipe.gave clients clients c.args.ticket []) c.args.node.now c.args.notes.now clients clients
+          (alone-none g.P.Pipe.gave c.args.ticket clients) (nothing-same g.P.Pipe.took clients clients refl refl),
+      stay g.P.Pipe.gave g.P.Pipe.took g.P.Pipe.counts clients clients refl,
+    )
 
 pub loop-byte-preserved : goal.loop-byte-preserved
 loop-byte-preserved g c =
     let old = c.args.clients.now in
     let mid = c.loop-byte.clients in
     let pushed = c.push.new.self in
+    let node = c.loop-byte.node in
+    let notes = c.loop-byte.notes in
     let lives = live-join g.P.Pipe.gave g.P.Pipe.took g.P.Pipe.counts old mid pushed c.loop-byte.invariant.1 c.push.ensures.lives in
-    let site = site_in c.args.node.now in
     let t = c.args.ticket in
     let bytes = c.args.bytes.now in
     let at = c.loop-byte.byte-index in
     let byte = get_or bytes at 0 in
+    let read = take at bytes in
     let next = sym (take_more bytes at 0 c.loop-byte-test.true) in
-    let so_far : IsServedAlone g.P.Pipe.gave g.P.Pipe.took site (take at bytes) c.args.ticket old mid = c.loop-byte.invariant.2 in
+    let none : ℕ → List ClientLine → Type 0 = λ u lines. lines ≡ [] in
     elim c.match-push.branch [
-      | in-Some w ↦ rw (w.node-is, w.notes-is, w.clients-is) (
-        did-joins IsOfClient c.args.node.now c.loop-byte.node w.serve_line.new.node c.args.notes.now c.loop-byte.notes w.serve_line.new.notes c.loop-byte.invariant.0 w.serve_line.ensures.node,
-        live-join g.P.Pipe.gave g.P.Pipe.took g.P.Pipe.counts old pushed w.serve_line.new.clients lives w.serve_line.ensures.lives,
-        subst (λ read. IsServedAlone g.P.Pipe.gave g.P.Pipe.took site read t old w.serve_line.new.clients) next
-            (alone-join g.P.Pipe.gave g.P.Pipe.took site (take at bytes) (byte ∷ []) t old mid w.serve_line.new.clients so_far
-            (subst (λ x. IsServedAlone g.P.Pipe.gave g.P.Pipe.took x (byte ∷ []) t mid w.serve_line.new.clients) c.loop-byte.invariant.0.became.site
-            (alone-line g.P.Pipe.gave g.P.Pipe.took (site_in c.loop-byte.node) byte w.in-Some.line (state_of c.loop-byte.node) t mid pushed w.serve_line.new.clients
-            (subst (λ said. HeardAt g.P.Pipe.gave [] (byte ∷ []) (option_to_list said) (get mid.table t) (get pushed.table t)) w.in-Some.is c.push.ensures.heard)
-            c.push.ensures.others c.push.ensures.nothing w.serve_line.ensures.answers w.serve_line.ensures.heard))),
-      )
-      | in_default w ↦ rw (w.node-is, w.notes-is, w.clients-is) (
-        c.loop-byte.invariant.0,
-        lives,
-        subst (λ read. IsServedAlone g.P.Pipe.gave g.P.Pipe.took site read t old pushed) next
-            (alone-join g.P.Pipe.gave g.P.Pipe.took site (take at bytes) (byte ∷ []) t old mid pushed so_far
-            (alone-silent g.P.Pipe.gave g.P.Pipe.took site byte t mid pushed
-            (subst (λ said. HeardAt g.P.Pipe.gave [] (byte ∷ []) (option_to_list said) (get mid.table t) (get pushed.table t)) w.in_default.is c.push.ensures.heard)
-            c.push.ensures.others c.push.ensures.nothing)),
-      )
+      | in-Some w ↦
+          let new = w.serve_line.new.clients in
+          let heard = heard-line g.P.Pipe.gave t byte w.in-Some.line mid pushed new
+          (subst (λ said. HeardAt g.P.Pipe.gave [] (byte ∷ []) (option_to_list said) (get mid.table t) (get pushed.table t)) w.in-Some.is c.push.ensures.heard)
+          c.push.ensures.others w.serve_line.ensures.heard in
+          let served = serves-join g.P.Pipe.took none (IsLineAlone t w.in-Some.line) (IsHeardAlone g.P.Pipe.gave mid new t (byte ∷ []))
+          (λ u xs ys e f. subst (λ lines. IsHeardAlone g.P.Pipe.gave mid new t (byte ∷ []) u (lines ++ ys)) (sym e) (heard u ys f))
+          node node w.serve_line.new.node notes notes w.serve_line.new.notes mid pushed new
+          (serves-none g.P.Pipe.took none node notes mid pushed (λ u. refl) c.push.ensures.nothing) w.serve_line.ensures.serves in
+          rw (w.node-is, w.notes-is, w.clients-is) (
+            subst (λ read. Serves g.P.Pipe.took (IsHeardAlone g.P.Pipe.gave old new t read) c.args.node.now w.serve_line.new.node c.args.notes.now w.serve_line.new.notes old new) next
+                (serves-join g.P.Pipe.took (IsHeardAlone g.P.Pipe.gave old mid t read) (IsHeardAlone g.P.Pipe.gave mid new t (byte ∷ [])) (IsHeardAlone g.P.Pipe.gave old new t (read ++ byte ∷ []))
+                (heard-alone-join g.P.Pipe.gave t read (byte ∷ []) old mid new)
+                c.args.node.now node w.serve_line.new.node c.args.notes.now notes w.serve_line.new.notes old mid new c.loop-byte.invariant.0 served),
+            live-join g.P.Pipe.gave g.P.Pipe.took g.P.Pipe.counts old pushed new lives w.serve_line.ensures.lives,
+          )
+      | in_default w ↦
+          let heard = heard-byte g.P.Pipe.gave t byte mid pushed
+          (subst (λ said. HeardAt g.P.Pipe.gave [] (byte ∷ []) (option_to_list said) (get mid.table t) (get pushed.table t)) w.in_default.is c.push.ensures.heard)
+          c.push.ensures.others in
+          rw (w.node-is, w.notes-is, w.clients-is) (
+            subst (λ read. Serves g.P.Pipe.took (IsHeardAlone g.P.Pipe.gave old pushed t read) c.args.node.now node c.args.notes.now notes old pushed) next
+                (serves-join g.P.Pipe.took (IsHeardAlone g.P.Pipe.gave old mid t read) (IsHeardAlone g.P.Pipe.gave mid pushed t (byte ∷ [])) (IsHeardAlone g.P.Pipe.gave old pushed t (read ++ byte ∷ []))
+                (heard-alone-join g.P.Pipe.gave t read (byte ∷ []) old mid pushed)
+                c.args.node.now node node c.args.notes.now notes notes old mid pushed c.loop-byte.invariant.0
+                (serves-none g.P.Pipe.took (IsHeardAlone g.P.Pipe.gave mid pushed t (byte ∷ [])) node notes mid pushed heard c.push.ensures.nothing)),
+            lives,
+          )
     ]
 
-pub returns-clause-answers : goal.returns-clause-answers
-returns-clause-answers g c =
-    let bytes = c.args.bytes.now in
-    subst (λ read. IsServedAlone g.P.Pipe.gave g.P.Pipe.took (site_in c.args.node.now) read c.args.ticket c.args.clients.now c.loop-byte.clients)
-    (take_all c.loop-byte.byte-index bytes (let end = c.loop-byte-test.false in omega (arith, end))) c.loop-byte.invariant.2
+pub returns-clause-serves : goal.returns-clause-serves
+returns-clause-serves g c =
+    let old = c.args.clients.now in
+    let new = c.loop-byte.clients in
+    subst (λ read. Serves g.P.Pipe.took (IsHeardAlone g.P.Pipe.gave old new c.args.ticket read) c.args.node.now c.loop-byte.node c.args.notes.now c.loop-byte.notes old new)
+    (take_all c.loop-byte.byte-index c.args.bytes.now (let end = c.loop-byte-test.false in omega (arith, end))) c.loop-byte.invariant.0

@@ -1,18 +1,19 @@
-use Rattle.std.proofs.Common.{◌∙◌, arith, refl, sym}
+use Rattle.std.proofs.Common.{◌∙◌, [], arith, refl, sym}
 use Rattle.std.proofs.lemmas.Bool.{eqb-true}
 use Rattle.slab.specs.Slab.{get}
-use Rattle.node_loop.specs.Clients.{answers_of}
-use Rattle.node_loop.specs.Deeds.{IsLeave}
+use Rattle.node_loop.specs.Clients.{answers_of, is_connected}
+use Rattle.node_loop.specs.Deeds.{IsLeaveOfGone}
 use Rattle.node_loop.proofs.Noting.{did-joins, did-none}
 use Rattle.node_loop.proofs.Lives.{stay, live-one, live-join, live-gone, others-join, closed-gone, nobody}
 use Rattle.node_loop.proofs.GoingOut.{below-all, below-next, below-start, out-gone, out-of_none}
 use Rattle.node_loop.proofs.Heard.{unheard-gone, unheard-join, unheard-same}
 use Rattle.node_loop.proofs.Saying.{answers-same, nothing-gone, nothing-join, nothing-same}
+use Rattle.node_loop.proofs.Serving.{did-later, stays-gone}
 use Rattle.node_loop.proofs.service.write_all.Goals.{then-not-write, else-not-write}
 use Rattle.node_loop.proofs.service.write_all.Goals as goal
 
 pub loop-ticket-init : goal.loop-ticket-init
-loop-ticket-init g c = (did-none IsLeave c.args.node.now c.args.notes.now, λ were. were, stay g.P.Pipe.gave g.P.Pipe.took g.P.Pipe.counts c.args.clients.now c.args.clients.now refl, nothing-same g.P.Pipe.took c.args.clients.now c.args.clients.now refl refl, below-start g.P.Pipe.counts c.args.clients.now, unheard-same g.P.Pipe.gave c.args.clients.now c.args.clients.now refl)
+loop-ticket-init g c = (did-none (IsLeaveOfGone (is_connected c.args.clients.now)) c.args.node.now c.args.notes.now, λ were. were, stay g.P.Pipe.gave g.P.Pipe.took g.P.Pipe.counts c.args.clients.now c.args.clients.now refl, nothing-same g.P.Pipe.took c.args.clients.now c.args.clients.now refl refl, below-start g.P.Pipe.counts c.args.clients.now, unheard-same g.P.Pipe.gave c.args.clients.now c.args.clients.now refl)
 
 pub loop-ticket-preserved : goal.loop-ticket-preserved
 loop-ticket-preserved g c =
@@ -23,7 +24,14 @@ loop-ticket-preserved g c =
     let before = c.loop-ticket.invariant in
     elim c.if-not-write.branch [
       | then-not-write w ↦ rw (w.node-is, w.notes-is, w.clients-is) (
-        did-joins IsLeave c.args.node.now c.loop-ticket.node w.dismiss.new.node c.args.notes.now c.loop-ticket.notes w.dismiss.new.notes before.0 w.dismiss.ensures.node,
+        did-joins (IsLeaveOfGone (is_connected w.dismiss.new.clients)) c.args.node.now c.loop-ticket.node w.dismiss.new.node c.args.notes.now c.loop-ticket.notes w.dismiss.new.notes
+            (did-later (is_connected mid) (is_connected w.dismiss.new.clients)
+            (λ u. stays-gone g.P.Pipe.took [] u mid w.dismiss.new.clients
+            (nothing-gone g.P.Pipe.took t mid w.dismiss.new.clients (others-join t mid written w.dismiss.new.clients c.write.ensures.others_stay w.dismiss.ensures.others)
+            (λ v o. answers-same g.P.Pipe.took written w.dismiss.new.clients w.dismiss.ensures.answers v ∙ c.write.ensures.others v o)
+            (closed-gone t written w.dismiss.new.clients w.dismiss.ensures.closed) u))
+            c.args.node.now c.loop-ticket.node c.args.notes.now c.loop-ticket.notes before.0)
+            w.dismiss.ensures.node,
         λ were. w.dismiss.ensures.connected (λ u known. c.write.ensures.same u ∙ before.1 were u known),
         live-join g.P.Pipe.gave g.P.Pipe.took g.P.Pipe.counts old mid w.dismiss.new.clients before.2
             (live-gone g.P.Pipe.gave g.P.Pipe.took g.P.Pipe.counts t mid w.dismiss.new.clients (others-join t mid written w.dismiss.new.clients c.write.ensures.others_stay w.dismiss.ensures.others)
@@ -42,7 +50,8 @@ loop-ticket-preserved g c =
             (closed-gone t written w.dismiss.new.clients w.dismiss.ensures.closed)),
       )
       | else-not-write w ↦ rw (w.node-is, w.notes-is, w.clients-is) (
-        before.0,
+        did-later (is_connected mid) (is_connected written) (λ u. stays-gone g.P.Pipe.took [] u mid written (w.if-not-write.ensures.nothing refl u))
+            c.args.node.now c.loop-ticket.node c.args.notes.now c.loop-ticket.notes before.0,
         λ were u known. c.write.ensures.same u ∙ before.1 were u known,
         live-join g.P.Pipe.gave g.P.Pipe.took g.P.Pipe.counts old mid written before.2 (live-one g.P.Pipe.gave g.P.Pipe.took g.P.Pipe.counts t mid written c.write.ensures.others_stay (w.if-not-write.ensures.lives refl)),
         nothing-join g.P.Pipe.took old mid written before.3 (w.if-not-write.ensures.nothing refl),
@@ -52,7 +61,7 @@ loop-ticket-preserved g c =
     ]
 
 pub returns-then-is_empty-clause-node : goal.returns-then-is_empty-clause-node
-returns-then-is_empty-clause-node g c = did-none IsLeave c.args.node.now c.args.notes.now
+returns-then-is_empty-clause-node g c = did-none (IsLeaveOfGone (is_connected c.args.clients.now)) c.args.node.now c.args.notes.now
 
 pub returns-then-is_empty-clause-out : goal.returns-then-is_empty-clause-out
 returns-then-is_empty-clause-out g c = out-of_none g.P.Pipe.counts c.args.clients.now c.args.clients.now (eqb-true _ 0 (sym c.is_empty.ensures ∙ c.if-is_empty.true))

@@ -1,5 +1,5 @@
-use Rattle.node_loop.specs.Clients.{AreConnected}
-use Rattle.node_loop.specs.Deeds.{IsLeave}
+use Rattle.node_loop.specs.Clients.{AreConnected, is_connected}
+use Rattle.node_loop.specs.Deeds.{IsLeaveOfGone}
 use Rattle.node_loop.specs.Heard.{NothingHeard}
 use Rattle.node_loop.specs.Lives.{LiveOn}
 use Rattle.node_loop.specs.Noting.{Did}
@@ -9,6 +9,6 @@ use Rattle.node_loop.proofs.service.write_all.Given as goal
 
 abbrev pub invariant-loop-ticket : goal.invariant-loop-ticket
 invariant-loop-ticket g l =
-    Did IsLeave l.fn.node l.node l.fn.notes l.notes × (AreConnected l.fn.clients l.fn.node → AreConnected l.clients l.node)
+    Did (IsLeaveOfGone (is_connected l.clients)) l.fn.node l.node l.fn.notes l.notes × (AreConnected l.fn.clients l.fn.node → AreConnected l.clients l.node)
     × LiveOn g.P.Pipe.gave g.P.Pipe.took g.P.Pipe.counts l.fn.clients l.clients × NothingSaid g.P.Pipe.took l.fn.clients l.clients
     × GoOutBelow g.P.Pipe.counts l.ticket l.fn.clients l.clients × NothingHeard g.P.Pipe.gave l.fn.clients l.clients

@@ -5,9 +5,9 @@ use Rattle.node_loop.proofs.Noting.{turn-grown}
 use Rattle.node_loop.proofs.Turning.{turn-leads}
 use Rattle.node_loop.proofs.run.NodeRun.act.Goals as goal
 
-pub returns-clause-noted : goal.returns-clause-noted
+abbrev pub returns-clause-noted : goal.returns-clause-noted
 returns-clause-noted g c =
-    let listens = c.listen.ensures.listens in
+    let listens = c.listen.ensures.listens.did in
     let acts = c.tick-ticked.ensures.node in
     let speaks = c.speak.ensures.spoken in
     record {
@@ -52,9 +52,12 @@ returns-clause-lives g c =
 
 pub returns-clause-says : goal.returns-clause-says
 returns-clause-says g c = record {
+  did = returns-clause-noted g c;
   heard = c.listen.new.self.clients;
   acted = c.tick-ticked.new.self.clients;
-  answers = c.listen.ensures.answers;
+  answers = c.listen.ensures.listens.answers;
   reported = c.tick-ticked.ensures.reported;
   writes = record { lives = c.speak.ensures.lives; hears_nothing = c.speak.ensures.heard; says_nothing = c.speak.ensures.nothing; goes_out = c.speak.ensures.out };
+  gone = c.tick-ticked.ensures.node.kinds;
+  gone_at_last = c.speak.ensures.spoken.kinds;
 }

@@ -3,13 +3,11 @@ use Rattle.node_loop.proofs.Lives.{still-join}
 use Rattle.node_loop.specs.Noting.{emptied}
 use Rattle.node_loop.proofs.Noting.{attend-grown}
 use Rattle.node_loop.proofs.Turning.{attend-leads}
-use Rattle.node_core.specs.View.{site_in}
-use Rattle.node_loop.proofs.Saying.{has-nothing}
 use Rattle.node_loop.proofs.run.NodeRun.attend.Goals as goal
 
-pub returns-clause-noted : goal.returns-clause-noted
+abbrev pub returns-clause-noted : goal.returns-clause-noted
 returns-clause-noted g c =
-    let listens = c.listen.ensures.listens in
+    let listens = c.listen.ensures.listens.did in
     let speaks = c.speak.ensures.spoken in
     record {
       attends = record {
@@ -38,14 +36,11 @@ pub returns-clause-lives : goal.returns-clause-lives
 returns-clause-lives g c =
     still-join g.D.P.Pipe.gave g.D.P.Pipe.took g.D.P.Pipe.counts c.args.self.now.clients c.listen.new.self.clients c.speak.new.self.clients c.listen.ensures.lives c.speak.ensures.lives
 
-pub returns-clause-answers : goal.returns-clause-answers
-returns-clause-answers g c =
-    has-nothing g.D.P.Pipe.gave g.D.P.Pipe.took g.D.P.Pipe.counts (site_in c.args.self.now.node) c.args.self.now.clients c.listen.new.self.clients c.speak.new.self.clients
-    c.listen.ensures.answers c.speak.ensures.heard c.speak.ensures.nothing c.speak.ensures.lives
-
 pub returns-clause-says : goal.returns-clause-says
 returns-clause-says g c = record {
+  did = returns-clause-noted g c;
   heard = c.listen.new.self.clients;
-  answers = c.listen.ensures.answers;
+  answers = c.listen.ensures.listens.answers;
   writes = record { lives = c.speak.ensures.lives; hears_nothing = c.speak.ensures.heard; says_nothing = c.speak.ensures.nothing; goes_out = c.speak.ensures.out };
+  gone = c.speak.ensures.spoken.kinds;
 }

@@ -3,8 +3,10 @@ use Rattle.node_loop.specs.Heard.{NothingHeard}
 use Rattle.node_loop.specs.Lives.{AllGoOut, LiveOn}
 use Rattle.data_link.specs.Port.{frame_of}
 use Rattle.node_core.specs.View.{NodeView, state_of}
-use Rattle.node_loop.specs.Deeds.{Deed, IsLeave}
+use Rattle.node_loop.specs.Clients.{is_connected}
+use Rattle.node_loop.specs.Deeds.{Deed, IsLeaveOfGone}
 use Rattle.node_loop.specs.Noting.{after_all, sends_if, Did}
+use Rattle.node_loop.proofs.Became.{are-leaves}
 use Rattle.node_loop.proofs.Noting.{grown}
 use Rattle.node_loop.proofs.Speaking.{spoken-start, spoken-next, spoken-end}
 use Rattle.node_loop.specs.Said.{NothingSaid}
@@ -46,10 +48,11 @@ returns-clause-spoken g c =
     let spoken = c.loop-id.invariant.5 in
     let mid = c.loop-id.notes in
     let new = c.write_all.new.notes in
-    let left = subst (λ x. Did IsLeave x c.write_all.new.node mid new) c.loop-id.invariant.0 c.write_all.ensures.node in
+    let left = subst (λ x. Did (IsLeaveOfGone (is_connected c.write_all.new.clients)) x c.write_all.new.node mid new) c.loop-id.invariant.0 c.write_all.ensures.node in
     record {
       speaks = spoken-end g.D.P.Pipe.gave g.D.P.Pipe.took g.D.P.Pipe.counts c.args.offers.now c.args.now _ _ _ c.loop-id.id all spoken.spoken refl refl;
-      leaves = left.became;
+      leaves = are-leaves (is_connected c.write_all.new.clients) c.args.self.now.node c.write_all.new.node left.became;
+      kinds = left.became.kinds;
       noted = grown spoken.spoken.sends left.became.deeds c.args.notes.now mid new spoken.noted left.noted;
     }
 

@@ -1,0 +1,289 @@
+-- Clients that are served, one after the other.
+use Rattle.std.proofs.Common.{◌≡◌, ◌≢◌, ◌==◌, ◌∙◌, ℕ, Bool, true, false, if◌then◌else◌, List, [], ◌∷◌, ◌++◌, All, Option, None, Some, map, refl, sym, subst, ap, inl, inr, append-nil, append_assoc}
+use Rattle.std.specs.Prelude.{is_some}
+use Rattle.std.proofs.lemmas.Bool.{cases_eq, eq-eqb, ne_eqb}
+use Rattle.std.proofs.lemmas.List.{map-append}
+use Rattle.std.proofs.lemmas.List.Elements.{All-cons, All-head, All-nil, All-tail}
+use Rattle.slab.specs.Slab.{get}
+use Rattle.lock_desk.specs.Desk.{after_leave}
+use Rattle.lock_desk.specs.declared.client_line.ClientLine.{ClientLine}
+use Rattle.lock_desk.specs.declared.client_line.ClientLine.TheVariants.{Lock, Unlock, Status, Unknown}
+use Rattle.node_core.specs.Site.{Site}
+use Rattle.node_core.specs.State.{LocalState}
+use Rattle.node_core.specs.View.{NodeView, site_in, state_of}
+use Rattle.node_loop.specs.declared.clients.Client.{Client}
+use Rattle.node_loop.specs.declared.clients.Clients.{Clients}
+use Rattle.node_loop.specs.Answers.{after_line, answer_text}
+use Rattle.node_loop.specs.Clients.{answers_of, is_connected}
+use Rattle.node_loop.specs.Deeds.{Asks, Became, Deed, IsLeaveOfGone, IsOfClient, Leads, Leaves, Sends, Takes, Ticks}
+use Rattle.node_loop.specs.Heard.{HeardAt, NothingHeard}
+use Rattle.node_loop.specs.Lives.{LiveOn, LivesAt, OthersStay}
+use Rattle.node_loop.specs.Noting.{after_all, deeds_of_line, Did}
+use Rattle.node_loop.specs.NotesView.{NotesView}
+use Rattle.node_loop.specs.Said.{answers_to, IsHeard, IsHeardAlone, IsLineAlone, IsSaid, NothingSaid, SaidAt, Serves}
+use Rattle.node_loop.specs.Services.{AreGone, deeds_of_all, Goes, Line, lines_of, Service}
+use Rattle.node_loop.proofs.Became.{gone-leaves, leave-kinds}
+use Rattle.node_loop.proofs.Heard.{heard-join, heard-same, others-unheard}
+use Rattle.node_loop.proofs.Lives.{nobody}
+use Rattle.node_loop.proofs.Noting.{did-joins, did-none}
+use Rattle.node_loop.proofs.Saying.{answers-join, is-said-join, SaidTo}
+
+-- ---- tickets that leave
+
+-- the leaves as services
+goes : List Deed → List Service
+goes [] = []
+goes (Leaves t ∷ ds) = Goes t ∷ goes ds
+goes (Takes w f ∷ ds) = goes ds
+goes (Asks t ∷ ds) = goes ds
+goes (Ticks ∷ ds) = goes ds
+goes (Sends w f ∷ ds) = goes ds
+
+module _ (connected : ℕ → Bool) where
+  goes-deeds : (ds : List Deed) → All (IsLeaveOfGone connected) ds → deeds_of_all (goes ds) ≡ ds
+  unfolding goes
+  goes-deeds [] k = refl
+  goes-deeds (Leaves t ∷ ds) k = ap (λ (es : List Deed). Leaves t ∷ es) (goes-deeds ds (All-tail (IsLeaveOfGone connected) (Leaves t) ds k))
+  goes-deeds (Takes w f ∷ ds) k = elim (All-head (IsLeaveOfGone connected) (Takes w f) ds k) [ ]
+  goes-deeds (Asks t ∷ ds) k = elim (All-head (IsLeaveOfGone connected) (Asks t) ds k) [ ]
+  goes-deeds (Ticks ∷ ds) k = elim (All-head (IsLeaveOfGone connected) Ticks ds k) [ ]
+  goes-deeds (Sends w f ∷ ds) k = elim (All-head (IsLeaveOfGone connected) (Sends w f) ds k) [ ]
+
+  goes-gone : (ds : List Deed) → All (IsLeaveOfGone connected) ds → AreGone connected (goes ds)
+  unfolding goes
+  goes-gone [] k = tt
+  goes-gone (Leaves t ∷ ds) k = (All-head (IsLeaveOfGone connected) (Leaves t) ds k, goes-gone ds (All-tail (IsLeaveOfGone connected) (Leaves t) ds k))
+  goes-gone (Takes w f ∷ ds) k = elim (All-head (IsLeaveOfGone connected) (Takes w f) ds k) [ ]
+  goes-gone (Asks t ∷ ds) k = elim (All-head (IsLeaveOfGone connected) (Asks t) ds k) [ ]
+  goes-gone (Ticks ∷ ds) k = elim (All-head (IsLeaveOfGone connected) Ticks ds k) [ ]
+  goes-gone (Sends w f ∷ ds) k = elim (All-head (IsLeaveOfGone connected) (Sends w f) ds k) [ ]
+
+  abbrev are-of-clients : (x y : NodeView) (n m : NotesView) → Did (IsLeaveOfGone connected) x y n m → Did IsOfClient x y n m
+  are-of-clients x y n m f = record {
+    became = record { site = f.became.site; deeds = f.became.deeds; kinds = leave-kinds f.became.deeds (gone-leaves connected f.became.deeds f.became.kinds); leads = f.became.leads };
+    noted = f.noted;
+  }
+
+module _ (connected later : ℕ → Bool) (still : (t : ℕ) → connected t ≡ false → later t ≡ false) where
+  kind-later : (d : Deed) → IsLeaveOfGone connected d → IsLeaveOfGone later d
+  kind-later (Takes w f) k = k
+  kind-later (Asks t) k = k
+  kind-later (Leaves t) k = still t k
+  kind-later Ticks k = k
+  kind-later (Sends w f) k = k
+
+  kinds-later : (ds : List Deed) → All (IsLeaveOfGone connected) ds → All (IsLeaveOfGone later) ds
+  kinds-later [] k = All-nil (IsLeaveOfGone later)
+  kinds-later (d ∷ ds) k =
+      All-cons (IsLeaveOfGone later) d ds (kind-later d (All-head (IsLeaveOfGone connected) d ds k)) (kinds-later ds (All-tail (IsLeaveOfGone connected) d ds k))
+
+  -- a client that is gone stays so
+  pub did-later : (x y : NodeView) (n m : NotesView) → Did (IsLeaveOfGone connected) x y n m → Did (IsLeaveOfGone later) x y n m
+  did-later x y n m f = record {
+    became = record { site = f.became.site; deeds = f.became.deeds; kinds = kinds-later f.became.deeds f.became.kinds; leads = f.became.leads };
+    noted = f.noted;
+  }
+
+  gone-later : (xs : List Service) → AreGone connected xs → AreGone later xs
+  gone-later [] k = tt
+  gone-later (Line t line ∷ xs) k = gone-later xs k
+  gone-later (Goes t ∷ xs) k = (still t k.0, gone-later xs k.1)
+
+-- ---- services, and then more
+
+after-services : List Service → LocalState → LocalState
+after-services [] s = s
+after-services (Line t line ∷ xs) s = after-services xs (after_line t line s)
+after-services (Goes t ∷ xs) s = after-services xs (record s { desk = after_leave t s.desk })
+
+deeds-append : (xs ys : List Service) → deeds_of_all (xs ++ ys) ≡ deeds_of_all xs ++ deeds_of_all ys
+deeds-append [] ys = refl
+deeds-append (Line t line ∷ xs) ys = ap (λ (es : List Deed). deeds_of_line t line ++ es) (deeds-append xs ys) ∙ sym (append_assoc (deeds_of_line t line) (deeds_of_all xs) (deeds_of_all ys))
+deeds-append (Goes t ∷ xs) ys = ap (λ (es : List Deed). Leaves t ∷ es) (deeds-append xs ys)
+
+gone-append : (connected : ℕ → Bool) (xs ys : List Service) → AreGone connected xs → AreGone connected ys → AreGone connected (xs ++ ys)
+gone-append connected [] ys f g = g
+gone-append connected (Line t line ∷ xs) ys f g = gone-append connected xs ys f g
+gone-append connected (Goes t ∷ xs) ys f g = (f.0, gone-append connected xs ys f.1 g)
+
+lines-append : (t : ℕ) (xs ys : List Service) (s : LocalState) → lines_of t (xs ++ ys) s ≡ lines_of t xs s ++ lines_of t ys (after-services xs s)
+unfolding after-services
+lines-append t [] ys s = refl
+lines-append t (Line u line ∷ xs) ys s =
+    let here : List (ClientLine × LocalState) = if u == t then (line, s) ∷ [] else [] in
+    ap (λ (more : List (ClientLine × LocalState)). here ++ more) (lines-append t xs ys (after_line u line s))
+    ∙ sym (append_assoc here (lines_of t xs (after_line u line s)) (lines_of t ys (after-services xs (after_line u line s))))
+lines-append t (Goes u ∷ xs) ys s = lines-append t xs ys (record s { desk = after_leave u s.desk })
+
+leads-after : (site : Site) (xs : List Service) (s last : LocalState) → Leads site (deeds_of_all xs) s last → last ≡ after-services xs s
+unfolding after-services
+leads-after site [] s last f = f
+leads-after site (Line t Lock ∷ xs) s last f = leads-after site xs (after_line t Lock s) last f.1
+leads-after site (Line t Unlock ∷ xs) s last f = leads-after site xs (after_line t Unlock s) last f
+leads-after site (Line t Status ∷ xs) s last f = leads-after site xs s last f
+leads-after site (Line t Unknown ∷ xs) s last f = leads-after site xs s last f
+leads-after site (Goes t ∷ xs) s last f = leads-after site xs (record s { desk = after_leave t s.desk }) last f
+
+goes-silent : (t : ℕ) (ds : List Deed) (s : LocalState) → lines_of t (goes ds) s ≡ []
+unfolding goes
+goes-silent t [] s = refl
+goes-silent t (Leaves u ∷ ds) s = goes-silent t ds (record s { desk = after_leave u s.desk })
+goes-silent t (Takes w f ∷ ds) s = goes-silent t ds s
+goes-silent t (Asks u ∷ ds) s = goes-silent t ds s
+goes-silent t (Ticks ∷ ds) s = goes-silent t ds s
+goes-silent t (Sends w f ∷ ds) s = goes-silent t ds s
+
+abbrev asked-lines : List (ClientLine × LocalState) → List ClientLine
+asked-lines asked = map (λ x. x.0) asked
+
+module _ {P : Type 0} (took : P → Option (List ℕ)) where
+  gone-said : (more : List ℕ) (x y : Option (Client P)) (xs ys : List ℕ) → SaidAt took more x xs y ys → x ≡ None → y ≡ None
+  gone-said more x None xs ys f e = refl
+  gone-said more None (Some c) xs ys f e = elim f [ ]
+  gone-said more (Some b) (Some c) xs ys f e = absurd (let d = e in cc)
+
+module _ {P A : Type 0} (took : P → Option (List ℕ)) where
+  -- who is gone stays so while others are served
+  pub stays-gone : (more : List ℕ) (t : ℕ) (old new : Clients P A) → IsSaid took more t old new → is_connected old t ≡ false → is_connected new t ≡ false
+  stays-gone more t old new f none =
+      subst (λ (x : Option (Client P)). is_some x ≡ false) (sym (gone-said took more (get old.table t) (get new.table t) (answers_of old t) (answers_of new t) f (nobody (get old.table t) none))) refl
+
+  module _ (R S T : ℕ → List ClientLine → Type 0) (join : (t : ℕ) (xs ys : List ClientLine) → R t xs → S t ys → T t (xs ++ ys)) where
+    pub serves-join : (x y z : NodeView) (n m o : NotesView) (a b c : Clients P A) → Serves took R x y n m a b → Serves took S y z m o b c → Serves took T x z n o a c
+    serves-join x y z n m o a b c f g =
+        let between : state_of y ≡ after-services f.services (state_of x) =
+        leads-after (site_in x) f.services (state_of x) (state_of y) (subst (λ ds. Leads (site_in x) ds (state_of x) (state_of y)) f.deeds_are f.did.became.leads) in
+        let first = λ (t : ℕ). lines_of t f.services (state_of x) in
+        let second = λ (t : ℕ). lines_of t g.services (state_of y) in
+        let both : (t : ℕ) → lines_of t (f.services ++ g.services) (state_of x) ≡ lines_of t f.services (state_of x) ++ lines_of t g.services (state_of y) =
+        λ t. lines-append t f.services g.services (state_of x) ∙ ap (λ s. lines_of t f.services (state_of x) ++ lines_of t g.services s) (sym between) in
+        record {
+          services = f.services ++ g.services;
+          did = did-joins IsOfClient x y z n m o f.did g.did;
+          deeds_are = ap (λ ds. ds ++ g.did.became.deeds) f.deeds_are ∙ (ap (λ ds. deeds_of_all f.services ++ ds) g.deeds_are ∙ sym (deeds-append f.services g.services));
+          gone = gone-append (is_connected c) f.services g.services
+              (gone-later (is_connected b) (is_connected c) (λ t. stays-gone (answers_to (site_in y) t (second t)) t b c (g.said t)) f.services f.gone) g.gone;
+          lines_are = λ t.
+              subst (λ lines. T t lines) (sym (ap asked-lines (both t) ∙ map-append (λ (x : ClientLine × LocalState). x.0) (first t) (second t)))
+              (join t (asked-lines (first t)) (asked-lines (second t)) (f.lines_are t) (g.lines_are t));
+          said = λ t.
+              subst (λ lines. IsSaid took (answers_to (site_in x) t lines) t a c) (sym (both t))
+              (subst (λ text. IsSaid took text t a c) (answers-join (site_in x) t (first t) (second t))
+              (is-said-join took (answers_to (site_in x) t (first t)) (answers_to (site_in x) t (second t)) t a b c (f.said t)
+              (subst (λ site. IsSaid took (answers_to site t (second t)) t b c) f.did.became.site (g.said t))));
+        }
+
+  -- nothing was done
+  pub serves-none : (R : ℕ → List ClientLine → Type 0) (x : NodeView) (n : NotesView) (a b : Clients P A) → ((t : ℕ) → R t []) → NothingSaid took a b → Serves took R x x n n a b
+  serves-none R x n a b none nothing = record {
+    services = [];
+    did = did-none IsOfClient x n;
+    deeds_are = refl;
+    gone = tt;
+    lines_are = none;
+    said = nothing;
+  }
+
+  -- tickets left, and nothing else was done
+  pub serves-goes : (R : ℕ → List ClientLine → Type 0) (x y : NodeView) (n m : NotesView) (a b : Clients P A) → ((t : ℕ) → R t []) → NothingSaid took a b
+      → Did (IsLeaveOfGone (is_connected b)) x y n m → Serves took R x y n m a b
+  serves-goes R x y n m a b none nothing f =
+      let ds = f.became.deeds in
+      let silent : (t : ℕ) → lines_of t (goes f.became.deeds) (state_of x) ≡ [] = λ t. goes-silent t f.became.deeds (state_of x) in
+      record {
+        services = goes ds;
+        did = are-of-clients (is_connected b) x y n m f;
+        deeds_are = sym (goes-deeds (is_connected b) ds f.became.kinds);
+        gone = goes-gone (is_connected b) ds f.became.kinds;
+        lines_are = λ t. subst (λ lines. R t (asked-lines lines)) (sym (silent t)) (none t);
+        said = λ t. subst (λ lines. IsSaid took (answers_to (site_in x) t lines) t a b) (sym (silent t)) (nothing t);
+      }
+
+  -- a line was served, and then tickets left
+  pub serves-line : (k : ℕ) (line : ClientLine) (x y z : NodeView) (n m o : NotesView) (a b : Clients P A) (d : Did IsOfClient x y n m) → d.became.deeds ≡ deeds_of_line k line
+      → Did (IsLeaveOfGone (is_connected b)) y z m o → SaidTo took (answer_text (site_in x) k line (state_of x)) k a b → Serves took (IsLineAlone k line) x z n o a b
+  unfolding goes
+  serves-line k line x y z n m o a b d is f said =
+      let s = state_of x in
+      let ds = f.became.deeds in
+      let rest : (t : ℕ) → lines_of t (goes f.became.deeds) (after_line k line (state_of x)) ≡ [] = λ t. goes-silent t f.became.deeds (after_line k line (state_of x)) in
+      let all : (t : ℕ) → lines_of t (Line k line ∷ goes f.became.deeds) (state_of x) ≡ (if k == t then (line, state_of x) ∷ [] else []) =
+      λ t. ap (λ more. (if k == t then (line, state_of x) ∷ [] else []) ++ more) (rest t) ∙ append-nil (if k == t then (line, state_of x) ∷ [] else []) in
+      let here : (t : ℕ) → t ≡ k → lines_of t (Line k line ∷ goes f.became.deeds) (state_of x) ≡ (line, state_of x) ∷ [] =
+      λ t same. all t ∙ ap (λ (b : Bool). if b then (line, state_of x) ∷ [] else []) (eq-eqb k t (sym same)) in
+      let other : (t : ℕ) → t ≢ k → lines_of t (Line k line ∷ goes f.became.deeds) (state_of x) ≡ [] =
+      λ t differ. all t ∙ ap (λ (b : Bool). if b then (line, state_of x) ∷ [] else []) (ne_eqb k t (λ same. differ (sym same))) in
+      record {
+        services = Line k line ∷ goes ds;
+        did = did-joins IsOfClient x y z n m o d (are-of-clients (is_connected b) y z m o f);
+        deeds_are = ap (λ es. es ++ ds) is ∙ ap (λ es. deeds_of_line k line ++ es) (sym (goes-deeds (is_connected b) ds f.became.kinds));
+        gone = goes-gone (is_connected b) ds f.became.kinds;
+        lines_are = λ t. (
+          λ same. ap asked-lines (here t same),
+          λ differ. ap asked-lines (other t differ),
+        );
+        said = λ t.
+            elim (cases_eq t k) [
+              | inl same ↦ subst (λ lines. IsSaid took (answers_to (site_in x) t lines) t a b) (sym (here t same))
+                  (subst (λ u. IsSaid took (answers_to (site_in x) u ((line, s) ∷ [])) u a b) (sym same)
+                  (subst (λ text. IsSaid took text k a b) (sym (append-nil (answer_text (site_in x) k line s))) said.0))
+              | inr differ ↦ subst (λ lines. IsSaid took (answers_to (site_in x) t lines) t a b) (sym (other t differ)) (said.1 t differ)
+            ];
+      }
+
+-- ---- what is heard meanwhile
+
+module _ {P A : Type 0} (gave : P → Option (List ℕ)) where
+  pub heard-alone-join : (k : ℕ) (r s : List ℕ) (a b c : Clients P A) (t : ℕ) (xs ys : List ClientLine) → IsHeardAlone gave a b k r t xs → IsHeardAlone gave b c k s t ys → IsHeardAlone gave a c k (r ++ s) t (xs ++ ys)
+  heard-alone-join k r s a b c t xs ys f g = (
+    λ same. heard-join gave [] [] r s xs ys (get a.table t) (get b.table t) (get c.table t) (f.0 same) (g.0 same),
+    λ differ. heard-join gave [] [] [] [] xs ys (get a.table t) (get b.table t) (get c.table t) (f.1 differ) (g.1 differ),
+  )
+
+  -- a reader took a byte, and the line that this ended was served meanwhile, or it ended none
+  pub heard-line : (k byte : ℕ) (line : ClientLine) (a b c : Clients P A) → HeardAt gave [] (byte ∷ []) (line ∷ []) (get a.table k) (get b.table k) → OthersStay k a b → NothingHeard gave b c
+      → (t : ℕ) (xs : List ClientLine) → IsLineAlone k line t xs → IsHeardAlone gave a c k (byte ∷ []) t xs
+  heard-line k byte line a b c heard others unheard t xs f = (
+    λ same.
+        subst (λ lines. HeardAt gave [] (byte ∷ []) lines (get a.table t) (get c.table t)) (sym (f.0 same))
+        (subst (λ u. HeardAt gave [] (byte ∷ []) (line ∷ []) (get a.table u) (get c.table u)) (sym same)
+        (heard-join gave [] [] (byte ∷ []) [] (line ∷ []) [] (get a.table k) (get b.table k) (get c.table k) heard (unheard k))),
+    λ differ.
+        subst (λ lines. HeardAt gave [] [] lines (get a.table t) (get c.table t)) (sym (f.1 differ))
+        (heard-join gave [] [] [] [] [] [] (get a.table t) (get b.table t) (get c.table t) (others-unheard gave k a b others t differ) (unheard t)),
+  )
+
+  pub heard-byte : (k byte : ℕ) (a b : Clients P A) → HeardAt gave [] (byte ∷ []) [] (get a.table k) (get b.table k) → OthersStay k a b → (t : ℕ) → IsHeardAlone gave a b k (byte ∷ []) t []
+  heard-byte k byte a b heard others t = (
+    λ same. subst (λ u. HeardAt gave [] (byte ∷ []) [] (get a.table u) (get b.table u)) (sym same) heard,
+    λ differ. others-unheard gave k a b others t differ,
+  )
+
+  pub alone-none : (k : ℕ) (clients : Clients P A) (t : ℕ) → IsHeardAlone gave clients clients k [] t []
+  alone-none k clients t = (
+    λ same. heard-same gave (get clients.table t) (get clients.table t) refl,
+    λ differ. heard-same gave (get clients.table t) (get clients.table t) refl,
+  )
+
+  -- a client was read, and then its reader took the bytes that came
+  pub heard-all : (k : ℕ) (bytes : List ℕ) (a b c : Clients P A) → HeardAt gave bytes [] [] (get a.table k) (get b.table k) → OthersStay k a b
+      → (t : ℕ) (xs : List ClientLine) → IsHeardAlone gave b c k bytes t xs → IsHeard gave a c t xs
+  heard-all k bytes a b c heard others t xs f =
+      elim (cases_eq t k) [
+        | inl same ↦ (
+          bytes,
+          subst (λ given. HeardAt gave given bytes xs (get a.table t) (get c.table t)) (append-nil bytes)
+              (heard-join gave bytes [] [] bytes [] xs (get a.table t) (get b.table t) (get c.table t)
+              (subst (λ u. HeardAt gave bytes [] [] (get a.table u) (get b.table u)) (sym same) heard) (f.0 same)),
+        )
+        | inr differ ↦ (
+          [],
+          heard-join gave [] [] [] [] [] xs (get a.table t) (get b.table t) (get c.table t) (others-unheard gave k a b others t differ) (f.1 differ),
+        )
+      ]
+
+  pub heard-both : (a b c : Clients P A) (t : ℕ) (xs ys : List ClientLine) → IsHeard gave a b t xs → IsHeard gave b c t ys → IsHeard gave a c t (xs ++ ys)
+  heard-both a b c t xs ys f g = (f.0 ++ g.0, heard-join gave f.0 g.0 f.0 g.0 xs ys (get a.table t) (get b.table t) (get c.table t) f.1 g.1)
+
+  pub heard-none : (a b : Clients P A) → NothingHeard gave a b → (t : ℕ) → IsHeard gave a b t []
+  heard-none a b f t = ([], f t)
