@@ -25,6 +25,8 @@ mod output;
 #[cfg(test)]
 mod plot;
 #[cfg(test)]
+mod refusals;
+#[cfg(test)]
 mod schedule;
 #[cfg(test)]
 mod scramble;
