@@ -1,19 +1,11 @@
-//! The commands of `tokentree` between files and texts: by hand, with readers that fail, and with
-//! writers that have too little room.
+//! What the commands of `tokentree` do where no command line leads: with runs and networks that no words
+//! make, with readers and writers that fail, and without memory. Scripts of command lines test the rest.
 //!
 //! Nothing but tests stands here, since a crate's tests prove all of that crate once more.
 #![tactic(auto)]
 
 #[cfg(test)]
-mod bound;
-#[cfg(test)]
-mod cut;
-#[cfg(test)]
-mod draw;
-#[cfg(test)]
-mod files;
-#[cfg(test)]
-mod junk;
+mod faults;
 #[cfg(test)]
 mod measure;
 #[cfg(test)]
@@ -23,14 +15,6 @@ mod network;
 #[cfg(test)]
 mod output;
 #[cfg(test)]
-mod plot;
-#[cfg(test)]
-mod refusals;
-#[cfg(test)]
-mod schedule;
-#[cfg(test)]
 mod scramble;
-#[cfg(test)]
-mod settled;
 #[cfg(test)]
 mod simulate;

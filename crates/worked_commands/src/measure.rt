@@ -1,8 +1,8 @@
-//! Measured runs as texts. The runs are written by hand, and so are the texts: two nodes have the
-//! sharper bound 35 and the bound 69.
+//! Runs that no command makes: some are written by hand, and so are their texts; others begin in a
+//! world that is not scrambled. Two nodes have the sharper bound 35 and the bound 69.
 use crate::nets::two_nodes;
 use command_parts::Fault;
-use experiments::{Recovery, Scheduler, Settling, Watch, measure_layers, measure_run};
+use experiments::{Recovery, Settling, Watch};
 use schedules::{Slow, give_round, give_slow_round};
 use std::alloc::Global;
 use std::process::ExitCode;
@@ -113,23 +113,20 @@ fn shows_what_sums_runs_up(rt: HostRuntime) -> Result<(), Fail> {
     as_expected(first_other_text(rt.alloc(), &TEXTS), &None)
 }
 
-/// The answer of standard output, whether each run has served, and how the command ends.
-type Ending = (Result<(), Fault>, bool, Result<ExitCode, Fault>);
+/// The answer of standard output, and how the command ends.
+type Ending = (Result<(), Fault>, Result<ExitCode, Fault>);
 
-/// The answer of standard output decides the status, and then whether each run has served.
-const ENDINGS: [Ending; 6] = [
-    (Ok(()), true, Ok(ExitCode::SUCCESS)),
-    (Ok(()), false, Ok(ExitCode::FAILURE)),
-    (Err(Fault::Output), true, Err(Fault::Output)),
-    (Err(Fault::Output), false, Err(Fault::Output)),
-    (Err(Fault::Closed), true, Err(Fault::Closed)),
-    (Err(Fault::Closed), false, Err(Fault::Closed)),
+/// How it ends if a run has not served, which no command line brings about.
+const ENDINGS: [Ending; 3] = [
+    (Ok(()), Ok(ExitCode::FAILURE)),
+    (Err(Fault::Output), Err(Fault::Output)),
+    (Err(Fault::Closed), Err(Fault::Closed)),
 ];
 
 /// The place of the first row that ends otherwise.
 fn first_other_ending(rows: &[Ending]) -> Option<usize> {
-    for (at, (printed, served, want)) in rows.iter().enumerate() {
-        if ending(*printed, *served) != *want {
+    for (at, (printed, want)) in rows.iter().enumerate() {
+        if ending(*printed, false) != *want {
             return Some(at);
         }
     }
@@ -137,7 +134,7 @@ fn first_other_ending(rows: &[Ending]) -> Option<usize> {
 }
 
 #[test]
-fn ends_with_the_status() -> Result<(), Fail> {
+fn ends_with_the_status_of_a_late_run() -> Result<(), Fail> {
     is_expected(&first_other_ending(&ENDINGS), &None)
 }
 
@@ -258,43 +255,6 @@ fn a_slow_one_delays_sweeps(rt: HostRuntime) -> Result<(), Fail> {
     as_expected(first_other_slow(rt.alloc(), &SLOW), &None)
 }
 
-/// Measured runs have their seeds, as many sweeps as the sharper bound says, and are the same each
-/// time.
-const MEASURED: [(Scheduler, u64); 5] = [
-    (Scheduler::Rounds, 0),
-    (Scheduler::Rounds, 7),
-    (Scheduler::Random, 7),
-    (Scheduler::SlowLink { share: 25 }, 7),
-    (Scheduler::SlowNode { share: 10 }, 7),
-];
-
-/// A measured run of two nodes.
-fn measured(alloc: Global, scheduler: Scheduler, seed: u64) -> Result<Recovery, Fail> {
-    let net = two_nodes(alloc)?;
-    Ok(measure_run(alloc, &net, scheduler, seed)?)
-}
-
-/// Whether a run has its seed and at least 35 sweeps, and served after at most 35.
-fn is_within(run: Recovery, seed: u64) -> bool {
-    run.seed == seed && run.seen >= 35 && run.sweeps <= 35
-}
-
-/// The place of the first row whose run is wrong, or differs when it is made again.
-fn first_other_run(alloc: Global, rows: &[(Scheduler, u64)]) -> Result<Option<usize>, Fail> {
-    for (at, (scheduler, seed)) in rows.iter().enumerate() {
-        let run = measured(alloc, *scheduler, *seed)?;
-        if !is_within(run, *seed) || measured(alloc, *scheduler, *seed)? != run {
-            return Ok(Some(at));
-        }
-    }
-    Ok(None)
-}
-
-#[test]
-fn measures_runs(rt: HostRuntime) -> Result<(), Fail> {
-    as_expected(first_other_run(rt.alloc(), &MEASURED), &None)
-}
-
 /// A run of a seed with 350 events: links stable after 2 sweeps, the tree reached after 9, the token
 /// ring good after 10, and served after `served`.
 macro_rules! settling {
@@ -350,38 +310,4 @@ fn first_other_csv(alloc: Global) -> Result<Option<usize>, Fail> {
 #[test]
 fn shows_rows(rt: HostRuntime) -> Result<(), Fail> {
     as_expected(first_other_csv(rt.alloc()), &None)
-}
-
-/// A run of two nodes with its layers.
-fn layered(alloc: Global, scheduler: Scheduler, seed: u64) -> Result<Settling, Fail> {
-    let net = two_nodes(alloc)?;
-    Ok(measure_layers(alloc, &net, scheduler, seed)?)
-}
-
-/// Whether it is the same run: two nodes have their links stable after at most 6 sweeps, the tree
-/// after at most 18, and the token ring good after at most 34.
-fn is_same_run(settling: Settling, run: Recovery) -> bool {
-    settling.seed == run.seed
-        && settling.served == run.sweeps
-        && settling.seen == run.seen
-        && settling.links <= 6
-        && settling.tree <= 18
-        && settling.ring <= 34
-}
-
-/// The place of the first row whose run is another with its layers, or differs when it is made again.
-fn first_other_layers(alloc: Global, rows: &[(Scheduler, u64)]) -> Result<Option<usize>, Fail> {
-    for (at, (scheduler, seed)) in rows.iter().enumerate() {
-        let run = measured(alloc, *scheduler, *seed)?;
-        let settling = layered(alloc, *scheduler, *seed)?;
-        if !is_same_run(settling, run) || layered(alloc, *scheduler, *seed)? != settling {
-            return Ok(Some(at));
-        }
-    }
-    Ok(None)
-}
-
-#[test]
-fn measures_layers(rt: HostRuntime) -> Result<(), Fail> {
-    as_expected(first_other_layers(rt.alloc(), &MEASURED), &None)
 }

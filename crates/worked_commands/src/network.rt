@@ -1,4 +1,4 @@
-//! Network files by kind: by hand, and for every number of nodes.
+//! Network files by kind, for every number of nodes.
 use network_kinds::{Kind, least_nodes, most_nodes};
 use std::alloc::Global;
 use std::test::Fail;
@@ -15,69 +15,6 @@ fn of(kind: Kind, nodes: u16) -> Wanted {
         capacity: 1,
         lease: 0,
     }
-}
-
-/// Networks, and their files.
-const ROWS: [(Wanted, &str); 4] = [
-    (
-        Wanted {
-            kind: Kind::Line,
-            nodes: 3,
-            root: 0,
-            capacity: 1,
-            lease: 0,
-        },
-        "capacity = 1\nedges = [[0, 1], [1, 2]]\nlease = 0\nnodes = 3\nroot = 0\n",
-    ),
-    (
-        Wanted {
-            kind: Kind::Ring,
-            nodes: 4,
-            root: 0,
-            capacity: 1,
-            lease: 0,
-        },
-        "capacity = 1\nedges = [[0, 1], [1, 2], [0, 3], [2, 3]]\nlease = 0\nnodes = 4\nroot = 0\n",
-    ),
-    (
-        Wanted {
-            kind: Kind::Grid { columns: 3 },
-            nodes: 6,
-            root: 0,
-            capacity: 1,
-            lease: 0,
-        },
-        "capacity = 1\nedges = [[0, 1], [1, 2], [0, 3], [1, 4], [3, 4], [2, 5], [4, 5]]\nlease = 0\nnodes = 6\nroot = 0\n",
-    ),
-    (
-        Wanted {
-            kind: Kind::Star,
-            nodes: 4,
-            root: 3,
-            capacity: 64,
-            lease: 100,
-        },
-        "capacity = 64\nedges = [[0, 1], [0, 2], [0, 3]]\nlease = 100\nnodes = 4\nroot = 3\n",
-    ),
-];
-
-/// Whether a network has this file.
-fn is_text(alloc: Global, wanted: Wanted, want: &str) -> bool {
-    match named_text(alloc, wanted) {
-        Ok(text) => text.as_str() == want,
-        Err(_) => false,
-    }
-}
-
-/// The place of the first row whose file is another.
-fn first_unlike(alloc: Global, rows: &[(Wanted, &str)]) -> Option<usize> {
-    rows.iter()
-        .position(|(wanted, want)| !is_text(alloc, *wanted, want))
-}
-
-#[test]
-fn prints_the_file_of_a_kind(rt: HostRuntime) -> Result<(), Fail> {
-    as_expected(Ok(first_unlike(rt.alloc(), &ROWS)), &None)
 }
 
 /// Whether a network's file can be read.

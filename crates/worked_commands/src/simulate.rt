@@ -1,4 +1,4 @@
-//! Readers that are interrupted or fail, and writers that have too little room.
+//! Readers that are interrupted, or fail after some bytes.
 use crate::nets::two_nodes;
 use command_parts::{Fault, ReadSource, WriteSink, simulate_between};
 use std::alloc::Global;
@@ -8,10 +8,7 @@ use test_parts::{Shelf, as_expected};
 use topology::Net;
 use world::simulation::Summary;
 
-/// Lines; the first, the second and the last are refused.
-const EVENTS: &[u8] = b"tick 2\nsend 0 0\ntick 0\nTick 0";
-
-/// What they lead to on two nodes.
+/// What the events lead to on two nodes; the first, the second and the last are refused.
 const OUTPUT: &[u8] = b"\
 line 1: NoNode
 line 2: NoLink
@@ -90,18 +87,17 @@ fn simulate_to(
     Ok(simulate_on(alloc, &net, answers, shelf)?)
 }
 
-/// Whether a simulation with room for `room` bytes has this answer, and writes this.
+/// Whether a simulation has this answer, and writes this.
 fn simulates(
     alloc: Global,
     answers: &[Answer<'_>],
-    room: usize,
     want: Result<Summary, Fault>,
     text: &[u8],
 ) -> Result<bool, Fail> {
     let mut taken = Vec::new(alloc);
     let shelf = Shelf {
         taken: &mut taken,
-        room,
+        room: 1000,
     };
     let answer = simulate_to(alloc, answers, shelf)?;
     Ok(answer == want && taken.as_slice() == text)
@@ -127,7 +123,7 @@ static INTERRUPTED: [Answer<'static>; 6] = [
 #[test]
 fn an_interrupted_read_is_tried_again(rt: HostRuntime) -> Result<(), Fail> {
     as_expected(
-        simulates(rt.alloc(), &INTERRUPTED, 1000, Ok(THREE), OUTPUT),
+        simulates(rt.alloc(), &INTERRUPTED, Ok(THREE), OUTPUT),
         &true,
     )
 }
@@ -140,45 +136,12 @@ static FAILED: [Answer<'static>; 3] = [
 ];
 
 /// The output for the lines before the failure.
-const TOLD: &[u8] = b"line 1: NoNode\nline 2: NoLink\n";
+const SAID: &[u8] = b"line 1: NoNode\nline 2: NoLink\n";
 
 #[test]
 fn what_came_before_a_failed_read_is_said(rt: HostRuntime) -> Result<(), Fail> {
     as_expected(
-        simulates(
-            rt.alloc(),
-            &FAILED,
-            1000,
-            Err(Fault::EventsUnreadable),
-            TOLD,
-        ),
+        simulates(rt.alloc(), &FAILED, Err(Fault::EventsUnreadable), SAID),
         &true,
     )
-}
-
-/// The events, in one read.
-static WHOLE: [Answer<'static>; 1] = [Answer::Bytes(EVENTS)];
-
-/// The answer if there is room for `room` bytes of the output.
-fn answer_with_room(room: usize) -> Result<Summary, Fault> {
-    if room < OUTPUT.len() {
-        Err(Fault::Output)
-    } else {
-        Ok(THREE)
-    }
-}
-
-/// The first room that the front of the output does not fill, or with another answer.
-fn first_other_room(alloc: Global) -> Result<Option<usize>, Fail> {
-    for room in 0..=OUTPUT.len() {
-        if !simulates(alloc, &WHOLE, room, answer_with_room(room), &OUTPUT[..room])? {
-            return Ok(Some(room));
-        }
-    }
-    Ok(None)
-}
-
-#[test]
-fn output_without_room_is_a_fault(rt: HostRuntime) -> Result<(), Fail> {
-    as_expected(first_other_room(rt.alloc()), &None)
 }

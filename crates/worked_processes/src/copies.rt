@@ -40,8 +40,8 @@ fn set_all(command: &mut Command, variables: &[(&str, &str)]) -> Result<(), Allo
     Ok(())
 }
 
-/// A copy of a test program that runs one of its tests, with these environment variables.
-pub fn copy_at(
+/// The program at `program`, which runs one of its tests, with these environment variables.
+fn copy_at(
     alloc: Global,
     program: &str,
     test: &str,
@@ -60,16 +60,11 @@ pub fn copy(rt: &HostRuntime, test: &str, variables: &[(&str, &str)]) -> Result<
 }
 
 /// A shell that runs a script, with a word as its `$0`.
-pub fn shell(
-    alloc: Global,
-    script: &str,
-    word: &str,
-    variables: &[(&str, &str)],
-) -> Result<Command, AllocError> {
-    changed(command_of(alloc, "/bin/sh"), |command| {
-        add_words(command, &["-c", script, word])?;
-        set_all(command, variables)
-    })
+pub fn shell(alloc: Global, script: &str, word: &str) -> Result<Command, AllocError> {
+    changed(
+        command_of(alloc, "/bin/sh"),
+        |command| add_words(command, &["-c", script, word]),
+    )
 }
 
 /// Starts a command; the caller reads its output and errors.

@@ -10,8 +10,8 @@ mod copies;
 #[cfg(test)]
 mod hold;
 #[cfg(test)]
-mod looks;
-#[cfg(test)]
 mod nodes;
 #[cfg(test)]
 mod records;
+#[cfg(test)]
+mod sockets;

@@ -1,12 +1,10 @@
-//! The record of a node that runs as a process.
+//! The record of a node that runs as a process, as the reader of entries finds it.
 use crate::hold::hold;
 use crate::nodes::{
-    ABSENT, LINE, LOADED, begins, comes_to, in_folder, network_file, spawn_recorded, stops,
-    stops_with,
+    ABSENT, LINE, LOADED, comes_to, in_folder, network_file, start, stops, stops_with,
 };
 use flight_records::{Deed, Entry, EntryReader, Noted, StatePart};
 use node_recorder::{Side, network_name, record_name};
-use std::os::unix::fs::symlink;
 use std::process::Child;
 use std::test::Fail;
 use std::time::Duration;
@@ -150,20 +148,20 @@ fn record_of(rt: &HostRuntime, dir: &str, id: u16, side: Side) -> Result<Option<
     Ok(Some(fs::read(rt, name.as_str())?))
 }
 
-/// Starts node 0, which prints these lines first, and stops it after a while.
-fn run_alone(rt: &HostRuntime, dir: &str, lines: [&str; 2]) -> Result<(), Fail> {
-    let mut node = spawn_recorded(rt, dir, "0")?;
-    begins(rt, &mut node, lines)?;
+/// Starts node 0, which prints these lines first, and stops it after a while. It must have said exactly this on
+/// standard error.
+fn run_alone(rt: &HostRuntime, dir: &str, lines: [&str; 2], reported: &str) -> Result<(), Fail> {
+    let mut node = start(rt, dir, "0", lines)?;
     thread::sleep(rt, Duration::from_millis(200));
     hold(
-        stops(rt, dir, 0, &mut node)?,
-        "the node that records does not stop",
+        stops_with(rt, dir, 0, &mut node, reported)?,
+        "the node that records does not stop, or says something else",
     )
 }
 
-/// Whether the first file of node 0's record is one of so many starts.
-fn has_record(rt: &HostRuntime, dir: &str, starts: u32) -> Result<bool, Fail> {
-    match record_of(rt, dir, 0, Side::First)? {
+/// Whether a file of node 0's record is one of so many starts.
+fn has_record(rt: &HostRuntime, dir: &str, side: Side, starts: u32) -> Result<bool, Fail> {
+    match record_of(rt, dir, 0, side)? {
         Some(bytes) => Ok(is_of_one(bytes.as_slice(), starts)),
         None => Ok(false),
     }
@@ -187,88 +185,96 @@ fn has_network(rt: &HostRuntime, dir: &str) -> Result<bool, Fail> {
     Ok(kept.as_slice() == text.as_slice())
 }
 
-/// Node 0 ran alone, and runs once more: its record goes on in the same file, after what was there.
-fn run_on(rt: &HostRuntime, dir: &str, was: &[u8]) -> Result<(), Fail> {
-    run_alone(rt, dir, LOADED)?;
+/// Node 0 ran alone, and runs for this time: its record goes on in the same file, after what was there.
+fn run_on(rt: &HostRuntime, dir: &str, was: &[u8], starts: u32) -> Result<(), Fail> {
+    run_alone(rt, dir, LOADED, "")?;
     let now = record_of(rt, dir, 0, Side::First)?;
     hold(
         now.is_some_and(|now| now.as_slice().starts_with(was)),
         "what was in the file has changed",
     )?;
-    hold(has_record(rt, dir, 2)?, "the file is no whole record")?;
+    hold(
+        has_record(rt, dir, Side::First, starts)?,
+        "the file is no whole record",
+    )?;
     hold(has_only(rt, dir, 4)?, "there are other files too")
+}
+
+/// The record of node 0.
+fn first_record(rt: &HostRuntime, dir: &str) -> Result<Vec<u8>, Fail> {
+    Ok(record_of(rt, dir, 0, Side::First)?.unwrap_or(Vec::new(rt.alloc())))
 }
 
 /// Node 0 runs alone. Returns its record.
 fn record_once(rt: &HostRuntime, dir: &str) -> Result<Vec<u8>, Fail> {
-    run_alone(rt, dir, ABSENT)?;
-    hold(has_record(rt, dir, 1)?, "the file is no whole record")?;
+    run_alone(rt, dir, ABSENT, "")?;
+    hold(
+        has_record(rt, dir, Side::First, 1)?,
+        "the file is no whole record",
+    )?;
     hold(has_network(rt, dir)?, "the network is not kept")?;
     hold(has_only(rt, dir, 4)?, "there are other files already")?;
-    Ok(record_of(rt, dir, 0, Side::First)?.unwrap_or(Vec::new(rt.alloc())))
+    first_record(rt, dir)
 }
 
-/// Node 0 runs alone, and then once more.
-fn record_twice(rt: &HostRuntime, dir: &str) -> Result<(), Fail> {
-    let was = record_once(rt, dir)?;
-    run_on(rt, dir, was.as_slice())
-}
-
-#[test]
-fn a_record_goes_on_after_a_start(rt: HostRuntime) -> Result<(), Fail> {
-    in_folder(&rt, "recorded", LINE, |dir| record_twice(&rt, dir))
-}
-
-/// Node 0 runs alone, its record gets the first byte of a tick at its end, and it runs once more.
-fn record_after_half_an_entry(rt: &HostRuntime, dir: &str) -> Result<(), Fail> {
-    let was = record_once(rt, dir)?;
-    let name = record_name(rt.alloc(), dir, 0, Side::First)?;
-    let mut torn = fs::read(rt, name.as_str())?;
+/// The record of node 0, of two starts, gets the first byte of a tick at its end, and the node runs once more.
+fn run_on_after_half_an_entry(rt: &HostRuntime, dir: &str) -> Result<(), Fail> {
+    let was = first_record(rt, dir)?;
+    let mut torn = first_record(rt, dir)?;
     torn.push(7)?;
+    let name = record_name(rt.alloc(), dir, 0, Side::First)?;
     fs::write(rt, name.as_str(), torn.as_slice())?;
-    hold(!has_record(rt, dir, 1)?, "half an entry is read")?;
-    run_on(rt, dir, was.as_slice())
+    hold(
+        !has_record(rt, dir, Side::First, 2)?,
+        "half an entry is read",
+    )?;
+    run_on(rt, dir, was.as_slice(), 3)
+}
+
+/// Node 0 runs alone, then once more, and then after half an entry.
+fn record_thrice(rt: &HostRuntime, dir: &str) -> Result<(), Fail> {
+    let was = record_once(rt, dir)?;
+    run_on(rt, dir, was.as_slice(), 2)?;
+    run_on_after_half_an_entry(rt, dir)
 }
 
 #[test]
 fn a_record_goes_on_after_its_last_whole_entry(rt: HostRuntime) -> Result<(), Fail> {
-    in_folder(
-        &rt,
-        "torn",
-        LINE,
-        |dir| record_after_half_an_entry(&rt, dir),
-    )
+    in_folder(&rt, "recorded", LINE, |dir| record_thrice(&rt, dir))
 }
 
-/// Node 0 runs alone where its first file is no record: its record begins in the second one.
+/// Puts into a new folder a first file that is no record, and a folder in the place of the network.
+fn put_in_the_way(rt: &HostRuntime, dir: &str, first: &str, network: &str) -> Result<(), Fail> {
+    fs::create_dir(rt, dir)?;
+    fs::write(rt, first, "stays")?;
+    Ok(fs::create_dir(rt, network)?)
+}
+
+/// Node 0 runs alone where its first file is no record and its network cannot be kept: it says so, its record
+/// begins in the second file, and it leaves nothing else.
 fn record_beside(rt: &HostRuntime, dir: &str) -> Result<(), Fail> {
     let first = record_name(rt.alloc(), dir, 0, Side::First)?;
-    fs::create_dir(rt, dir)?;
-    fs::write(rt, first.as_str(), "stays")?;
-    run_alone(rt, dir, ABSENT)?;
+    let network = network_name(rt.alloc(), dir)?;
+    put_in_the_way(rt, dir, first.as_str(), network.as_str())?;
+    let reported = format!(in rt.alloc();
+        "tokentree: {network}: the network is not kept, so give it to gather by --network; the node runs on: \
+        Is a directory (os error 21)\n"
+    )?;
+    run_alone(rt, dir, ABSENT, reported.as_str())?;
     hold(
         fs::read(rt, first.as_str())?.as_slice() == b"stays".as_slice(),
         "the first file has changed",
     )?;
-    match record_of(rt, dir, 0, Side::Second)? {
-        Some(bytes) => hold(
-            is_of_one(bytes.as_slice(), 1),
-            "the second file is no whole record",
-        ),
-        None => hold(false, "there is no second file"),
-    }
+    hold(
+        has_record(rt, dir, Side::Second, 1)?,
+        "the second file is no whole record",
+    )?;
+    hold(has_only(rt, dir, 5)?, "there are other files too")
 }
 
 #[test]
 fn a_record_begins_beside_what_is_none(rt: HostRuntime) -> Result<(), Fail> {
     in_folder(&rt, "beside", LINE, |dir| record_beside(&rt, dir))
-}
-
-/// A node's process that keeps a record, once it is ready.
-fn start_recorded(rt: &HostRuntime, dir: &str, number: &str) -> Result<Child, Fail> {
-    let mut node = spawn_recorded(rt, dir, number)?;
-    begins(rt, &mut node, ABSENT)?;
-    Ok(node)
 }
 
 /// Whether there is such a record of a node that talked to another.
@@ -281,7 +287,7 @@ fn has_talked(rt: &HostRuntime, dir: &str, id: u16) -> Result<bool, Fail> {
 
 /// Node 1 joins node 0, and both stop.
 fn talk(rt: &HostRuntime, dir: &str, first: &mut Child) -> Result<(), Fail> {
-    let mut second = start_recorded(rt, dir, "1")?;
+    let mut second = start(rt, dir, "1", ABSENT)?;
     hold(
         comes_to(rt, dir, 1, 1)?,
         "node 1 does not come to its distance",
@@ -292,7 +298,7 @@ fn talk(rt: &HostRuntime, dir: &str, first: &mut Child) -> Result<(), Fail> {
 
 /// Nodes 0 and 1 run side by side.
 fn record_two(rt: &HostRuntime, dir: &str) -> Result<(), Fail> {
-    let mut first = start_recorded(rt, dir, "0")?;
+    let mut first = start(rt, dir, "0", ABSENT)?;
     talk(rt, dir, &mut first)?;
     hold(has_talked(rt, dir, 0)?, "node 0 has another record")?;
     hold(has_talked(rt, dir, 1)?, "node 1 has another record")
@@ -301,68 +307,4 @@ fn record_two(rt: &HostRuntime, dir: &str) -> Result<(), Fail> {
 #[test]
 fn records_have_what_two_nodes_did(rt: HostRuntime) -> Result<(), Fail> {
     in_folder(&rt, "talked", LINE, |dir| record_two(&rt, dir))
-}
-
-/// Puts symbolic links to a file of the folder in place of both files of node 0's record.
-fn link_elsewhere(rt: &HostRuntime, dir: &str, target: &str) -> Result<(), Fail> {
-    let first = record_name(rt.alloc(), dir, 0, Side::First)?;
-    let second = record_name(rt.alloc(), dir, 0, Side::Second)?;
-    fs::create_dir(rt, dir)?;
-    fs::write(rt, target, "stays")?;
-    symlink(rt, target, first.as_str())?;
-    Ok(symlink(rt, target, second.as_str())?)
-}
-
-/// Node 0 runs and stops, and says that its record ends.
-fn run_unrecorded(rt: &HostRuntime, dir: &str) -> Result<(), Fail> {
-    let reported = format!(in rt.alloc();
-        "tokentree: {dir}/record-0.0: the record ends, and the node runs on: it is no plain file\n"
-    )?;
-    run_and_report(rt, dir, reported.as_str())
-}
-
-/// Node 0 runs and stops, and has said exactly this.
-fn run_and_report(rt: &HostRuntime, dir: &str, reported: &str) -> Result<(), Fail> {
-    let mut node = start_recorded(rt, dir, "0")?;
-    hold(
-        stops_with(rt, dir, 0, &mut node, reported)?,
-        "the node does not stop, or says something else",
-    )
-}
-
-/// A record is not written through a symbolic link.
-fn follow_no_link(rt: &HostRuntime, dir: &str) -> Result<(), Fail> {
-    let target = format!(in rt.alloc(); "{dir}/target")?;
-    link_elsewhere(rt, dir, target.as_str())?;
-    run_unrecorded(rt, dir)?;
-    let now = fs::read(rt, target.as_str())?;
-    hold(
-        now.as_slice() == b"stays".as_slice(),
-        "the file to which the links lead has changed",
-    )
-}
-
-#[test]
-fn a_record_follows_no_symbolic_link(rt: HostRuntime) -> Result<(), Fail> {
-    in_folder(&rt, "linked", LINE, |dir| follow_no_link(&rt, dir))
-}
-
-/// If its network cannot be kept, since a folder is in its place, node 0 says so, records, and leaves nothing
-/// else.
-fn record_without_network(rt: &HostRuntime, dir: &str) -> Result<(), Fail> {
-    let name = network_name(rt.alloc(), dir)?;
-    fs::create_dir(rt, dir)?;
-    fs::create_dir(rt, name.as_str())?;
-    let reported = format!(in rt.alloc();
-        "tokentree: {name}: the network is not kept, so give it to gather by --network; the node runs on: \
-        Is a directory (os error 21)\n"
-    )?;
-    run_and_report(rt, dir, reported.as_str())?;
-    hold(has_record(rt, dir, 1)?, "the file is no whole record")?;
-    hold(has_only(rt, dir, 4)?, "there are other files too")
-}
-
-#[test]
-fn a_network_that_is_not_kept_is_named(rt: HostRuntime) -> Result<(), Fail> {
-    in_folder(&rt, "unkept", LINE, |dir| record_without_network(&rt, dir))
 }

@@ -1,28 +1,17 @@
 //! Judged runs of events: what they lead to was worked out by hand. A row gives its events as a
 //! text, a line each.
-use crate::texts::{FORGED, ROUND, round_of};
-use crate::worlds::{event_of, first_unlike, net_of, start};
-use run_model::{Event, EventFault};
+use crate::texts::ROUND;
+use crate::worlds::{event_of, start, two_nodes};
+use run_model::Event;
 use std::alloc::{AllocFailed, Allocator, Global};
 use std::test::Fail;
 use test_parts::as_expected;
 use world::report::{Report, judge};
 use world::{Judge, World};
 
-mod long_runs;
 mod memory;
 mod parts;
 mod replay;
-mod three_rounds;
-
-/// The distance and parent of the far one of two nodes, and whether it is privileged.
-fn far<A: Allocator + Copy>(world: &World<A>) -> Option<(u16, Option<u16>, bool)> {
-    if world.net().nodes() < 2 {
-        return None;
-    }
-    let node = world.node(1);
-    Some((node.distance(), node.parent(), node.privileged()))
-}
 
 /// Lets the event of a line happen to a judge's world, and returns how many tallies the judge
 /// looked at; none if the event is refused, or the line spells none.
@@ -33,7 +22,7 @@ fn looked<A: Allocator + Copy>(judge: &mut Judge<A>, line: &str) -> Option<u32> 
 
 /// The default world of two nodes over links of one place.
 fn world_of_two<A: Allocator + Copy>(alloc: Global, of: A) -> Result<World<A>, Fail> {
-    let net = net_of(alloc, 2, 0, &[(0, 1)])?;
+    let net = two_nodes(alloc)?;
     Ok(start(of, &net)?)
 }
 
@@ -50,13 +39,6 @@ fn push_events(events: &mut Vec<Event>, text: &str) -> Result<(), AllocFailed<Ev
         }
     }
     Ok(())
-}
-
-/// The events of a text.
-fn events_of(alloc: Global, text: &str) -> Result<Vec<Event>, Fail> {
-    let mut events = Vec::new(alloc);
-    push_events(&mut events, text)?;
-    Ok(events)
 }
 
 /// The events of `rounds` rounds of two nodes over links of one place, then of a text.
@@ -164,42 +146,6 @@ const SERVING: [(usize, &str, Counts); 5] = [
 #[test]
 fn what_serves_and_what_does_not(rt: HostRuntime) -> Result<(), Fail> {
     as_expected(first_miscounted(rt.alloc(), &SERVING), &None)
-}
-
-/// The default world of three nodes in a line.
-fn world_of_three(alloc: Global) -> Result<World, Fail> {
-    let net = net_of(alloc, 3, 0, &[(0, 1), (1, 2)])?;
-    Ok(start(alloc, &net)?)
-}
-
-/// What happens to three nodes in a line, and their answers.
-const REFUSED: [(&str, Result<(), EventFault>); 15] = [
-    ("tick 3", Err(EventFault::NoNode)),
-    ("send 0 2", Err(EventFault::NoLink)),
-    ("lose 0 1 0", Err(EventFault::NoItem)),
-    ("send 0 1", Ok(())),
-    ("send 0 1", Ok(())),
-    ("harm junk 0 1", Err(EventFault::OutOfRange)),
-    ("lose 0 1 0", Ok(())),
-    ("take 0 1", Ok(())),
-    ("harm junk 0 1", Ok(())),
-    ("harm empty 0 1", Ok(())),
-    ("harm own 0 4 none", Err(EventFault::OutOfRange)),
-    ("ask 0 5", Ok(())),
-    ("ask 0 5", Err(EventFault::Twice)),
-    ("leave 0 6", Err(EventFault::Stranger)),
-    ("leave 0 5", Ok(())),
-];
-
-/// The place of the first line that three nodes in a line answer otherwise, if any.
-fn first_unlike_of_three(alloc: Global) -> Result<Option<usize>, Fail> {
-    let mut world = world_of_three(alloc)?;
-    Ok(first_unlike(&mut world, &REFUSED))
-}
-
-#[test]
-fn each_refusal_has_its_name(rt: HostRuntime) -> Result<(), Fail> {
-    as_expected(first_unlike_of_three(rt.alloc()), &None)
 }
 
 /// A round and a harm after it, each event with the number of tallies that a judge looks at.

@@ -1,9 +1,10 @@
 //! Worked runs: what whole networks do, event by event, judged and reported. Every expected value
 //! was computed by hand.
 //!
-//! It has tests of the events text, of worlds and their judge, and of woven lists; and what these
-//! share with the tests of simulations, in `worked_simulations`. They have a crate of their own,
-//! since the tests of a crate prove all of that crate once more. The rows of single layers are in
+//! It has only tests: of the events text, of worlds and their judge, of woven lists, and of
+//! simulations in which a call fails or a text is too long. They have a crate of their own, since
+//! the tests of a crate prove all of that crate once more. Texts of events, and the states that
+//! they lead to, are in the scripts of `worked_scripts`; the rows of single layers are in
 //! `worked_rows`.
 #![tactic(auto)]
 
@@ -13,7 +14,11 @@ mod events;
 mod judged;
 #[cfg(test)]
 mod no_memory;
-pub mod texts;
-pub mod worlds;
+#[cfg(test)]
+mod simulated;
+#[cfg(test)]
+mod texts;
+#[cfg(test)]
+mod worlds;
 #[cfg(test)]
 mod woven;

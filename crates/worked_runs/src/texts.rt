@@ -1,4 +1,4 @@
-//! Texts of events that the rows of runs share.
+//! Texts of events, and of a state, that rows of runs give or expect.
 use std::alloc::{AllocError, Global};
 use std::fmt::Write;
 use topology::Net;

@@ -6,29 +6,19 @@ use topology::{Net, NetFault};
 use world::World;
 use world::events::parse_line;
 
-/// A network whose links hold one item, with node 0 as its root.
-pub fn net_of(
-    alloc: Global,
-    nodes: i64,
-    lease: i64,
-    edges: &[(i64, i64)],
-) -> Result<Net, NetFault> {
-    Net::make(alloc, nodes, 0, 1, lease, edges)
+/// Two nodes over links of one place.
+pub fn two_nodes(alloc: Global) -> Result<Net, NetFault> {
+    Net::make(alloc, 2, 0, 1, 0, &[(0, 1)])
 }
 
-/// A square: node 3 lies opposite the root.
+/// A square over links of one place: node 3 lies opposite the root.
 pub fn square(alloc: Global) -> Result<Net, NetFault> {
-    net_of(alloc, 4, 0, &[(0, 1), (0, 2), (1, 3), (2, 3)])
+    Net::make(alloc, 4, 0, 1, 0, &[(0, 1), (0, 2), (1, 3), (2, 3)])
 }
 
 /// A network's default world.
 pub fn start<A: Allocator + Copy>(alloc: A, net: &Net) -> Result<World<A>, AllocError> {
     World::new(alloc, net)
-}
-
-/// A network's default world with the spare pairs of links that a simulation has.
-pub fn simulated_start<A: Allocator + Copy>(alloc: A, net: &Net) -> Result<World<A>, AllocError> {
-    World::with_spares(alloc, net, 8)
 }
 
 /// The event that a line spells.

@@ -1,5 +1,6 @@
 //! A judge takes no memory.
 use super::*;
+use crate::texts::FORGED;
 use crate::worlds::happen;
 use linked_list_allocator::LocalHeap;
 use std::test::Fail;
@@ -117,13 +118,13 @@ fn least_heap(alloc: Global, net: &Net, round: &[Event]) -> Result<Option<LeastH
 
 /// The same for two nodes.
 fn least_heap_of_two(alloc: Global, round: &[Event]) -> Result<Option<LeastHeap>, Fail> {
-    let net = net_of(alloc, 2, 0, &[(0, 1)])?;
+    let net = two_nodes(alloc)?;
     least_heap(alloc, &net, round)
 }
 
 /// The same for their round.
 fn least_heap_of_round(alloc: Global) -> Result<Option<LeastHeap>, Fail> {
-    let round = events_of(alloc, ROUND)?;
+    let round = events_after(alloc, 1, "")?;
     least_heap_of_two(alloc, &round)
 }
 

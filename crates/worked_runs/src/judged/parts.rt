@@ -5,6 +5,15 @@ use linked_list_allocator::LocalHeap;
 use std::test::Fail;
 use test_parts::{as_expected, on_full};
 
+/// The distance and parent of the far one of two nodes, and whether it is privileged.
+fn far<A: Allocator + Copy>(world: &World<A>) -> Option<(u16, Option<u16>, bool)> {
+    if world.net().nodes() < 2 {
+        return None;
+    }
+    let node = world.node(1);
+    Some((node.distance(), node.parent(), node.privileged()))
+}
+
 /// Takes a world apart and puts it together again. Returns how many nodes and edges its parts had.
 fn taken_apart<A: Allocator + Copy>(world: World<A>) -> (World<A>, usize, usize) {
     let parts = world.into_parts();

@@ -1,6 +1,8 @@
 //! A long run that is judged twice: by a judge, and directly by the definition of a sweep. After
 //! each event the sweeps, the nodes without a full tick and the tallies of all links are the same.
 use super::*;
+use crate::texts::round_of;
+use crate::worlds::square;
 use std::test::Fail;
 use test_parts::is_expected;
 use topology::Net;
@@ -229,7 +231,7 @@ fn compared_on_square(
     count: usize,
     least: u64,
 ) -> Result<(usize, Option<usize>, bool), Fail> {
-    let net = net_of(alloc, 4, 0, &[(0, 1), (0, 2), (1, 3), (2, 3)])?;
+    let net = square(alloc)?;
     let (events, difference, sweeps) = compared_on(alloc, &net, count)?;
     Ok((events, difference, sweeps >= least))
 }
