@@ -8,7 +8,7 @@ use Rattle.clap.specs.declared.builder.action.ArgAction.TheVariants.{Set, Append
 use Rattle.clap.specs.declared.builder.arg.Arg.{Arg}
 use Rattle.command_grammar.specs.declared.grammar.Parameter.{Parameter}
 use Rattle.command_grammar.specs.declared.grammar.Parameter.TheVariants.{Place, Places, Rest, Value, ValueOr, Flag}
-use Rattle.command_grammar.specs.declared.grammar.Parameter.TheVariants.{HiddenFlag, HiddenValue}
+use Rattle.command_grammar.specs.declared.grammar.Parameter.TheVariants.{HiddenFlag}
 
 -- an option that is given as `--` and its id, with one value
 abbrev pub valued : List ℕ → Rule
@@ -31,7 +31,6 @@ rule_for (Value id name help) = record (valued id.now) { value_names = 1 }
 rule_for (ValueOr id name default help) = record (valued id.now) { value_names = 1; defaults = default.now ∷ [] }
 rule_for (Flag id help) = flag id.now
 rule_for (HiddenFlag id) = flag id.now
-rule_for (HiddenValue id) = valued id.now
 
 -- what the help says of it
 abbrev pub help_for : Parameter → List ℕ
@@ -42,12 +41,10 @@ help_for (Value id name help) = help.now
 help_for (ValueOr id name default help) = help.now
 help_for (Flag id help) = help.now
 help_for (HiddenFlag id) = []
-help_for (HiddenValue id) = []
 
 -- the help leaves it out
 abbrev pub is_hidden : Parameter → Bool
 is_hidden (HiddenFlag id) = true
-is_hidden (HiddenValue id) = true
 is_hidden _ = false
 
 -- the argument has the rule and the help of the parameter

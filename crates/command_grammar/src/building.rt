@@ -93,7 +93,6 @@ fn shaped<'a>(alloc: Global, parameter: Parameter<'a>) -> Arg<'a>
         Parameter::Flag(id, _) | Parameter::HiddenFlag(id) => {
             Arg::new(alloc, id).long(id).action(ArgAction::SetTrue)
         }
-        Parameter::HiddenValue(id) => valued(alloc, id),
     }
 }
 

@@ -4,7 +4,7 @@ ghost use Rattle.command_grammar.specs.Parsers.{help_for, is_hidden};
 
 /// A parameter of a command. Each names its id first, and its help last; an option or a flag is
 /// given as `--` and its id.
-#[derive(Clone, Copy, Debug)]
+#[derive(Clone, Copy)]
 pub enum Parameter<'a> {
     /// A word in its place, which must be given.
     Place(&'a str, &'a str),
@@ -20,8 +20,6 @@ pub enum Parameter<'a> {
     Flag(&'a str, &'a str),
     /// A flag that the help does not show.
     HiddenFlag(&'a str),
-    /// An option with a value that the help does not show.
-    HiddenValue(&'a str),
 }
 
 impl<'a> Parameter<'a> {
@@ -36,7 +34,7 @@ impl<'a> Parameter<'a> {
             | Parameter::Flag(_, help)
             | Parameter::Value(_, _, help)
             | Parameter::ValueOr(_, _, _, help) => help,
-            Parameter::HiddenFlag(_) | Parameter::HiddenValue(_) => "",
+            Parameter::HiddenFlag(_) => "",
         }
     }
 
@@ -44,12 +42,12 @@ impl<'a> Parameter<'a> {
     pub fn is_hidden(&self) -> bool
         ensures { result ≡ is_hidden self.now }
     {
-        matches!(self, Parameter::HiddenFlag(_) | Parameter::HiddenValue(_))
+        matches!(self, Parameter::HiddenFlag(_))
     }
 }
 
 /// Parameters of which exactly one must be given.
-#[derive(Clone, Copy, Debug)]
+#[derive(Clone, Copy)]
 pub struct Choice<'a> {
     /// The name of the choice, which no parameter has.
     pub name: &'a str,
@@ -58,7 +56,7 @@ pub struct Choice<'a> {
 }
 
 /// A command.
-#[derive(Clone, Copy, Debug)]
+#[derive(Clone, Copy)]
 pub struct Grammar<'a> {
     /// The word by which it is called.
     pub name: &'a str,
@@ -78,7 +76,7 @@ pub struct Grammar<'a> {
 
 /// A program of several commands, of which a command line must name one. They are added to its parser
 /// one by one, since a constant with all of them is long to prove anything about.
-#[derive(Clone, Copy, Debug)]
+#[derive(Clone, Copy)]
 pub struct Program<'a> {
     /// Its name.
     pub name: &'a str,

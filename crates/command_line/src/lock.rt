@@ -40,8 +40,6 @@ const LOCK: Grammar<'static> = Grammar {
         // The program starts its own guard with it.
         Parameter::HiddenFlag("guard"),
         Parameter::HiddenFlag("guard-keeping"),
-        // A test program becomes a guard with this word.
-        Parameter::HiddenValue("guard-as"),
         Parameter::Place("DIR", SOCKETS_FOLDER),
         Parameter::Place(
             "ID",
@@ -223,7 +221,7 @@ fn request<'a>(given: &'a ArgMatches, command: &'a [&'a str]) -> Result<Request<
         is_verbose: given.get_flag("verbose"),
         keeps_running,
         waits_for_children: given.get_flag("wait-children"),
-        guard: given.get_strs("guard-as").unwrap_or(guard),
+        guard,
         command,
     })
 }

@@ -18,14 +18,46 @@ impl fmt::Display for EventLine {
 
     fn fmt<W: fmt::Write>(&self, f: &mut fmt::Formatter<W>) -> fmt::Result {
         match self.0 {
-            Event::Send { from, to } => write!(f, "send {from} {to}"),
-            Event::Take { from, to } => write!(f, "take {from} {to}"),
-            Event::Lose { from, to, item } => write!(f, "lose {from} {to} {item}"),
+            Event::Send { from, to } => TwoNumbers("send", from, to).fmt(f),
+            Event::Take { from, to } => TwoNumbers("take", from, to).fmt(f),
+            Event::Lose { from, to, item } => ThreeNumbers("lose", from, to, item).fmt(f),
             Event::Tick { node } => write!(f, "tick {node}"),
-            Event::Ask { node, ticket } => write!(f, "ask {node} {ticket}"),
-            Event::Leave { node, ticket } => write!(f, "leave {node} {ticket}"),
+            Event::Ask { node, ticket } => TwoNumbers("ask", node, ticket).fmt(f),
+            Event::Leave { node, ticket } => TwoNumbers("leave", node, ticket).fmt(f),
             Event::Damage(harm) => write!(f, "harm {}", HarmWords(harm)),
         }
+    }
+}
+
+/// A word and two numbers.
+#[derive(Clone, Copy)]
+struct TwoNumbers(&'static str, u16, u16);
+
+impl fmt::Display for TwoNumbers {
+    ghost use Rattle.std.specs.Prelude.{Some, ◌∷◌, []};
+    ghost use Rattle.std.specs.Fmt.{decimal};
+    ghost use Rattle.std.specs.List.{join_with_byte};
+
+    ghost output = { λ w. Some (join_with_byte 32 (w.0.now ∷ decimal w.1 ∷ decimal w.2 ∷ [])) };
+
+    fn fmt<W: fmt::Write>(&self, f: &mut fmt::Formatter<W>) -> fmt::Result {
+        write!(f, "{} {} {}", self.0, self.1, self.2)
+    }
+}
+
+/// A word and three numbers.
+#[derive(Clone, Copy)]
+struct ThreeNumbers(&'static str, u16, u16, u16);
+
+impl fmt::Display for ThreeNumbers {
+    ghost use Rattle.std.specs.Prelude.{Some, ◌∷◌, []};
+    ghost use Rattle.std.specs.Fmt.{decimal};
+    ghost use Rattle.std.specs.List.{join_with_byte};
+
+    ghost output = { λ w. Some (join_with_byte 32 (w.0.now ∷ decimal w.1 ∷ decimal w.2 ∷ decimal w.3 ∷ [])) };
+
+    fn fmt<W: fmt::Write>(&self, f: &mut fmt::Formatter<W>) -> fmt::Result {
+        write!(f, "{} {} {} {}", self.0, self.1, self.2, self.3)
     }
 }
 
@@ -46,44 +78,167 @@ impl fmt::Display for HarmWords {
                 node,
                 distance,
                 parent,
-            } => write!(f, "own {node} {distance} {}", NumberOrNone(parent)),
+            } => OwnWords {
+                node,
+                distance,
+                parent,
+            }
+            .fmt(f),
             Harm::Counters {
                 node,
                 neighbour,
                 seq,
                 last,
-            } => write!(f, "counters {node} {neighbour} {seq} {last}"),
+            } => CounterWords {
+                node,
+                neighbour,
+                seq,
+                last,
+            }
+            .fmt(f),
             Harm::Staged {
                 node,
                 neighbour,
                 payload,
-            } => write!(f, "staged {node} {neighbour} {}", PayloadWords(payload)),
+            } => PortWords("staged", node, neighbour, payload).fmt(f),
             Harm::Copy {
                 node,
                 neighbour,
                 payload,
-            } => write!(f, "copy {node} {neighbour} {}", PayloadWords(payload)),
+            } => PortWords("copy", node, neighbour, payload).fmt(f),
             Harm::Value {
                 node,
                 neighbour,
                 value,
-            } => write!(f, "value {node} {neighbour} {value}"),
+            } => ThreeNumbers("value", node, neighbour, value).fmt(f),
             Harm::Desk {
                 node,
                 lent,
                 left,
                 served,
-            } => write!(
-                f,
-                "desk {node} {} {left} {}",
-                NumberOrNone(lent),
-                YesOrNo(served)
-            ),
-            Harm::Item { from, to, item } => write!(f, "{}", ItemWords { from, to, item }),
-            Harm::Empty { from, to } => write!(f, "empty {from} {to}"),
-            Harm::Join { node, neighbour } => write!(f, "join {node} {neighbour}"),
-            Harm::Part { node, neighbour } => write!(f, "part {node} {neighbour}"),
+            } => DeskWords {
+                node,
+                lent,
+                left,
+                served,
+            }
+            .fmt(f),
+            Harm::Item { from, to, item } => ItemWords { from, to, item }.fmt(f),
+            Harm::Empty { from, to } => TwoNumbers("empty", from, to).fmt(f),
+            Harm::Join { node, neighbour } => TwoNumbers("join", node, neighbour).fmt(f),
+            Harm::Part { node, neighbour } => TwoNumbers("part", node, neighbour).fmt(f),
         }
+    }
+}
+
+/// What a node says of itself after a harm, which prints as the words after `harm`.
+#[derive(Clone, Copy)]
+struct OwnWords {
+    node: u16,
+    distance: u16,
+    parent: Option<u16>,
+}
+
+impl fmt::Display for OwnWords {
+    ghost use Rattle.std.specs.Prelude.{Some};
+    ghost use Rattle.std.specs.List.{join_with_byte};
+    ghost use Rattle.run_model.specs.declared.event.Harm.TheVariants as harm;
+    ghost use Rattle.events_text.specs.EventLaws.{harm_words};
+
+    ghost output = { λ w. Some (join_with_byte 32 (harm_words (harm.Own w.node w.distance w.parent))) };
+
+    fn fmt<W: fmt::Write>(&self, f: &mut fmt::Formatter<W>) -> fmt::Result {
+        let OwnWords {
+            node,
+            distance,
+            parent,
+        } = *self;
+        write!(f, "own {node} {distance} {}", NumberOrNone(parent))
+    }
+}
+
+/// The numbers of a port after a harm, which print as the words after `harm`.
+#[derive(Clone, Copy)]
+struct CounterWords {
+    node: u16,
+    neighbour: u16,
+    seq: u16,
+    last: u16,
+}
+
+impl fmt::Display for CounterWords {
+    ghost use Rattle.std.specs.Prelude.{Some};
+    ghost use Rattle.std.specs.List.{join_with_byte};
+    ghost use Rattle.run_model.specs.declared.event.Harm.TheVariants as harm;
+    ghost use Rattle.events_text.specs.EventLaws.{harm_words};
+
+    ghost output = { λ w. Some (join_with_byte 32 (harm_words (harm.Counters w.node w.neighbour w.seq w.last))) };
+
+    fn fmt<W: fmt::Write>(&self, f: &mut fmt::Formatter<W>) -> fmt::Result {
+        let CounterWords {
+            node,
+            neighbour,
+            seq,
+            last,
+        } = *self;
+        write!(f, "counters {node} {neighbour} {seq} {last}")
+    }
+}
+
+/// A word, a node, its neighbour and a payload.
+#[derive(Clone, Copy)]
+struct PortWords(&'static str, u16, u16, Payload);
+
+impl fmt::Display for PortWords {
+    ghost use Rattle.std.specs.Prelude.{Some, ◌∷◌};
+    ghost use Rattle.std.specs.Fmt.{decimal};
+    ghost use Rattle.std.specs.List.{join_with_byte};
+    ghost use Rattle.events_text.specs.EventLaws.{payload_words};
+
+    ghost output = { λ w. Some (join_with_byte 32 (w.0.now ∷ decimal w.1 ∷ decimal w.2 ∷ payload_words w.3)) };
+
+    fn fmt<W: fmt::Write>(&self, f: &mut fmt::Formatter<W>) -> fmt::Result {
+        write!(
+            f,
+            "{} {} {} {}",
+            self.0,
+            self.1,
+            self.2,
+            PayloadWords(self.3)
+        )
+    }
+}
+
+/// A desk after a harm, which prints as the words after `harm`.
+#[derive(Clone, Copy)]
+struct DeskWords {
+    node: u16,
+    lent: Option<u16>,
+    left: u16,
+    served: bool,
+}
+
+impl fmt::Display for DeskWords {
+    ghost use Rattle.std.specs.Prelude.{Some};
+    ghost use Rattle.std.specs.List.{join_with_byte};
+    ghost use Rattle.run_model.specs.declared.event.Harm.TheVariants as harm;
+    ghost use Rattle.events_text.specs.EventLaws.{harm_words};
+
+    ghost output = { λ w. Some (join_with_byte 32 (harm_words (harm.Desk w.node w.lent w.left w.served))) };
+
+    fn fmt<W: fmt::Write>(&self, f: &mut fmt::Formatter<W>) -> fmt::Result {
+        let DeskWords {
+            node,
+            lent,
+            left,
+            served,
+        } = *self;
+        write!(
+            f,
+            "desk {node} {} {left} {}",
+            NumberOrNone(lent),
+            YesOrNo(served)
+        )
     }
 }
 

@@ -1,4 +1,4 @@
--- Why a file is no network file, before it is read, and why one cannot be made.
+-- Why a file is no network file, before it is read, why one cannot be made, and of which to open it may wait.
 use Rattle.std.specs.Prelude.{ℕ, List, Bool, true, nat_lt, if◌then◌else◌, Option, Some, None, Result, Ok, codes}
 use Rattle.std.specs.Fs.{IsDir, IsFile, file_type}
 use Rattle.std.specs.declared.fs.Metadata.{Metadata}
@@ -22,3 +22,8 @@ unmade_text _ _ = None
 abbrev pub AreSwapped : Result Metadata Error → Result Metadata Error → Type 0
 AreSwapped (Ok file) (Ok dir) = IsDir (file_type file) × IsFile (file_type dir)
 AreSwapped _ _ = ⊥
+
+-- by what the system says of it, it is there, and neither a plain file nor a folder: to open a pipe waits for its other end
+abbrev pub MayWait : Result Metadata Error → Type 0
+MayWait (Ok found) = (¬ IsFile (file_type found)) × (¬ IsDir (file_type found))
+MayWait _ = ⊥

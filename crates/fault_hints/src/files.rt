@@ -1,6 +1,6 @@
 //! Files that are refused.
 ghost use Rattle.std.specs.Prelude.{◌≡◌, ◌↔◌, IsTrue, option_map};
-ghost use Rattle.fault_hints.specs.Kinds.{kind_text, unmade_text, AreSwapped};
+ghost use Rattle.fault_hints.specs.Kinds.{kind_text, unmade_text, AreSwapped, MayWait};
 
 use network_file::NetworkFault;
 use network_hints::hint;
@@ -88,13 +88,27 @@ pub fn explain_reading<R: Files + Eprint>(rt: &R, path: &str) {
 }
 
 /// Says what the system said of a file that cannot be written, if it says so still. Of one that is not
-/// there, though its folder is, the system would say just that; so this says that none can be made.
+/// there, though its folder is, the system would say just that; so this says that none can be made. Of a
+/// pipe or a device it says nothing: to open a pipe would wait for whoever reads it.
 pub fn explain_writing<R: Files + Eprint>(rt: &R, path: &str) {
+    if may_wait(&fs::metadata(rt, path)) {
+        return;
+    }
     if let Err(error) = OpenOptions::new().write(true).open(rt, path) {
         match unmade(error.kind(), has_folder(rt, path)) {
             Some(what) => say(rt, path, what),
             None => say(rt, path, error),
         }
+    }
+}
+
+/// Whether to open it may wait for another process: it is there, and neither a plain file nor a folder.
+fn may_wait(found: &io::Result<Metadata>) -> bool
+    ensures { IsTrue result ↔ MayWait found.now }
+{
+    match found {
+        Ok(found) => !found.is_file() && !found.is_dir(),
+        Err(_) => false,
     }
 }
 

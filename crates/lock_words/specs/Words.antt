@@ -19,8 +19,7 @@ is_option word = nat_lt 1 (length word) && starts_with (λ a b. a == b) word (co
 -- the next word is its value
 abbrev pub takes_value : List ℕ → Bool
 takes_value word =
-    bytes_eq word (codes "--timeout") || bytes_eq word (codes "--lost-status")
-    || bytes_eq word (codes "-E") || bytes_eq word (codes "--guard-as")
+    bytes_eq word (codes "--timeout") || bytes_eq word (codes "--lost-status") || bytes_eq word (codes "-E")
 
 -- `any`, or a number
 abbrev pub is_node_name : List ℕ → Bool

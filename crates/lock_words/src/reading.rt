@@ -127,7 +127,7 @@ fn is_option(word: &str) -> bool
 fn takes_value(word: &str) -> bool
     ensures { result ≡ takes_value word.now }
 {
-    matches!(word, "--timeout" | "--lost-status" | "-E" | "--guard-as")
+    matches!(word, "--timeout" | "--lost-status" | "-E")
 }
 
 /// Whether a word may be an ID: `any`, or a number.
