@@ -4,7 +4,7 @@
 //! It has only tests, a module for each layer, named for its crate: `bfs_tree_rows` for
 //! `bfs_tree`. They have a crate of their own, since the tests of a crate prove all of that crate
 //! once more. The rows of whole networks are in `worked_runs`, those of commands in
-//! `worked_commands` and `worked_program`.
+//! `worked_commands` and `worked_scripts`.
 #![tactic(auto)]
 
 #[cfg(test)]
