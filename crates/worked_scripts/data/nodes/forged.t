@@ -8,7 +8,7 @@ the number of the frame that came last. They are sent before node 1 starts, so n
   $ { printf "$forged"; sleep 0.3; } | tokentree --send-to run/node-0.sock
   $ start 1 --record
   $ serves 0 0; serves 1 1; serves 2 1
-  $ kill -9 "$process_1"; wait "$process_1"; start 1 --record
+  $ kill_node 1; start 1 --record
   $ serves 0 0; serves 1 1; serves 2 1
   $ tokentree status run | resting
   node 0 distance 0 parent none

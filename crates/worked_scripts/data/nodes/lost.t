@@ -19,10 +19,11 @@ While a client holds the lock at node 0, nobody gets it at node 2.
 
 Node 1 is killed while a command has the lock.
 
-  $ tokentree lock run 1 sh -c 'echo >held; exec sleep 50' & locker=$!
+  $ tokentree lock run 1 sh -c 'echo >held; exec sleep 50' 2>lost & locker=$!
   $ at_last test -e held; kill -9 "$process_1"; wait "$locker"
-  tokentree: the lock is lost, since node 1 went away: the command is ended
   [122]
+  $ cat lost
+  tokentree: the lock is lost, since node 1 went away: the command is ended
   $ tokentree status run | grep 'node 1'; tokentree status run >all
   node 1 no answer
   [1]

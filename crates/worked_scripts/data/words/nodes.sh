@@ -42,9 +42,14 @@ stands() {
     tokentree status run 2>/dev/null | grep -q "^node $1 distance $2 "
 }
 
-# serves ID DISTANCE: waits until a node is this far from the root, and takes the lock at it once.
+# lends ID: whether a node lends the lock, and does not lose it meanwhile.
+lends() {
+    tokentree lock run "$1" true 2>/dev/null
+}
+
+# serves ID DISTANCE: waits until a node is this far from the root, and lends the lock.
 serves() {
-    at_last stands "$1" "$2" && tokentree lock run "$1" true
+    at_last stands "$1" "$2" && at_last lends "$1"
 }
 
 # loans: takes the lock at the root until ten loans in a row were not lost, so that the network has recovered from its
@@ -57,7 +62,7 @@ loans() {
     while [ "$count" -lt 10 ]; do
         asked=$((asked + 1))
         [ "$asked" -le 1000 ] || { echo "lost again and again"; return 1; }
-        if tokentree lock run 0 true 2>/dev/null; then count=$((count + 1)); else count=0; fi
+        if lends 0; then count=$((count + 1)); else count=0; fi
     done
 }
 
