@@ -5,6 +5,7 @@ ghost use Rattle.held_signals.specs.Signals.{no_signals};
 use held_signals::{Signals, state_now};
 use mio::{Events, Poll, Token};
 use node_keeping::UpSights;
+use std::alloc::Global;
 use std::io::Input;
 use std::net::Net as Sockets;
 use std::os::unix::process::ExitStatusExt;
@@ -48,12 +49,12 @@ impl<P: OpenProcess + Drop> Asks<P> {
         ensures { IfOk result (λ asks. asks.beside ≡ None) }
     {
         let poll = Poll::new(rt)?;
-        let watches_input = watch_input(poll.registry(), INPUT, true).is_ok();
+        let events = Events::with_capacity(rt.alloc(), 1)?;
         Ok(Asks {
-            poll,
-            events: Events::with_capacity(rt.alloc(), 1)?,
-            watches_input,
+            watches_input: can_watch(&poll, true),
             holds_signals_back: state_now(rt).blocked.any(),
+            poll,
+            events,
             beside: None,
         })
     }
@@ -88,17 +89,12 @@ impl<P: OpenProcess + Drop> Asks<P> {
         ensures stays { (self.new.holds_signals_back ≡ self.old.holds_signals_back)
             × (self.new.beside ≡ self.old.beside) }
     {
-        let rest = Duration::from_millis(LOOK);
-        if self.poll.poll(&mut self.events, Some(rest)).is_err() {
-            thread::sleep(rt, rest);
-            return false;
-        }
-        if self.events.is_empty() || !self.watches_input {
+        let has_event = await_event(rt, &mut self.poll, &mut self.events);
+        if !has_event || !self.watches_input {
             return false;
         }
         let sight = read_input(rt);
-        self.watches_input = sight == InputSight::Open
-            && watch_input(self.poll.registry(), INPUT, false).is_ok();
+        self.watches_input = sight == InputSight::Open && can_watch(&self.poll, false);
         sight == InputSight::Ended
     }
 
@@ -107,7 +103,7 @@ impl<P: OpenProcess + Drop> Asks<P> {
         ensures { self.new.holds_signals_back ≡ self.old.holds_signals_back }
     {
         if self.beside.is_none() && self.holds_signals_back {
-            self.beside = sleeper(rt).ok();
+            begin_sleeper(rt, &mut self.beside);
         }
         thread::sleep(rt, Duration::from_millis(LOOK_AT_END));
     }
@@ -129,10 +125,7 @@ impl<P: OpenProcess + Drop> Asks<P> {
         ensures stays { self.new.holds_signals_back ≡ self.old.holds_signals_back }
     {
         match &mut self.beside {
-            Some(child) => match child.try_wait() {
-                Ok(Some(status)) => status.signal().is_some(),
-                Ok(None) | Err(_) => false,
-            },
+            Some(child) => was_ended_by_signal(child),
             None => false,
         }
     }
@@ -140,16 +133,56 @@ impl<P: OpenProcess + Drop> Asks<P> {
     /// Ends the process beside this one.
     pub fn close(&mut self) {
         if let Some(child) = &mut self.beside {
-            let _ = child.kill();
-            let _ = child.wait();
+            end_process(child);
         }
     }
 }
 
+/// Whether this poll waits for standard input from now on. `is_first` is whether it did not before.
+fn can_watch(poll: &Poll, is_first: bool) -> bool {
+    watch_input(poll.registry(), INPUT, is_first).is_ok()
+}
+
+/// Waits for at most one look, and says whether there is an event.
+fn await_event<R: Clock>(rt: &R, poll: &mut Poll, events: &mut Events) -> bool {
+    let rest = Duration::from_millis(LOOK);
+    if poll.poll(events, Some(rest)).is_ok() {
+        !events.is_empty()
+    } else {
+        thread::sleep(rt, rest);
+        false
+    }
+}
+
+/// Whether a signal ended this process.
+fn was_ended_by_signal<P: OpenProcess + Drop>(child: &mut Child<P>) -> bool {
+    match child.try_wait() {
+        Ok(Some(status)) => status.signal().is_some(),
+        Ok(None) | Err(_) => false,
+    }
+}
+
+/// Ends this process.
+fn end_process<P: OpenProcess + Drop>(child: &mut Child<P>) {
+    let _ = child.kill();
+    let _ = child.wait();
+}
+
+/// Starts a process that waits, and holds no signal back, if that can be done.
+fn begin_sleeper<R: Processes + AllocGlobal>(rt: &R, beside: &mut Option<Child<R::Started>>) {
+    *beside = sleeper(rt).ok();
+}
+
 /// A process that waits, and holds no signal back.
 fn sleeper<R: Processes + AllocGlobal>(rt: &R) -> io::Result<Child<R::Started>> {
-    let mut command = Command::new(rt.alloc(), "sleep")?;
-    command.arg(SECONDS)?;
+    let mut command = sleep_command(rt.alloc())?;
     command.stdin(Stdio::null()).stdout(Stdio::null());
     command.spawn(rt)
+}
+
+/// The command that waits.
+fn sleep_command(alloc: Global) -> io::Result<Command> {
+    let mut command = Command::new(alloc, "sleep")?;
+    command.arg(SECONDS)?;
+    Ok(command)
 }

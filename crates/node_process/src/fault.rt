@@ -95,83 +95,126 @@ impl fmt::Display for Refusal<'_> {
         let (file, dir, id) = (self.file, self.dir, self.id);
         match self.fault {
             NodeFault::Network(fault) => f.write(fault),
-            NodeFault::NoNode(nodes) => {
-                write!(
-                    f,
-                    "no node {id} is in {file}: its {nodes} nodes are numbered from 0"
-                )
-            }
-            NodeFault::LongName => write!(
-                f,
-                "{dir}: a socket there has a name of more than 107 bytes; choose a shorter DIR"
-            ),
-            NodeFault::Folder => {
-                write!(
-                    f,
-                    "{dir}: cannot be made; make this folder, or choose another DIR"
-                )
-            }
-            NodeFault::RightsStay => {
-                write!(
-                    f,
-                    "{dir}: its rights cannot be set; choose a DIR that is yours"
-                )
-            }
-            NodeFault::Lock => {
-                write!(
-                    f,
-                    "{dir}/lock-{id}: cannot be opened; choose a DIR that is yours"
-                )
-            }
-            NodeFault::Running => write!(
-                f,
-                "{dir}/lock-{id}: node {id} runs there already; stop it, or choose another DIR"
-            ),
-            NodeFault::UpLock => write!(
-                f,
-                "{dir}/lock-up: cannot be opened; choose a DIR that is yours"
-            ),
-            NodeFault::UpRunning => write!(
-                f,
-                "{dir}/lock-up: another up runs there already; stop it, or choose another DIR"
-            ),
-            NodeFault::Links => {
-                write!(
-                    f,
-                    "{dir}/node-{id}.sock: cannot be made; choose another DIR"
-                )
-            }
-            NodeFault::Clients => {
-                write!(
-                    f,
-                    "{dir}/desk-{id}.sock: cannot be made; choose another DIR"
-                )
-            }
-            NodeFault::Looks => {
-                write!(
-                    f,
-                    "{dir}/look-{id}.sock: cannot be made; choose another DIR"
-                )
-            }
-            NodeFault::System => {
-                f.write_str("the system has no clock, poll or process to give; try again")
-            }
-            NodeFault::Input => {
-                f.write_str("standard input is a file or nothing; give a pipe or a terminal")
-            }
-            NodeFault::Displaced => write!(
-                f,
-                "{dir}/lock-{id}: is another file now, or gone; the node ends, start it again"
-            ),
-            NodeFault::StopStays => write!(
-                f,
-                "{dir}/stop-{id}: cannot be removed; remove it, and start the node again"
-            ),
-            NodeFault::NoneStays => write!(
-                f,
-                "{dir}: no node stays up there; see what each said, and start up again"
-            ),
+            NodeFault::NoNode(nodes) => NoSuchNode { file, id, nodes }.fmt(f),
+            NodeFault::LongName => OfFolder(dir, LONG_NAME).fmt(f),
+            NodeFault::Folder => OfFolder(dir, NO_FOLDER).fmt(f),
+            NodeFault::RightsStay => OfFolder(dir, RIGHTS_STAY).fmt(f),
+            NodeFault::Lock => OfFile(dir, "/lock-", id, NOT_OPENED).fmt(f),
+            NodeFault::Running => RunsAlready { dir, id }.fmt(f),
+            NodeFault::UpLock => OfFolder(dir, UP_NOT_OPENED).fmt(f),
+            NodeFault::UpRunning => OfFolder(dir, UP_RUNS).fmt(f),
+            NodeFault::Links => OfFile(dir, "/node-", id, NO_SOCKET).fmt(f),
+            NodeFault::Clients => OfFile(dir, "/desk-", id, NO_SOCKET).fmt(f),
+            NodeFault::Looks => OfFile(dir, "/look-", id, NO_SOCKET).fmt(f),
+            NodeFault::System => f.write_str(NO_SYSTEM),
+            NodeFault::Input => f.write_str(NO_INPUT),
+            NodeFault::Displaced => OfFile(dir, "/lock-", id, DISPLACED).fmt(f),
+            NodeFault::StopStays => OfFile(dir, "/stop-", id, STOP_STAYS).fmt(f),
+            NodeFault::NoneStays => OfFolder(dir, NONE_STAYS).fmt(f),
             NodeFault::Memory => f.write_str("memory Refused"),
         }
+    }
+}
+
+// What is said of a folder after its name.
+const LONG_NAME: &str = ": a socket there has a name of more than 107 bytes; choose a shorter DIR";
+
+const NO_FOLDER: &str = ": cannot be made; make this folder, or choose another DIR";
+
+const RIGHTS_STAY: &str = ": its rights cannot be set; choose a DIR that is yours";
+
+const UP_NOT_OPENED: &str = "/lock-up: cannot be opened; choose a DIR that is yours";
+
+const UP_RUNS: &str = "/lock-up: another up runs there already; stop it, or choose another DIR";
+
+const NONE_STAYS: &str = ": no node stays up there; see what each said, and start up again";
+
+// What is said of a node's file after its name.
+const NOT_OPENED: &str = ": cannot be opened; choose a DIR that is yours";
+
+const NO_SOCKET: &str = ".sock: cannot be made; choose another DIR";
+
+const DISPLACED: &str = ": is another file now, or gone; the node ends, start it again";
+
+const STOP_STAYS: &str = ": cannot be removed; remove it, and start the node again";
+
+// What is said of the system.
+const NO_SYSTEM: &str = "the system has no clock, poll or process to give; try again";
+
+const NO_INPUT: &str = "standard input is a file or nothing; give a pipe or a terminal";
+
+/// A folder's name and what is said of it.
+#[derive(Drop)]
+struct OfFolder<'a>(&'a str, &'static str);
+
+impl fmt::Display for OfFolder<'_> {
+    ghost use Rattle.std.specs.Prelude.{Some, ◌++◌};
+
+    ghost output = { λ words. Some (words.0.now ++ words.1.now) };
+
+    fn fmt<W: fmt::Write>(&self, f: &mut fmt::Formatter<W>) -> fmt::Result {
+        write!(f, "{}{}", self.0, self.1)
+    }
+}
+
+/// The folder of a node's file, how the file's name begins, the node, and what is said of the file.
+#[derive(Drop)]
+struct OfFile<'a>(&'a str, &'static str, u16, &'static str);
+
+impl fmt::Display for OfFile<'_> {
+    ghost use Rattle.std.specs.Prelude.{Some, ◌++◌, decimal};
+
+    ghost output = { λ words. Some (words.0.now ++ (words.1.now
+        ++ (decimal words.2 ++ words.3.now))) };
+
+    fn fmt<W: fmt::Write>(&self, f: &mut fmt::Formatter<W>) -> fmt::Result {
+        write!(f, "{}{}{}{}", self.0, self.1, self.2, self.3)
+    }
+}
+
+/// Says that a network has no such node.
+#[derive(Drop)]
+struct NoSuchNode<'a> {
+    file: &'a str,
+    id: u16,
+    nodes: u16,
+}
+
+impl fmt::Display for NoSuchNode<'_> {
+    ghost use Rattle.std.specs.Prelude.{Some, []};
+    ghost use Rattle.node_process.specs.declared.fault.NodeFault.TheVariants.{NoNode};
+    ghost use Rattle.node_process.specs.Texts.{refusal_text};
+
+    ghost output = { λ r. Some (refusal_text r.file.now [] r.id (NoNode r.nodes)) };
+
+    fn fmt<W: fmt::Write>(&self, f: &mut fmt::Formatter<W>) -> fmt::Result {
+        let (file, id, nodes) = (self.file, self.id, self.nodes);
+        write!(
+            f,
+            "no node {id} is in {file}: its {nodes} nodes are numbered from 0"
+        )
+    }
+}
+
+/// Says that another process is the node already.
+#[derive(Drop)]
+struct RunsAlready<'a> {
+    dir: &'a str,
+    id: u16,
+}
+
+impl fmt::Display for RunsAlready<'_> {
+    ghost use Rattle.std.specs.Prelude.{Some, []};
+    ghost use Rattle.node_process.specs.declared.fault.NodeFault.TheVariants.{Running};
+    ghost use Rattle.node_process.specs.Texts.{refusal_text};
+
+    ghost output = { λ r. Some (refusal_text [] r.dir.now r.id Running) };
+
+    fn fmt<W: fmt::Write>(&self, f: &mut fmt::Formatter<W>) -> fmt::Result {
+        let (dir, id) = (self.dir, self.id);
+        write!(
+            f,
+            "{dir}/lock-{id}: node {id} runs there already; stop it, or choose another DIR"
+        )
     }
 }

@@ -1,5 +1,5 @@
 //! The folder of a network: it is made if it is missing, and a node takes its place in it.
-ghost use Rattle.std.specs.Prelude.{◌≡◌, ◌<◌, ◌≤◌, ◌⊎◌, None, IfOk, IfErr, is_ok, true, length};
+ghost use Rattle.std.specs.Prelude.{◌≡◌, ◌<◌, ◌≤◌, ◌⊎◌, ◌+◌, None, IfOk, IfErr, is_ok, true, length};
 ghost use Rattle.node_texts.specs.Names.{longest_socket_name};
 ghost use Rattle.node_process.specs.declared.fault.NodeFault.TheVariants.{LongName, Memory};
 ghost use Rattle.node_process.specs.declared.fault.NodeFault.TheVariants.{Folder, RightsStay, Lock, Running};
@@ -260,12 +260,40 @@ pub fn addresses_of(alloc: Global, dir: &str, nodes: u16) -> Result<Vec<SocketAd
     ensures err { IfErr result (λ fault. (fault ≡ LongName) ⊎ (fault ≡ Memory)) }
 {
     let mut addresses = Vec::with_capacity(alloc, usize::from(nodes))?;
-    for id in 0..nodes {
-        addresses
-            .push(address_of(alloc, dir, id)?)
-            .map_err(|_| NodeFault::Memory)?;
-    }
+    push_addresses(&mut addresses, alloc, dir, nodes)?;
     Ok(addresses)
+}
+
+/// Adds the addresses of this many nodes.
+fn push_addresses(
+    addresses: &mut Vec<SocketAddr>,
+    alloc: Global,
+    dir: &str,
+    nodes: u16,
+) -> Result<(), NodeFault>
+    ensures count { IfOk result (λ _. length addresses.new.items
+        ≡ length addresses.old.items + nodes) }
+    ensures err { IfErr result (λ fault. (fault ≡ LongName) ⊎ (fault ≡ Memory)) }
+{
+    for id in 0..nodes {
+        push_address(addresses, alloc, dir, id)?;
+    }
+    Ok(())
+}
+
+/// Adds the address of node `id`.
+fn push_address(
+    addresses: &mut Vec<SocketAddr>,
+    alloc: Global,
+    dir: &str,
+    id: u16,
+) -> Result<(), NodeFault>
+    ensures count { IfOk result (λ _. length addresses.new.items
+        ≡ length addresses.old.items + 1) }
+    ensures err { IfErr result (λ fault. (fault ≡ LongName) ⊎ (fault ≡ Memory)) }
+{
+    let address = address_of(alloc, dir, id)?;
+    addresses.push(address).map_err(|_| NodeFault::Memory)
 }
 
 /// The address of node `id`.

@@ -14,13 +14,13 @@ ghost use Rattle.node_process.specs.Children.{child_options, rights_options, log
 ghost use Rattle.node_process.specs.Children.{child_words, end_of};
 ghost use Rattle.node_process.specs.Start.{may_end};
 ghost use Rattle.node_process.specs.declared.fault.NodeFault.TheVariants.{Lock, Running};
-ghost use Rattle.node_process.specs.declared.fault.NodeFault.TheVariants.{UpLock, UpRunning};
+ghost use Rattle.node_process.specs.declared.fault.NodeFault.TheVariants.{UpLock, UpRunning, Memory};
 ghost use Rattle.node_process.specs.declared.fault.NodeFault.TheVariants.{System};
-ghost use Rattle.node_process.specs.declared.start.Stage.TheVariants.{Begun, Checked};
+ghost use Rattle.node_process.specs.declared.start.Stage.TheVariants.{Begun, Checked, Entered};
 
 use crate::asks::Asks;
 use crate::fault::{NodeFault, fault_of};
-use crate::folder::{check_names, hold_place, make_folder};
+use crate::folder::{Place, check_names, hold_place, make_folder};
 use crate::left::{GoneLine, LeftLine};
 use crate::node::warn_of_capacity;
 use crate::rights::Rights;
@@ -37,7 +37,7 @@ use std::fs::File;
 use std::io::Input;
 use std::net::Net as Sockets;
 use std::os::unix::process::ExitStatusExt;
-use std::path::PathBuf;
+use std::path::{Path, PathBuf};
 use std::process::{Child, Command, ExitStatus, OpenProcess, Processes, Stdio};
 use std::rt::{Clock, Env, Files};
 use std::{env, io};
@@ -122,11 +122,7 @@ impl<'a> OwnProgram<'a> {
 
 impl NodeProgram for OwnProgram<'_> {
     fn command(&self, alloc: Global, id: u16) -> io::Result<Command> {
-        let mut command = if self.holds_signals_back {
-            held_back(alloc, &self.program)?
-        } else {
-            Command::new(alloc, self.program.as_path())?
-        };
+        let mut command = bare_command(alloc, &self.program, self.holds_signals_back)?;
         let options = (
             self.manner,
             self.turn,
@@ -145,18 +141,32 @@ impl NodeProgram for OwnProgram<'_> {
 
 /// Whether the system's `env` can hold signals back from what it starts: GNU's can since 8.31.
 fn can_hold_back<R: Processes + AllocGlobal>(rt: &R) -> io::Result<bool> {
-    let mut command = Command::new(rt.alloc(), ENV)?;
-    command.arg(HOLD_SIGNALS_BACK)?.arg("true")?;
+    let mut command = held_back(rt.alloc(), Path::new("true"))?;
     command.stdout(Stdio::null()).stderr(Stdio::null());
     Ok(command.status(rt)?.success())
 }
 
-/// A command that starts this program with signals held back.
-fn held_back(alloc: Global, program: &PathBuf) -> io::Result<Command> {
+/// A command that starts this program, with signals held back or not.
+fn bare_command(alloc: Global, program: &PathBuf, holds_signals_back: bool) -> io::Result<Command> {
+    if holds_signals_back {
+        held_back(alloc, program.as_path())
+    } else {
+        Ok(Command::new(alloc, program.as_path())?)
+    }
+}
+
+/// A command that starts a program with signals held back.
+fn held_back(alloc: Global, program: Path<'_>) -> io::Result<Command> {
     let mut command = Command::new(alloc, ENV)?;
-    command.arg(HOLD_SIGNALS_BACK)?;
-    command.arg(program.as_path())?;
+    add_held_back(&mut command, program)?;
     Ok(command)
+}
+
+/// Adds the words that start a program with signals held back.
+fn add_held_back(command: &mut Command, program: Path<'_>) -> io::Result<()> {
+    command.arg(HOLD_SIGNALS_BACK)?;
+    command.arg(program)?;
+    Ok(())
 }
 
 /// Adds the words that make this program node `id` of the network of FILE in DIR, as a child.
@@ -305,11 +315,7 @@ impl<P: OpenProcess + Drop> Kept<P> {
         ensures stays { (self.new.id ≡ self.old.id) × (self.new.keeper ≡ self.old.keeper) }
     {
         match &mut self.child {
-            Some(child) => match child.try_wait() {
-                Ok(Some(status)) => Seen::Ended(end_of(status)),
-                // Nothing is known of it, so it is asked again.
-                Ok(None) | Err(_) => Seen::Nothing,
-            },
+            Some(child) => sight_of(child),
             None => Seen::Nothing,
         }
     }
@@ -327,14 +333,28 @@ impl<P: OpenProcess + Drop> Kept<P> {
     fn kill(&mut self) -> End
         ensures { (self.new.id ≡ self.old.id) × (self.new.keeper ≡ self.old.keeper) }
     {
-        let Some(child) = &mut self.child else {
-            return End::Unknown;
-        };
-        let _ = child.kill();
-        match child.wait() {
-            Ok(status) => end_of(status),
-            Err(_) => End::Unknown,
+        match &mut self.child {
+            Some(child) => kill(child),
+            None => End::Unknown,
         }
+    }
+}
+
+/// What a look at a process shows.
+fn sight_of<P: OpenProcess + Drop>(child: &mut Child<P>) -> Seen {
+    match child.try_wait() {
+        Ok(Some(status)) => Seen::Ended(end_of(status)),
+        // Nothing is known of it, so it is asked again.
+        Ok(None) | Err(_) => Seen::Nothing,
+    }
+}
+
+/// Kills a process, and says how it ended.
+fn kill<P: OpenProcess + Drop>(child: &mut Child<P>) -> End {
+    let _ = child.kill();
+    match child.wait() {
+        Ok(status) => end_of(status),
+        Err(_) => End::Unknown,
     }
 }
 
@@ -353,10 +373,25 @@ where
     let mut stage = Stage::Begun;
     let net = check_network(rt, file, dir, &mut stage)?;
     make_folder(rt, dir, program.rights(), &mut stage)?;
-    let lock = format!(in rt.alloc(); "{dir}/lock-up")?;
     // Held until it ends.
-    let _place = hold_place(rt, lock.as_str(), &mut stage).map_err(fault_of_up)?;
+    let _place = hold_up_place(rt, dir, &mut stage)?;
     run_in_place(rt, program, &net)
+}
+
+/// Takes the place of `up` in a folder.
+///
+/// # Errors
+/// `UpRunning` if another `up` holds it, `UpLock` if its file cannot be opened or locked, or `Memory`.
+fn hold_up_place<R: Files<File = File> + AllocGlobal>(
+    rt: &R,
+    dir: &str,
+    stage: &mut Stage,
+) -> Result<Place, NodeFault>
+    requires { stage.old ≡ Entered }
+    ensures { IfErr result (λ fault. (fault ≡ UpRunning) ⊎ ((fault ≡ UpLock) ⊎ (fault ≡ Memory))) }
+{
+    let lock = format!(in rt.alloc(); "{dir}/lock-up")?;
+    hold_place(rt, lock.as_str(), stage).map_err(fault_of_up)
 }
 
 /// Reads the network. Refuses an invalid file and a folder whose name is too long.
@@ -389,10 +424,26 @@ where
 {
     let mut asks = Asks::new(rt).map_err(|error| fault_of(error.kind()))?;
     warn_of_capacity(rt, net.capacity());
-    let mut kept = all_new(rt.alloc(), net.nodes())?;
-    let is_asked = keep_running(rt, program, &mut asks, &mut kept);
+    let ended = keep_all(rt, program, &mut asks, net.nodes());
     asks.close();
-    if is_asked {
+    ended
+}
+
+/// Keeps this many nodes running.
+///
+/// # Errors
+/// If no node stays up, or memory runs out.
+fn keep_all<R, C: NodeProgram>(
+    rt: &R,
+    program: &C,
+    asks: &mut Asks<R::Started>,
+    nodes: u16,
+) -> Result<(), NodeFault>
+where
+    R: Files + Clock + Input + Print + Processes + AllocGlobal,
+{
+    let mut kept = all_new(rt.alloc(), nodes)?;
+    if keep_running(rt, program, asks, &mut kept) {
         Ok(())
     } else {
         Err(NodeFault::NoneStays)
