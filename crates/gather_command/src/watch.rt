@@ -11,7 +11,7 @@ use std::alloc::{AllocError, Global};
 use std::marker::Model;
 
 /// A loan of a node.
-#[derive(Clone, Copy, Debug, PartialEq, Eq)]
+#[derive(Clone, Copy)]
 struct Loan {
     /// Whom it is to.
     ticket: u16,
@@ -20,7 +20,7 @@ struct Loan {
 }
 
 /// What is watched of one node.
-#[derive(Clone, Copy, Debug, PartialEq, Eq)]
+#[derive(Clone, Copy)]
 struct Watched {
     /// Its whole state was noted.
     is_known: bool,

@@ -27,7 +27,7 @@ pub enum Fate {
 }
 
 /// A line on standard error. Printed, it is that line without the program's name.
-#[derive(Clone, Copy, Debug, PartialEq, Eq, Drop)]
+#[derive(Clone, Copy, Drop)]
 pub enum Notice<'a> {
     /// There is no such folder.
     NoFolder(&'a str),

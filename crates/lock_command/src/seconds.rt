@@ -9,7 +9,7 @@ pub struct Seconds {
 }
 
 /// Thousandths, printed as the decimals of a number of seconds.
-#[derive(Clone, Copy, Debug, PartialEq, Eq, Drop)]
+#[derive(Clone, Copy, Drop)]
 struct Decimals(u32);
 
 impl fmt::Display for Decimals {

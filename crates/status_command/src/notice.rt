@@ -11,7 +11,7 @@ use std::{fmt, io};
 const READER_GONE: u8 = 141;
 
 /// Why nothing is shown of the nodes. Printed, it is the message without the program's name.
-#[derive(Clone, Copy, Debug, PartialEq, Eq, Drop)]
+#[derive(Clone, Copy, Drop)]
 pub enum Notice<'a> {
     /// There is no such folder.
     NoFolder(&'a str),
