@@ -23,11 +23,11 @@ unmade_not-left e = cc
 
 -- a pipe is neither a plain file nor a folder
 pipe-waits : (found : Metadata) → ¬ IsFile (file_type found) → ¬ IsDir (file_type found) → MayWait (Ok found)
-pipe-waits found no-file no-folder = (no-file , no-folder)
+pipe-waits found no-file no-folder = (no-file, no-folder)
 
 -- a plain file does not make one wait, nor does what is not there
 file_not-waits : (found : Metadata) → IsFile (file_type found) → ¬ MayWait (Ok found)
-file_not-waits found is-file (no-file , _) = no-file is-file
+file_not-waits found is-file (no-file, _) = no-file is-file
 
 absent_not-waits : (error : Error) → ¬ MayWait (Err error)
 absent_not-waits error waits = waits

@@ -27,7 +27,10 @@ fn main(rt: HostRuntime) -> ExitCode {
 fn act(rt: &HostRuntime, words: &[String]) -> ExitCode {
     match words {
         [_, word] if word.as_str() == "--scripts" => status_of(run_scripts(rt)),
-        [_, word, socket] if word.as_str() == "--send-to" => status_of(send_to(rt, socket.as_str())),
+        [_, word, socket] if word.as_str() == "--send-to" => status_of(send_to(
+            rt,
+            socket.as_str(),
+        )),
         _ => run_words(rt, words, rt.stderr().is_terminal()),
     }
 }
