@@ -31,10 +31,10 @@ ended() {
     return "$status"
 }
 
-# stop ID: ends a node by its stop file. Its status is that of the node.
+# stop ID: ends a node by its stop file, and says so if its status is not 0.
 stop() {
     : >"run/stop-$1"
-    ended "$1"
+    ended "$1" || echo "node $1 ended with status $?"
 }
 
 # stands ID DISTANCE: whether a node says that it is this far from the root.
