@@ -20,7 +20,7 @@ Without a command, a client holds the lock until its input ends. It ignores what
   $ tokentree lock --timeout 1 run 0 sh -c 'exit 7'
   tokentree: node 0 did not lend the lock within 1 s
   [124]
-  $ let_go; tokentree lock run 0 true
+  $ let_go && tokentree lock run 0 true
   $ stop 0; left 0; stop 1; left 1
 
 A lease of 100 ticks, some 200 milliseconds, ends while a command runs. The command is ended too.
