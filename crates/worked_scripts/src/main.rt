@@ -22,27 +22,19 @@ use std::process::{Command, ExitCode};
 
 fn main(rt: HostRuntime) -> ExitCode {
     fill_standard_streams(&rt);
-    match own_words(&rt) {
-        Ok(words) => act(&rt, words.as_slice()),
-        Err(status) => status,
-    }
-}
-
-/// Does what the words say.
-fn act(rt: &HostRuntime, words: &[String]) -> ExitCode {
-    match words {
-        [_, word] if word.as_str() == "--scripts" => status_of(run_scripts(rt)),
-        [_, word, socket, scripts @ ..] if word.as_str() == "--serve" => status_of(serve(
-            rt,
-            socket.as_str(),
-            scripts,
-        )),
-        [_, word, socket, script] if word.as_str() == "--connect" => status_of(connect(
-            rt,
-            socket.as_str(),
-            script.as_str(),
-        )),
-        _ => run_words(rt, words, rt.stderr().is_terminal()),
+    let words = match own_words(&rt) {
+        Ok(words) => words,
+        Err(status) => return status,
+    };
+    match words.as_slice() {
+        [_, word] if word.as_str() == "--scripts" => status_of(run_scripts(&rt)),
+        [_, word, socket, scripts @ ..] if word.as_str() == "--serve" => {
+            status_of(serve(&rt, socket.as_str(), scripts))
+        }
+        [_, word, socket, script] if word.as_str() == "--connect" => {
+            status_of(connect(&rt, socket.as_str(), script.as_str()))
+        }
+        words => run_words(&rt, words, rt.stderr().is_terminal()),
     }
 }
 
