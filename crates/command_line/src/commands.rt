@@ -44,26 +44,23 @@ fn run_whole<R: Runtime, S: AsStr>(rt: &R, words: &[S], on_terminal: bool) -> Ex
     };
     let is_dashed = words.last().is_some_and(|word| word.as_str() == "--");
     let done = act(rt, &matches, on_terminal, is_dashed);
-    if let Err(Refusal::Fault(fault)) = &done {
-        explain(rt, &matches, *fault);
+    if let (Err(Refusal::Fault(fault)), Some((_, given))) = (&done, matches.subcommand()) {
+        explain(rt, given, *fault);
     }
     status(rt, done, asks_for_lock(words), matches.subcommand_name())
 }
 
 /// Before a fault's own line, says which file it is and what is wrong with it.
-fn explain<R: Runtime>(rt: &R, matches: &ArgMatches, fault: Fault) {
-    let Some((_, given)) = matches.subcommand() else {
-        return;
+fn explain<R: Runtime>(rt: &R, given: &ArgMatches, fault: Fault) {
+    let path = match fault {
+        Fault::Network(_) => given.get_str("FILE").or(given.get_str("network")),
+        Fault::EventsUnreadable => given.get_str("EVENTS"),
+        _ => given.get_str("events"),
     };
-    let file = given.get_str("FILE").or(given.get_str("network"));
-    match (fault, file, given.get_str("EVENTS")) {
-        (Fault::Network(fault), Some(file), _) => explain_network(rt, file, fault),
-        (Fault::EventsUnreadable, _, Some(events)) => explain_reading(rt, events),
-        (Fault::EventsUnwritable, _, _) => {
-            if let Some(path) = given.get_str("events") {
-                explain_writing(rt, path);
-            }
-        }
+    match (fault, path) {
+        (Fault::Network(fault), Some(file)) => explain_network(rt, file, fault),
+        (Fault::EventsUnreadable, Some(file)) => explain_reading(rt, file),
+        (Fault::EventsUnwritable, Some(file)) => explain_writing(rt, file),
         _ => {}
     }
 }
@@ -89,10 +86,8 @@ fn matches_of<'a, R: Print + Eprint + AllocGlobal, S: AsStr>(
         [_, name, ..] if parser.find_subcommand(name.as_str()).is_some() => Some(name.as_str()),
         _ => None,
     };
-    match parser.try_get_matches_from(words) {
-        Ok(matches) => Ok(matches),
-        Err(error) => Err(shows(rt, &error, is_lock, command)),
-    }
+    let matches = parser.try_get_matches_from(words);
+    matches.map_err(|error| shows(rt, &error, is_lock, command))
 }
 
 /// The parser of the program's command lines.

@@ -207,21 +207,19 @@ pub fn run<R: Runtime>(rt: &R, given: &ArgMatches, is_dashed: bool) -> Result<Ex
 
 /// The request that the words make, with this command.
 fn request<'a>(given: &'a ArgMatches, command: &'a [&'a str]) -> Result<Request<'a>, Refusal> {
-    let keeps_running = given.get_flag("keep");
-    let guard = if keeps_running {
-        &KEEPING_GUARD
-    } else {
-        &GUARD
-    };
     Ok(Request {
         folder: word(given, "DIR")?,
         node: node(given)?,
         limit: limit(given)?,
         lost: given_number(given, LOST)? as u8,
         is_verbose: given.get_flag("verbose"),
-        keeps_running,
+        keeps_running: given.get_flag("keep"),
         waits_for_children: given.get_flag("wait-children"),
-        guard,
+        guard: if given.get_flag("keep") {
+            &KEEPING_GUARD
+        } else {
+            &GUARD
+        },
         command,
     })
 }

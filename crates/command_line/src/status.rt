@@ -159,16 +159,13 @@ fn watched<R: Runtime>(rt: &R, given: &ArgMatches, folder: &str, nodes: &[u16]) 
     let Some(every) = interval(given.get_str("every")) else {
         return refused(rt, Notice::NoInterval);
     };
-    let form = form(given);
-    watch::run(
-        rt,
-        &Watch {
-            folder,
-            nodes,
-            every,
-            form,
-        },
-    )
+    let watch = Watch {
+        folder,
+        nodes,
+        every,
+        form: form(given),
+    };
+    watch::run(rt, &watch)
 }
 
 /// The form in which the nodes are shown.
