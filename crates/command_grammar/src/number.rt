@@ -5,7 +5,7 @@ ghost use Rattle.command_grammar.specs.Numbers.{IsRead};
 use line_words::decimal_number;
 
 /// A number that a command takes: by which parameter, and in which range.
-#[derive(Clone, Copy, Debug, PartialEq, Eq)]
+#[derive(Clone, Copy, Debug)]
 pub struct Number<'a> {
     /// The id of its parameter.
     pub id: &'a str,

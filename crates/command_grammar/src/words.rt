@@ -9,7 +9,7 @@ use std::fmt;
 
 /// Why a word is refused that the parser took. Printed, it is what the message says after the
 /// program's name.
-#[derive(Clone, Copy, Debug, PartialEq, Eq, Drop)]
+#[derive(Clone, Copy, Debug, Drop)]
 pub enum WordFault<'a> {
     /// The parameter of this id has no word, which the parser rules out for one that must be given.
     Absent(&'a str),

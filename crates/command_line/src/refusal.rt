@@ -13,7 +13,7 @@ use std::rt::Files;
 use subcommands::{Fault, PathFault};
 
 /// Why the words of `network` describe no network.
-#[derive(Clone, Copy, Debug, PartialEq, Eq, Drop)]
+#[derive(Clone, Copy, Drop)]
 pub enum KindFault {
     /// There is no such kind.
     Unknown,
@@ -45,7 +45,7 @@ impl fmt::Display for KindFault {
 }
 
 /// Why `measure` takes no such order of events.
-#[derive(Clone, Copy, Debug, PartialEq, Eq, Drop)]
+#[derive(Clone, Copy, Drop)]
 pub enum ScheduleFault {
     /// There is no order of that name.
     Unknown,
@@ -71,7 +71,7 @@ impl fmt::Display for ScheduleFault {
 }
 
 /// Why a command line fails.
-#[derive(Clone, Copy, Debug, PartialEq, Eq, Drop)]
+#[derive(Clone, Copy, Drop)]
 pub enum Refusal {
     /// A word that the parser took is invalid.
     Word(WordFault<'static>),

@@ -5,7 +5,7 @@ use std::fmt;
 
 /// Why a command that changes a file ends with status 1. Printed, it is the fault's line without
 /// `tokentree: `.
-#[derive(Clone, Copy, Debug, PartialEq, Eq, Drop)]
+#[derive(Clone, Copy, Debug, Drop)]
 pub enum PathFault<'a> {
     /// What may happen to any command.
     Fault(Fault),

@@ -6,7 +6,7 @@ use topology::{Frame, Payload};
 
 /// An event, which prints as its line without the newline. The line reads back as the event, and no
 /// other line does.
-#[derive(Clone, Copy, Debug, PartialEq, Eq)]
+#[derive(Clone, Copy)]
 pub struct EventLine(pub Event);
 
 impl fmt::Display for EventLine {

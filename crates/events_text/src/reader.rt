@@ -28,7 +28,7 @@ impl Model for EventReader {
 }
 
 /// What a reader took of a piece.
-#[derive(Clone, Copy, Debug, PartialEq, Eq)]
+#[derive(Clone, Copy)]
 pub struct Taken {
     /// How many bytes it took.
     pub used: usize,

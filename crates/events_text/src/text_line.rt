@@ -9,7 +9,7 @@ use run_model::Event;
 pub const LONGEST: usize = 64;
 
 /// A line of an events text.
-#[derive(Clone, Copy, Debug, PartialEq, Eq)]
+#[derive(Clone, Copy, PartialEq, Eq)]
 pub enum TextLine {
     /// An empty line, or a comment, which begins with `#` and may be of any length.
     Passed,

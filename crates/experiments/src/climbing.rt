@@ -14,7 +14,7 @@ use std::mem;
 use topology::Net;
 
 /// How a search goes.
-#[derive(Clone, Copy, Debug, PartialEq, Eq)]
+#[derive(Clone, Copy)]
 pub struct Search {
     /// What all of it is drawn from.
     pub seed: u64,

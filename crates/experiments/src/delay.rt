@@ -13,7 +13,7 @@ use std::alloc::{AllocError, Allocator};
 use topology::Net;
 
 /// How late a run serves.
-#[derive(Clone, Copy, Debug, PartialEq, Eq)]
+#[derive(Clone, Copy)]
 pub struct Delay {
     /// After how many sweeps the network served at each moment of the run: if that is more than 0,
     /// it did not serve at some moment after one sweep less.

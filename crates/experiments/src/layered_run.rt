@@ -11,7 +11,7 @@ use std::alloc::{AllocError, Allocator};
 use topology::Net;
 
 /// When each layer of the proof stood for good in a run, in sweeps since its start.
-#[derive(Clone, Copy, Debug, PartialEq, Eq)]
+#[derive(Clone, Copy)]
 pub struct Settling {
     /// The seed that the run was made of.
     pub seed: u64,

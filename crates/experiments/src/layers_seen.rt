@@ -11,7 +11,7 @@ use run_model::Event;
 use std::alloc::Allocator;
 
 /// What has been seen of the layers along a run.
-#[derive(Clone, Copy, Debug, PartialEq, Eq)]
+#[derive(Clone, Copy)]
 pub(crate) struct LayersSeen {
     /// How many events there were.
     pub(crate) events: u64,

@@ -21,7 +21,7 @@ use std::alloc::{AllocError, Allocator};
 use topology::Net;
 
 /// Who moves when in a run that is measured.
-#[derive(Clone, Copy, Debug, PartialEq, Eq)]
+#[derive(Clone, Copy)]
 pub enum Scheduler {
     /// Each round ticks every node and has every link carry its items.
     Rounds,
@@ -34,7 +34,7 @@ pub enum Scheduler {
 }
 
 /// What a run has shown.
-#[derive(Clone, Copy, Debug, PartialEq, Eq)]
+#[derive(Clone, Copy, PartialEq, Eq)]
 pub struct Recovery {
     /// The seed that it was made of.
     pub seed: u64,

@@ -2,7 +2,7 @@
 ghost use Rattle.experiments.specs.Summary.{IsSummaryOf};
 
 /// The least, the median and the most of some numbers.
-#[derive(Clone, Copy, Debug, PartialEq, Eq)]
+#[derive(Clone, Copy)]
 pub struct Summary {
     /// The least.
     pub least: u64,

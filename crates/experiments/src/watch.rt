@@ -15,7 +15,7 @@ use std::alloc::{Allocator, Global};
 use std::marker::Model;
 
 /// When a run under way last failed.
-#[derive(Clone, Copy, Debug, PartialEq, Eq)]
+#[derive(Clone, Copy)]
 pub(crate) struct LastFailures {
     /// How many sweeps there had been at the last moment at which it did not serve.
     serving: Option<u64>,

@@ -2,7 +2,7 @@
 ghost use Rattle.std.specs.Prelude.{◌≡◌, IsTrue};
 
 /// A place in the tree.
-#[derive(Clone, Copy, Debug, PartialEq, Eq)]
+#[derive(Clone, Copy)]
 pub struct Place {
     /// The distance from the root.
     pub distance: u16,
@@ -37,7 +37,7 @@ fn is_same(number: Option<u16>, other: Option<u16>) -> bool
 }
 
 /// What is seen of a node at a moment.
-#[derive(Clone, Copy, Debug, PartialEq, Eq)]
+#[derive(Clone, Copy)]
 pub struct Look {
     /// The place that it takes for its own.
     pub own: Place,

@@ -20,7 +20,7 @@ pub const MOST_WAYS: usize = 144;
 pub const NO_EDGE: (u16, u16) = (0, 0);
 
 /// What is seen of a network at a moment, or at the last of several.
-#[derive(Clone, Copy, Debug, PartialEq, Eq)]
+#[derive(Clone, Copy)]
 pub struct Still {
     /// What is seen of each node, by its id; [`Look::NOTHING`] if there is no such node.
     pub looks: [Look; 64],

@@ -6,7 +6,7 @@ ghost use Rattle.flight_recorder.specs.Resume.{Begins, IsFrontOf, is_start_of};
 use flight_records::{EntryReader, Noted, StatePart};
 
 /// Where the whole entries at the front of a file end.
-#[derive(Clone, Copy, Debug, PartialEq, Eq)]
+#[derive(Clone, Copy)]
 pub struct Front {
     /// How many bytes they take.
     pub count: usize,

@@ -25,7 +25,7 @@ const LONGEST: usize = 121;
 pub const LEAST_SIZE: u64 = 65536;
 
 /// One of the two files.
-#[derive(Clone, Copy, Debug, PartialEq, Eq)]
+#[derive(Clone, Copy)]
 pub enum Side {
     /// The one that is written first.
     First,

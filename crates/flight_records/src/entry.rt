@@ -3,7 +3,7 @@
 use topology::{Frame, Payload};
 
 /// One entry: what was noted, and when.
-#[derive(Clone, Copy, Debug, PartialEq, Eq)]
+#[derive(Clone, Copy, PartialEq, Eq)]
 pub struct Entry {
     /// When it was, in microseconds of the machine's monotonic clock.
     pub instant: u64,
@@ -12,7 +12,7 @@ pub struct Entry {
 }
 
 /// What an entry notes of its node.
-#[derive(Clone, Copy, Debug, PartialEq, Eq)]
+#[derive(Clone, Copy, PartialEq, Eq)]
 pub enum Noted {
     /// A part of the state in which the node is.
     State(StatePart),
@@ -22,7 +22,7 @@ pub enum Noted {
 
 /// A part of a node's whole state. A record begins with all of them: `Start`, `Own`, a `Port` for
 /// each neighbour, `Waits` for each ticket that waits, in their order, `Loan`, `Whole`.
-#[derive(Clone, Copy, Debug, PartialEq, Eq)]
+#[derive(Clone, Copy, PartialEq, Eq)]
 pub enum StatePart {
     /// A state begins, of a node of the network with this checksum.
     Start {
@@ -59,7 +59,7 @@ pub enum StatePart {
 }
 
 /// What a node did, or what came to it.
-#[derive(Clone, Copy, Debug, PartialEq, Eq)]
+#[derive(Clone, Copy, PartialEq, Eq)]
 pub enum Deed {
     /// The node ticked.
     Ticks,

@@ -4,7 +4,6 @@ pub use Rattle.record_pages.specs as record_pages
 pub use Rattle.record_gathering.specs as record_gathering
 pub use Rattle.command_parts.specs.schedules as schedules
 pub use Rattle.command_parts.specs as command_parts
-pub mod Memory
 pub mod Reading
 pub mod Folder
 pub mod Network

@@ -2,7 +2,7 @@
 use flight_recorder::Side;
 
 /// A file of a node's record.
-#[derive(Clone, Copy, Debug, PartialEq, Eq)]
+#[derive(Clone, Copy)]
 pub struct RecordFile {
     /// The node.
     pub node: u16,
@@ -12,7 +12,7 @@ pub struct RecordFile {
 
 /// Why records give no list of events. Nothing is written then; but in `Output`, `Memory` and `TooMany` a
 /// beginning may be.
-#[derive(Clone, Copy, Debug, PartialEq, Eq, Drop)]
+#[derive(Clone, Copy, Drop)]
 pub enum GatherFault {
     /// A node has no record, or an empty one.
     Absent(u16),
@@ -33,7 +33,7 @@ pub enum GatherFault {
 }
 
 /// Where a file was not read to its end.
-#[derive(Clone, Copy, Debug, PartialEq, Eq)]
+#[derive(Clone, Copy)]
 pub struct Flaw {
     /// The file.
     pub file: RecordFile,
@@ -44,7 +44,7 @@ pub struct Flaw {
 }
 
 /// What is wrong with a file.
-#[derive(Clone, Copy, Debug, PartialEq, Eq)]
+#[derive(Clone, Copy)]
 pub enum FlawKind {
     /// It ends within an entry.
     Torn,

@@ -59,6 +59,6 @@ pub use lines::{
 };
 pub use part::gather_stretch;
 pub use record_gathering::Field;
-pub use records::{MemoryRecord, MemoryRecords, Opened, Records};
+pub use records::{Opened, Records};
 pub use stretch::Stretch;
 pub use summary::{Lasted, Summary};

@@ -17,7 +17,7 @@ use std::alloc::Global;
 use topology::Net;
 
 /// Which stretch of time of the records is gathered.
-#[derive(Clone, Copy, Debug, PartialEq, Eq)]
+#[derive(Clone, Copy)]
 pub enum Stretch {
     /// All that the records hold.
     Whole,

@@ -2,7 +2,7 @@
 use record_gathering::Found;
 
 /// A loan that ended.
-#[derive(Clone, Copy, Debug, PartialEq, Eq)]
+#[derive(Clone, Copy)]
 pub struct Lasted {
     /// The node that lent the lock.
     pub node: u16,
@@ -13,7 +13,7 @@ pub struct Lasted {
 }
 
 /// What a recording shows, in numbers.
-#[derive(Clone, Copy, Debug, PartialEq, Eq)]
+#[derive(Clone, Copy)]
 pub struct Summary {
     /// How many nodes have a record.
     pub nodes: u16,

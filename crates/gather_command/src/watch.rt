@@ -238,7 +238,7 @@ impl Watch {
 }
 
 /// The least and the greatest of some instants.
-#[derive(Clone, Copy, Debug, PartialEq, Eq)]
+#[derive(Clone, Copy)]
 pub struct Span {
     least: u64,
     greatest: u64,

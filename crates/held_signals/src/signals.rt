@@ -5,7 +5,7 @@ ghost use Rattle.held_signals.specs.Signals.{first_besides, including};
 ghost use Rattle.held_signals.specs.Signals.{both_signals, signals_without, has_any, digit_value};
 
 /// A signal by which a user or the system asks a program to end.
-#[derive(Clone, Copy, Debug, PartialEq, Eq)]
+#[derive(Clone, Copy, PartialEq, Eq)]
 pub enum Signal {
     /// SIGHUP: the terminal is closed.
     HangUp,
@@ -32,7 +32,7 @@ impl Signal {
 }
 
 /// Some of these signals.
-#[derive(Clone, Copy, Debug, PartialEq, Eq)]
+#[derive(Clone, Copy)]
 pub struct Signals {
     /// Whether SIGHUP is one.
     pub hang_up: bool,

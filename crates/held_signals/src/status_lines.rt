@@ -10,7 +10,7 @@ use byte_lines::{HalfLine, LineReading};
 use std::marker::Model;
 
 /// What a line says.
-#[derive(Clone, Copy, Debug, PartialEq, Eq)]
+#[derive(Clone, Copy)]
 pub enum StatusEntry {
     /// `SigPnd` or `ShdPnd`: these signals came, and are held back.
     Pending(Signals),
@@ -23,7 +23,7 @@ pub enum StatusEntry {
 }
 
 /// How a process stands to signals.
-#[derive(Clone, Copy, Debug, PartialEq, Eq)]
+#[derive(Clone, Copy)]
 pub struct SignalState {
     /// Those that came, and are held back.
     pub pending: Signals,

@@ -16,7 +16,7 @@ use std::alloc::Allocator;
 use topology::Frame;
 
 /// Which number of a frame is meant.
-#[derive(Clone, Copy, Debug, PartialEq, Eq)]
+#[derive(Clone, Copy)]
 pub enum Number {
     /// Its own.
     Own,

@@ -8,7 +8,7 @@ ghost use Rattle.layers.specs.PayloadReading.{Admits};
 use topology::Payload;
 
 /// What is kept of the payloads of a link, of which some are read.
-#[derive(Clone, Copy, Debug, PartialEq, Eq)]
+#[derive(Clone, Copy)]
 pub struct PayloadReading {
     /// The sender's number.
     pub seq: u16,

@@ -5,7 +5,7 @@ ghost use Rattle.k_state.specs.Ring.{IsGood, head_of};
 ghost use Rattle.layers.specs.RingReading.{MayFollow};
 
 /// In which part of a good ring the values are that come next.
-#[derive(Clone, Copy, Debug, PartialEq, Eq)]
+#[derive(Clone, Copy)]
 pub enum Part {
     /// So far all equal the head.
     Front,
@@ -16,7 +16,7 @@ pub enum Part {
 }
 
 /// What is kept of a ring that is read value by value, from its head on.
-#[derive(Clone, Copy, Debug, PartialEq, Eq)]
+#[derive(Clone, Copy)]
 pub struct RingReading {
     /// The head's value.
     pub head: u16,

@@ -11,7 +11,7 @@ use std::alloc::Allocator;
 use topology::Net;
 
 /// A stop of the tour: it comes from one node to another.
-#[derive(Clone, Copy, Debug, PartialEq, Eq)]
+#[derive(Clone, Copy)]
 pub struct TourStop {
     /// The node that it comes from.
     pub from: u16,

@@ -12,7 +12,7 @@ use configuration::Configuration;
 use std::alloc::Allocator;
 
 /// What has settled of a network at one moment.
-#[derive(Clone, Copy, Debug, PartialEq, Eq)]
+#[derive(Clone, Copy)]
 pub struct Layers {
     /// How many links there are; an edge is one in each direction.
     pub links: usize,

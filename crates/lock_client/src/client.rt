@@ -9,7 +9,7 @@ use crate::{Answer, CommandEnd, Outcome};
 use held_signals::Signal;
 
 /// How far a client is.
-#[derive(Clone, Copy, Debug, PartialEq, Eq)]
+#[derive(Clone, Copy, PartialEq, Eq)]
 pub enum Stage {
     /// It has asked for the lock, and has no answer yet.
     Asking,
@@ -24,7 +24,7 @@ pub enum Stage {
 }
 
 /// What happens to a client.
-#[derive(Clone, Copy, Debug, PartialEq, Eq)]
+#[derive(Clone, Copy)]
 pub enum Event {
     /// The desk answered this line.
     Line(Answer),
@@ -43,7 +43,7 @@ pub enum Event {
 }
 
 /// What to do now.
-#[derive(Clone, Copy, Debug, PartialEq, Eq)]
+#[derive(Clone, Copy)]
 pub enum Deed {
     /// Nothing: wait for what happens next.
     Wait,
@@ -68,7 +68,7 @@ pub enum Deed {
 
 /// A client that takes the lock once, runs a command under it, and releases it. Whoever makes one
 /// writes `lock` first.
-#[derive(Clone, Copy, Debug, PartialEq, Eq)]
+#[derive(Clone, Copy)]
 pub struct LockClient {
     keeps_running: bool,
     stage: Stage,

@@ -11,7 +11,7 @@ use crate::GuardWord;
 pub const QUIET_LOOKS: u8 = 4;
 
 /// How far a guard is.
-#[derive(Clone, Copy, Debug, PartialEq, Eq)]
+#[derive(Clone, Copy)]
 pub enum GuardStage {
     /// No command was announced.
     Idle,
@@ -30,7 +30,7 @@ pub enum GuardStage {
 }
 
 /// What a look has found.
-#[derive(Clone, Copy, Debug, PartialEq, Eq)]
+#[derive(Clone, Copy)]
 pub struct Sight {
     /// Whether somebody of the command is left.
     pub somebody: bool,
@@ -40,7 +40,7 @@ pub struct Sight {
 }
 
 /// What happens to a guard.
-#[derive(Clone, Copy, Debug, PartialEq, Eq)]
+#[derive(Clone, Copy)]
 pub enum GuardEvent {
     /// The client said this.
     Said(GuardWord),
@@ -53,7 +53,7 @@ pub enum GuardEvent {
 }
 
 /// What a guard does now.
-#[derive(Clone, Copy, Debug, PartialEq, Eq)]
+#[derive(Clone, Copy)]
 pub enum GuardDeed {
     /// Wait for what the client says next.
     Listen,
@@ -69,7 +69,7 @@ pub enum GuardDeed {
 
 /// The guard of a command that runs under the lock. It holds the lock together with the client; if
 /// the client is killed, it holds it as long as the command runs.
-#[derive(Clone, Copy, Debug, PartialEq, Eq)]
+#[derive(Clone, Copy)]
 pub struct Guard {
     keeps_running: bool,
     stage: GuardStage,

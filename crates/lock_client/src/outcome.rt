@@ -5,7 +5,7 @@ ghost use Rattle.lock_client.specs.Outcome.{end_status, outcome_status, chosen_s
 use held_signals::Signal;
 
 /// How a command ended.
-#[derive(Clone, Copy, Debug, PartialEq, Eq)]
+#[derive(Clone, Copy, PartialEq, Eq)]
 pub enum CommandEnd {
     /// With this status.
     Exited(u8),
@@ -37,7 +37,7 @@ impl CommandEnd {
 }
 
 /// How it all ended.
-#[derive(Clone, Copy, Debug, PartialEq, Eq)]
+#[derive(Clone, Copy, PartialEq, Eq)]
 pub enum Outcome {
     /// The command ended like this, and the lock was held all the while.
     Done(CommandEnd),

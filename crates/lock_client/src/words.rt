@@ -12,7 +12,7 @@ use std::marker::Model;
 const MOST_PROCESS: u32 = 4_194_304;
 
 /// A line from a client to its guard.
-#[derive(Clone, Copy, Debug, PartialEq, Eq)]
+#[derive(Clone, Copy)]
 pub enum GuardWord {
     /// `start`: the command is about to be started.
     Start,

@@ -31,7 +31,7 @@ pub struct Desk {
 }
 
 /// What came from a desk.
-#[derive(Clone, Copy, Debug, PartialEq, Eq)]
+#[derive(Clone, Copy)]
 pub enum Heard {
     /// This line.
     Line(Answer),

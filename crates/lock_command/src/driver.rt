@@ -33,7 +33,7 @@ pub trait Surroundings {
 
 /// How it all ended for a client that heard what happened. Only [`drive`] makes one, so it is
 /// always the client's own word.
-#[derive(Clone, Copy, Debug, PartialEq, Eq)]
+#[derive(Clone, Copy)]
 pub struct Driven {
     outcome: Outcome,
 }

@@ -14,7 +14,7 @@ use std::{env, io};
 
 /// The environment variable that names the command to its guard: the command's mark, without the
 /// semicolon at its end. So a search for the mark does not find the guard.
-pub const GUARDED: &str = "TOKENTREE_GUARD";
+pub(crate) const GUARDED: &str = "TOKENTREE_GUARD";
 
 /// The program that starts the guard so that the signals of a terminal, of `timeout` and of a
 /// service manager do not end it. GNU coreutils have its option since 8.31.

@@ -33,7 +33,6 @@ mod work;
 
 pub use driver::{Driven, Surroundings, drive};
 pub use guard_driver::{Guarded, drive_guard};
-pub use guard_link::GUARDED;
 pub use lock::Request;
 pub use notice::{Cause, Fate, Notice, NoticeLine};
 pub use seconds::Seconds;

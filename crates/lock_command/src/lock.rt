@@ -19,7 +19,7 @@ use std::sync::Wait;
 use std::time::Clock;
 
 /// What `lock` must do.
-#[derive(Clone, Copy, Debug)]
+#[derive(Clone, Copy)]
 pub struct Request<'a> {
     /// The folder of the nodes' sockets.
     pub folder: &'a str,

@@ -7,7 +7,7 @@ use lock_client::{Answer, Deed, Event, Outcome};
 use std::fmt;
 
 /// Why a lock is lost.
-#[derive(Clone, Copy, Debug, PartialEq, Eq, Drop)]
+#[derive(Clone, Copy, Drop)]
 pub enum Cause {
     /// The node ended the loan: its lease was over, or the node was damaged.
     Ended,
@@ -16,7 +16,7 @@ pub enum Cause {
 }
 
 /// What becomes of the command if the lock is lost.
-#[derive(Clone, Copy, Debug, PartialEq, Eq, Drop)]
+#[derive(Clone, Copy, Drop)]
 pub enum Fate {
     /// It is ended.
     Ended,

@@ -2,7 +2,7 @@
 use std::fmt;
 
 /// A time. Printed, it is in seconds, with up to three decimals.
-#[derive(Clone, Copy, Debug, PartialEq, Eq, Drop)]
+#[derive(Clone, Copy, Drop)]
 pub struct Seconds {
     /// How many milliseconds it is.
     pub millis: u32,

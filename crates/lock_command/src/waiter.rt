@@ -32,7 +32,7 @@ pub struct Waiter {
 }
 
 /// How standard input is watched.
-#[derive(Clone, Copy, Debug, PartialEq, Eq, Drop)]
+#[derive(Clone, Copy, Drop)]
 enum Watch {
     /// Not at all.
     Not,

@@ -7,7 +7,7 @@ ghost use Rattle.lock_words.specs.Words.{nothing_read, said};
 use line_words::number;
 
 /// How far the words of `lock` are read: those in front of its command.
-#[derive(Clone, Copy, Debug, PartialEq, Eq)]
+#[derive(Clone, Copy)]
 pub struct Reading {
     /// How many words in their place were read: DIR, ID and the command's name. No more than three
     /// count.

@@ -8,7 +8,7 @@ use std::alloc::{AllocError, Global};
 use std::convert::AsStr;
 
 /// What stands in for words that are left out.
-#[derive(Clone, Copy, Debug)]
+#[derive(Clone, Copy)]
 pub struct StandIns<'a> {
     /// A folder, for DIR.
     pub folder: Option<&'a str>,

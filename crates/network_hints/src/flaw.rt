@@ -3,7 +3,7 @@ use crate::key::Key;
 use std::fmt;
 
 /// What is wrong with the values of a network file.
-#[derive(Clone, Copy, Debug)]
+#[derive(Clone, Copy)]
 pub enum Flaw {
     /// There is no such key.
     NoKey(Key),
@@ -73,7 +73,7 @@ impl fmt::Display for Flaw {
 }
 
 /// That it is none of so many nodes.
-#[derive(Clone, Copy, Debug)]
+#[derive(Clone, Copy)]
 struct NoneOf(i64);
 
 impl fmt::Display for NoneOf {
@@ -88,7 +88,7 @@ impl fmt::Display for NoneOf {
 }
 
 /// A flaw, with an unknown key that is like the one that is missing.
-#[derive(Clone, Copy, Debug)]
+#[derive(Clone, Copy)]
 pub struct Hint<'a> {
     /// The network file.
     pub file: &'a str,

@@ -9,7 +9,7 @@ use crate::flaw::Flaw;
 use crate::key::Key;
 
 /// The values of the five keys.
-#[derive(Debug, Drop)]
+#[derive(Drop)]
 pub struct Values {
     pub nodes: i64,
     pub root: i64,

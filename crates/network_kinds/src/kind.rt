@@ -6,7 +6,7 @@ ghost use Rattle.network_kinds.specs.Kinds.{regular_edges};
 use std::alloc::{AllocError, Allocator};
 
 /// A kind of network.
-#[derive(Clone, Copy, Debug, PartialEq, Eq)]
+#[derive(Clone, Copy)]
 pub enum Kind {
     /// Each node is joined to the next one.
     Line,

@@ -7,7 +7,7 @@ use network_file::NetworkFault;
 use topology::{Net, NetFault};
 
 /// What a node finds as it reads its network file again.
-#[derive(Clone, Copy, Debug, PartialEq, Eq)]
+#[derive(Clone, Copy)]
 pub enum Found {
     /// Its own network.
     Same,
@@ -42,7 +42,7 @@ fn has_new(first: &Net, second: &Net) -> bool
 }
 
 /// What a node has said of its network file.
-#[derive(Clone, Copy, Debug, PartialEq, Eq, Drop)]
+#[derive(Clone, Copy, Drop)]
 pub struct FileNews {
     /// The number of the reason why the file was not taken up when it was read last; 0 if it was.
     refused: u8,

@@ -6,7 +6,7 @@ use crate::keeper::Seen;
 use held_signals::Signals;
 
 /// How far `up` is.
-#[derive(Clone, Copy, Debug, PartialEq, Eq)]
+#[derive(Clone, Copy)]
 pub enum UpStage {
     /// It keeps its nodes running.
     Running,
@@ -17,7 +17,7 @@ pub enum UpStage {
 }
 
 /// What `up` sees of itself between two looks at its nodes.
-#[derive(Clone, Copy, Debug, PartialEq, Eq)]
+#[derive(Clone, Copy)]
 pub struct UpSights {
     /// The signals that have come to it since its start.
     pub signals: Signals,
@@ -29,7 +29,7 @@ pub struct UpSights {
 }
 
 /// Whether `up` keeps its nodes running.
-#[derive(Clone, Copy, Debug, PartialEq, Eq, Drop)]
+#[derive(Clone, Copy, Drop)]
 pub struct UpCourse {
     stage: UpStage,
     /// The signals that had come when it was asked to end.

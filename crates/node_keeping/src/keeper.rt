@@ -19,7 +19,7 @@ const LOOKS_OF_A_START: u32 = 100;
 const MOST_FAILURES: u8 = 3;
 
 /// How a node that is kept running stands.
-#[derive(Clone, Copy, Debug, PartialEq, Eq)]
+#[derive(Clone, Copy, PartialEq, Eq)]
 pub enum Stage {
     /// It is started after this many looks more.
     Waits(u32),
@@ -36,7 +36,7 @@ pub enum Stage {
 }
 
 /// What is seen of a node.
-#[derive(Clone, Copy, Debug, PartialEq, Eq)]
+#[derive(Clone, Copy)]
 pub enum Seen {
     /// A look shows nothing new.
     Nothing,
@@ -51,7 +51,7 @@ pub enum Seen {
 }
 
 /// What to do with a node.
-#[derive(Clone, Copy, Debug, PartialEq, Eq)]
+#[derive(Clone, Copy)]
 pub enum Deed {
     /// Nothing.
     Rest,
@@ -70,7 +70,7 @@ pub enum Deed {
 }
 
 /// What `up` knows of a node that it keeps running.
-#[derive(Clone, Copy, Debug, PartialEq, Eq, Drop)]
+#[derive(Clone, Copy, Drop)]
 pub struct Keeper {
     stage: Stage,
     /// How often in a row it failed at its start.

@@ -5,7 +5,7 @@ ghost use Rattle.node_keeping.specs.AfterSave.{after_save, looks_for_stop, is_lo
 use crate::sight::FileSight;
 
 /// What became of the file by which a node is stopped.
-#[derive(Clone, Copy, Debug, PartialEq, Eq)]
+#[derive(Clone, Copy)]
 pub enum StopSight {
     /// It is not there.
     Absent,
@@ -16,7 +16,7 @@ pub enum StopSight {
 }
 
 /// What a node sees after a turn that saved its state.
-#[derive(Clone, Copy, Debug, PartialEq, Eq)]
+#[derive(Clone, Copy)]
 pub struct Sights {
     /// Its lock file.
     pub place: FileSight,
@@ -34,7 +34,7 @@ pub struct Sights {
 }
 
 /// Which sockets of a node are made again, since their names lead elsewhere.
-#[derive(Clone, Copy, Debug, PartialEq, Eq)]
+#[derive(Clone, Copy, PartialEq, Eq)]
 pub struct Lost {
     /// That for neighbours.
     pub links: bool,
@@ -45,7 +45,7 @@ pub struct Lost {
 }
 
 /// What a node does then.
-#[derive(Clone, Copy, Debug, PartialEq, Eq)]
+#[derive(Clone, Copy, PartialEq, Eq)]
 pub enum AfterSave {
     /// It ends at once, and touches no file: its folder was removed or made again, so that another
     /// network may lend beside it.
@@ -91,7 +91,7 @@ fn is_lost(sight: FileSight) -> bool
 }
 
 /// Something that is said when it begins, and not again while it lasts.
-#[derive(Clone, Copy, Debug, PartialEq, Eq, Drop)]
+#[derive(Clone, Copy, Drop)]
 pub struct Complaint {
     lasts: bool,
 }

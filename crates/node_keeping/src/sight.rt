@@ -7,7 +7,7 @@ use std::io::ErrorKind;
 /// Which file it is, for as long as it is open: no two files of a system that are open have the same
 /// device and inode. A node keeps its lock file and sockets open, so their inodes go to no other file. In a folder that is
 /// another node's it ends and removes nothing: sockets and stop file there are not its own.
-#[derive(Clone, Copy, Debug, PartialEq, Eq)]
+#[derive(Clone, Copy)]
 pub struct FileId {
     /// The device that it is on.
     pub device: u64,
@@ -16,7 +16,7 @@ pub struct FileId {
 }
 
 /// What a name of a node's file leads to.
-#[derive(Clone, Copy, Debug, PartialEq, Eq)]
+#[derive(Clone, Copy)]
 pub enum FileSight {
     /// The file that the node made or locked.
     Own,

@@ -3,7 +3,7 @@ ghost use Rattle.std.specs.Prelude.{◌≡◌};
 ghost use Rattle.node_log.specs.Events.{level_of, level_with, priority_of, is_said_at};
 
 /// What a node may say of itself.
-#[derive(Clone, Copy, Debug, PartialEq, Eq)]
+#[derive(Clone, Copy)]
 pub enum Event {
     /// Its sockets listen, and its turns begin.
     Begins,
@@ -34,7 +34,7 @@ pub enum Event {
 }
 
 /// How urgent it is.
-#[derive(Clone, Copy, Debug, PartialEq, Eq)]
+#[derive(Clone, Copy)]
 pub enum Level {
     /// Something is amiss.
     Warning,

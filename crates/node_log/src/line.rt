@@ -3,7 +3,7 @@ use crate::event::Event;
 use std::fmt;
 
 /// A line of a node's log, without a newline.
-#[derive(Clone, Copy, Debug, PartialEq, Eq)]
+#[derive(Clone, Copy)]
 pub struct LogLine {
     /// The node.
     pub id: u16,

@@ -23,7 +23,7 @@ const HALF: usize = 32;
 const HALF_CONNECTED: usize = 64;
 
 /// What is seen of a node after a turn.
-#[derive(Clone, Copy, Debug, PartialEq, Eq)]
+#[derive(Clone, Copy)]
 pub struct TurnSight {
     /// What the tick did at its desk.
     pub act: DeskAct,

@@ -8,7 +8,7 @@ use crate::event::Event;
 const PATIENCE: u64 = 2_000_000;
 
 /// Whether a node's distance and parent are those of the network, as was seen so far.
-#[derive(Clone, Copy, Debug, PartialEq, Eq, Drop)]
+#[derive(Clone, Copy, Drop)]
 pub enum Place {
     /// They are.
     Right,

@@ -9,7 +9,7 @@ pub const MOST_LINES: u32 = 20;
 const SECOND: u64 = 1_000_000;
 
 /// How many lines were said in a second.
-#[derive(Clone, Copy, Debug, PartialEq, Eq, Drop)]
+#[derive(Clone, Copy, Drop)]
 pub struct LineRate {
     /// Which second it is, of the clock.
     second: u64,

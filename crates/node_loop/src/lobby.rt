@@ -30,7 +30,7 @@ struct Visitor<P> {
 }
 
 /// What a visitor did in a turn.
-#[derive(Clone, Copy, Debug, PartialEq, Eq)]
+#[derive(Clone, Copy)]
 enum Arrival {
     /// Its first line is not yet whole.
     Waits,

@@ -7,7 +7,7 @@ use node_core::Ticked;
 use node_state_file::StoreFault;
 
 /// What a turn did, as far as its caller may need it.
-#[derive(Clone, Copy, Debug, PartialEq, Eq)]
+#[derive(Clone, Copy)]
 pub struct Turned {
     /// What the tick did.
     pub ticked: Ticked,

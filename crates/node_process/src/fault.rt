@@ -9,7 +9,7 @@ use std::fmt;
 use std::io::ErrorKind;
 
 /// Why a node does not run, or ends. Printed within a [`Refusal`].
-#[derive(Clone, Copy, Debug, PartialEq, Eq, Drop)]
+#[derive(Clone, Copy, Drop)]
 pub enum NodeFault {
     /// The network file is refused.
     Network(NetworkFault),

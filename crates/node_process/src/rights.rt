@@ -3,7 +3,7 @@ ghost use Rattle.std.specs.Prelude.{◌≡◌};
 ghost use Rattle.node_process.specs.Rights.{folder_mode, own_mode, clients_mode};
 
 /// The rights that a node gives to others than its own user.
-#[derive(Clone, Copy, Debug, PartialEq, Eq)]
+#[derive(Clone, Copy)]
 pub enum Rights {
     /// Only its user enters a folder that it makes. In a folder that is there, the folder and the
     /// user's mask decide.

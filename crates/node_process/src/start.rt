@@ -5,7 +5,7 @@
 //! made before the place is held, and that no node says `ready` before its sockets listen.
 
 /// How far a start is.
-#[derive(Clone, Copy, Debug, PartialEq, Eq)]
+#[derive(Clone, Copy)]
 pub enum Stage {
     /// Nothing is known to be right, and nothing is made.
     Begun,

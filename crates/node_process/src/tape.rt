@@ -34,7 +34,7 @@ use topology::Net;
 use turn_watch::LinkSight;
 
 /// The most bytes of each of the two files of a record.
-#[derive(Clone, Copy, Debug, PartialEq, Eq)]
+#[derive(Clone, Copy)]
 pub struct RecordSize {
     /// 65536 or more; less counts as 65536.
     pub bytes: u64,

@@ -2,7 +2,7 @@
 use std::fmt;
 
 /// What became of a node that was asked to end.
-#[derive(Clone, Copy, Debug, PartialEq, Eq)]
+#[derive(Clone, Copy)]
 pub enum Ending {
     /// It ran, and has ended.
     Ended,
@@ -17,7 +17,7 @@ pub enum Ending {
 }
 
 /// The line which says that, without a newline.
-#[derive(Clone, Copy, Debug, PartialEq, Eq)]
+#[derive(Clone, Copy)]
 pub struct EndingLine<'a> {
     /// The folder of the network.
     pub dir: &'a str,

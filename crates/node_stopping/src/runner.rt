@@ -13,7 +13,7 @@ use std::rt::Files;
 const MOST_NODES: u16 = 64;
 
 /// The line which says that a node runs, and writes a file again, without a newline.
-#[derive(Clone, Copy, Debug, PartialEq, Eq)]
+#[derive(Clone, Copy)]
 pub struct RunnerLine<'a> {
     /// The state file of the node.
     pub path: &'a str,

@@ -5,7 +5,7 @@ ghost use Rattle.node_stopping.specs.Steps.{next};
 use crate::lines::Ending;
 
 /// What is seen of a node's lock file.
-#[derive(Clone, Copy, Debug, PartialEq, Eq)]
+#[derive(Clone, Copy)]
 pub enum Sight {
     /// It is not there, or nobody holds it.
     Free,
@@ -16,7 +16,7 @@ pub enum Sight {
 }
 
 /// What is done next.
-#[derive(Clone, Copy, Debug, PartialEq, Eq)]
+#[derive(Clone, Copy)]
 pub enum Step {
     /// Its stop file is made.
     Ask,

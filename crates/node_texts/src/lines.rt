@@ -11,7 +11,7 @@ use std::fmt;
 pub const SOCKET_FRAMES: u16 = 64;
 
 /// What a node's process says on standard output.
-#[derive(Clone, Copy, Debug, PartialEq, Eq)]
+#[derive(Clone, Copy)]
 pub enum Note {
     /// From what it starts: its stored state or, if there is none, the default state.
     Started(Option<StartFault>),
@@ -55,7 +55,7 @@ fn fault_name(fault: StartFault) -> &'static str
 
 /// A note as a line without its newline; the node's id stands in front if a process that keeps
 /// many nodes prints it.
-#[derive(Clone, Copy, Debug, PartialEq, Eq)]
+#[derive(Clone, Copy)]
 pub struct NoteLine {
     /// The node that is named.
     pub named: Option<u16>,
@@ -100,7 +100,7 @@ impl fmt::Display for CapacityLine {
 }
 
 /// How a node's process ended.
-#[derive(Clone, Copy, Debug, PartialEq, Eq)]
+#[derive(Clone, Copy)]
 pub enum End {
     /// With this status.
     Status(u32),

@@ -10,7 +10,7 @@ use std::fmt;
 use turn_watch::{LinkTimes, LoanTimes, TurnTimes};
 
 /// The link to a neighbour. Printed, it is a JSON object.
-#[derive(Clone, Copy, Debug, PartialEq, Eq, Drop)]
+#[derive(Clone, Copy, Drop)]
 pub struct LinkPart {
     /// The neighbour.
     pub node: u16,
@@ -53,7 +53,7 @@ impl fmt::Display for LinkPart {
 }
 
 /// The loans of a node, in microseconds. Printed, it is a JSON object.
-#[derive(Clone, Copy, Debug, PartialEq, Eq, Drop)]
+#[derive(Clone, Copy, Drop)]
 pub struct LoanPart {
     /// The loans so far.
     pub count: u64,
@@ -99,7 +99,7 @@ impl fmt::Display for LoanPart {
 
 /// The turns of a node, and the longest times between the ends of two, in microseconds. Printed, it is a
 /// JSON object.
-#[derive(Clone, Copy, Debug, PartialEq, Eq, Drop)]
+#[derive(Clone, Copy, Drop)]
 pub struct TurnPart {
     /// The turns so far.
     pub count: u64,
@@ -144,7 +144,7 @@ impl fmt::Display for TurnPart {
 }
 
 /// The process of a node.
-#[derive(Clone, Copy, Debug, PartialEq, Eq, Drop)]
+#[derive(Clone, Copy, Drop)]
 pub struct ProcessPart {
     /// Its id in the system, if the system says it.
     pub id: Option<u64>,

@@ -10,7 +10,7 @@ use std::fmt;
 use std::fmt::Write;
 
 /// The turns of a node, as its line for whoever looks says. In microseconds.
-#[derive(Clone, Copy, Debug, PartialEq, Eq, Drop)]
+#[derive(Clone, Copy, Drop)]
 pub struct TurnsSaid {
     /// The turns so far.
     pub count: u64,
@@ -92,7 +92,7 @@ fn push_line(text: &mut String, line: &PremisesLine) -> Result<(), AllocError>
 
 /// The line of `status --premises` for a node: its turns, or that it gave no answer. Printed, it has no
 /// newline; times are in milliseconds.
-#[derive(Clone, Copy, Debug, PartialEq, Eq, Drop)]
+#[derive(Clone, Copy, Drop)]
 pub struct PremisesLine {
     /// The node.
     pub node: u16,

@@ -11,7 +11,7 @@ use std::fmt;
 pub const MOST_STATUS_BYTES: usize = 96;
 
 /// How a node stands, as its status line says. Printed, it is that line, without its newline.
-#[derive(Clone, Copy, Debug, PartialEq, Eq, Drop)]
+#[derive(Clone, Copy, Drop)]
 pub struct StatusLine {
     /// The node's id.
     pub node: u16,

@@ -15,7 +15,7 @@ use std::alloc::{AllocError, Allocator};
 use topology::Net;
 
 /// A fact of a world.
-#[derive(Clone, Copy, Debug, PartialEq, Eq)]
+#[derive(Clone, Copy)]
 pub enum Fact {
     /// The state of a node has this part.
     State {

@@ -19,7 +19,7 @@ use std::alloc::Allocator;
 use topology::Frame;
 
 /// A field of a node, or a frame that it took.
-#[derive(Clone, Copy, Debug, PartialEq, Eq)]
+#[derive(Clone, Copy)]
 pub enum Field {
     /// Its distance.
     Distance,

@@ -6,7 +6,7 @@ ghost use Rattle.record_gathering.specs.Counts.{with_events, with_entry, any_wri
 use configuration::{Event, Harm};
 
 /// How many of the events that entries became are of which kind. A count stays at its greatest value.
-#[derive(Clone, Copy, Debug, PartialEq, Eq)]
+#[derive(Clone, Copy)]
 pub struct Found {
     /// How many events there are.
     pub events: u64,

@@ -9,7 +9,7 @@ use std::alloc::Allocator;
 use topology::{Frame, Payload};
 
 /// A frame on the link from a node to another one.
-#[derive(Clone, Copy, Debug, PartialEq, Eq)]
+#[derive(Clone, Copy)]
 pub struct Passage {
     pub from: u16,
     pub to: u16,
@@ -26,7 +26,7 @@ impl Passage {
 }
 
 /// How many items stand in front of the first one that is this frame, and whether there is one.
-#[derive(Clone, Copy, Debug, PartialEq, Eq)]
+#[derive(Clone, Copy)]
 pub struct Place {
     /// How many; all items of the link, if none is this frame.
     pub in_front: usize,

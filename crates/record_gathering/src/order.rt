@@ -38,7 +38,7 @@ fn is_no_later(rank: u8, instant: u64, other: u8, later: u64) -> bool
 }
 
 /// A node whose next entry comes before those of the nodes in front of it.
-#[derive(Clone, Copy, Debug, PartialEq, Eq)]
+#[derive(Clone, Copy)]
 struct First {
     node: u16,
     rank: u8,

@@ -11,7 +11,7 @@ use std::alloc::Allocator;
 use topology::Payload;
 
 /// What is noted of a port, and of the machine that comes in from its neighbour.
-#[derive(Clone, Copy, Debug, PartialEq, Eq)]
+#[derive(Clone, Copy)]
 pub struct PortNoted {
     pub neighbour: u16,
     pub seq: u16,
@@ -22,7 +22,7 @@ pub struct PortNoted {
 }
 
 /// What is noted of a desk's loan.
-#[derive(Clone, Copy, Debug, PartialEq, Eq)]
+#[derive(Clone, Copy)]
 pub struct LoanNoted {
     pub lent: Option<u16>,
     pub left: u16,
@@ -30,7 +30,7 @@ pub struct LoanNoted {
 }
 
 /// What is noted of where a node stands.
-#[derive(Clone, Copy, Debug, PartialEq, Eq)]
+#[derive(Clone, Copy)]
 pub enum PartNoted {
     /// Its distance and parent.
     Own { distance: u16, parent: Option<u16> },

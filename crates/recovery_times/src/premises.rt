@@ -6,7 +6,7 @@ use std::alloc::Allocator;
 use topology::Net;
 
 /// How fast the nodes and the links of a network are, in microseconds.
-#[derive(Clone, Copy, Debug, PartialEq, Eq)]
+#[derive(Clone, Copy)]
 pub struct Premises {
     /// Each stretch of this length holds a whole turn of each node.
     pub turn: u32,

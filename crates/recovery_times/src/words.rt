@@ -8,7 +8,7 @@ use std::fmt;
 
 /// The words of the options, each a time in milliseconds with at most three decimals. One that is
 /// left out has its usual time.
-#[derive(Clone, Copy, Debug)]
+#[derive(Clone, Copy)]
 pub struct PremiseWords<'a> {
     /// The word of `--turn`.
     pub turn: Option<&'a str>,
@@ -22,7 +22,7 @@ pub struct PremiseWords<'a> {
 
 /// The option whose word is refused: it is no time, or not in the option's range. Printed, it is
 /// what the message says after the program's name.
-#[derive(Clone, Copy, Debug, PartialEq, Eq, Drop)]
+#[derive(Clone, Copy, Debug, Drop)]
 pub enum TimeFault {
     /// `--turn`, which is above 0.
     Turn,

@@ -13,7 +13,7 @@ use std::fmt::Write;
 use svg_drawing::{Element, Fixed, Group, Point, Px};
 
 /// Which nodes a curve counts.
-#[derive(Clone, Copy, Debug, PartialEq, Eq)]
+#[derive(Clone, Copy)]
 enum Curve {
     /// The privileged ones.
     Privileged,

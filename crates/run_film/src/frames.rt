@@ -27,7 +27,7 @@ use svg_drawing::{Element, Group, Point};
 const MOST_TRAVELLED: usize = 10;
 
 /// What an event does with a frame.
-#[derive(Clone, Copy, Debug, PartialEq, Eq)]
+#[derive(Clone, Copy)]
 pub enum Deed {
     /// It is sent.
     Sent,

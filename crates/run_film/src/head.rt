@@ -38,7 +38,7 @@ text, .ink { fill: #e8eaec }
 pub const BELOW: Px = Px(150);
 
 /// What a film says of its run.
-#[derive(Clone, Copy, Debug, PartialEq, Eq)]
+#[derive(Clone, Copy)]
 pub struct Said {
     /// How many nodes there are.
     pub nodes: u16,

@@ -12,7 +12,7 @@ use svg_drawing::{spelled_document, spelled_scene};
 use topology::Net;
 
 /// What film a run makes.
-#[derive(Clone, Copy, Debug, PartialEq, Eq)]
+#[derive(Clone, Copy)]
 pub struct Wanted {
     /// For how many seconds it plays, 2 to 600.
     pub seconds: u16,

@@ -17,7 +17,7 @@ use std::fmt::Write;
 use svg_drawing::{Element, Group};
 
 /// What of a still an element shows. Each value is the name of a symbol.
-#[derive(Clone, Copy, Debug, PartialEq, Eq)]
+#[derive(Clone, Copy)]
 pub enum Track {
     /// How a node stands.
     Mark(u16),

@@ -1,7 +1,7 @@
 //! At which ids the marks of a moment differ from those of the moment before.
 
 /// At which ids the marks of a moment may differ from those of the moment before it.
-#[derive(Clone, Copy, Debug, PartialEq, Eq)]
+#[derive(Clone, Copy)]
 pub enum Change {
     /// At none.
     Nothing,

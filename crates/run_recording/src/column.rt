@@ -10,7 +10,7 @@ use crate::mark::Mark;
 pub const MOST_NODES: usize = 64;
 
 /// What is seen of a network at a moment, or the worst of several moments.
-#[derive(Clone, Copy, Debug, PartialEq, Eq)]
+#[derive(Clone, Copy)]
 pub struct Column {
     /// The mark of each node, by its id; [`Mark::Settled`] if there is no such node.
     pub marks: [Mark; 64],
@@ -29,7 +29,7 @@ pub struct Column {
 }
 
 /// What is seen of a network at a moment, apart from the marks of its nodes.
-#[derive(Clone, Copy, Debug, PartialEq, Eq)]
+#[derive(Clone, Copy)]
 pub struct Counts {
     /// How many nodes are privileged.
     pub privileged: usize,

@@ -3,7 +3,7 @@ ghost use Rattle.std.specs.Prelude.{◌≡◌};
 ghost use Rattle.run_recording.specs.Marks.{rank, worse};
 
 /// What is seen of a node, the best first. Of several moments the worst is shown.
-#[derive(Clone, Copy, Debug, PartialEq, Eq)]
+#[derive(Clone, Copy, PartialEq, Eq)]
 pub enum Mark {
     /// Its distance and its parent are the true ones; it is not privileged, and does not lend.
     Settled,

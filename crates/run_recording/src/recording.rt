@@ -43,7 +43,7 @@ const PIECE: usize = 8192;
 const SPARE_PAIRS: u16 = 8;
 
 /// What was before the first moment that is shown.
-#[derive(Clone, Copy, Debug, PartialEq, Eq)]
+#[derive(Clone, Copy)]
 pub struct Before {
     /// How many events have led to it.
     pub events: u64,
@@ -200,7 +200,7 @@ fn recorded<A: Allocator + Copy, N: Allocator + Copy, R: Source>(
 }
 
 /// When a still is taken.
-#[derive(Clone, Copy, Debug, PartialEq, Eq)]
+#[derive(Clone, Copy)]
 pub struct Take {
     /// The last event; `None` at the start.
     pub event: Option<Event>,

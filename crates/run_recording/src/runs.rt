@@ -7,7 +7,7 @@ use crate::mark::Mark;
 use std::alloc::{AllocError, Global};
 
 /// Adjacent columns in which a node has the same mark.
-#[derive(Clone, Copy, Debug, PartialEq, Eq)]
+#[derive(Clone, Copy)]
 pub struct Run {
     /// The first column.
     pub first: usize,

@@ -4,7 +4,7 @@ ghost use Rattle.run_recording.specs.Held.{is_held};
 
 /// The moments to show, by how many sweeps have ended since the start, including one that ends at
 /// the moment itself. Damage does not restart this count.
-#[derive(Clone, Copy, Debug, PartialEq, Eq)]
+#[derive(Clone, Copy)]
 pub struct Window {
     /// The least number.
     pub from: u64,

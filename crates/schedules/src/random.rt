@@ -16,7 +16,7 @@ use std::alloc::Allocator;
 use topology::Net;
 
 /// Which steps a random schedule has beside ticks, sends and takes.
-#[derive(Clone, Copy, Debug, PartialEq, Eq)]
+#[derive(Clone, Copy)]
 pub struct Chances {
     /// Of a hundred arrivals, how many are losses: 0 to 100.
     pub loss: u16,

@@ -15,7 +15,7 @@ use std::alloc::Allocator;
 use topology::Net;
 
 /// What is slower than the others.
-#[derive(Clone, Copy, Debug, PartialEq, Eq)]
+#[derive(Clone, Copy)]
 pub enum Slow {
     /// The link that leads from one node to another; its other direction is as fast as the others.
     Link { from: u16, to: u16 },

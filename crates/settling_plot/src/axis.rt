@@ -19,7 +19,7 @@ const WIDTH: u32 = 640;
 
 /// The axis of sweeps. It begins at 0, comes to 1 after a step, and doubles with each step after
 /// that.
-#[derive(Clone, Copy, Debug, PartialEq, Eq)]
+#[derive(Clone, Copy)]
 pub struct Axis {
     /// How many steps there are after that from 0 to 1; at most 32.
     pub doublings: u32,

@@ -44,7 +44,7 @@ impl Figure {
 }
 
 /// A layer of the proof.
-#[derive(Clone, Copy, Debug, PartialEq, Eq)]
+#[derive(Clone, Copy)]
 pub enum Layer {
     /// Every link is stable.
     Links,

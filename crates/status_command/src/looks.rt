@@ -17,7 +17,7 @@ use std::rt::Files;
 use std::time::Clock;
 
 /// What to show of the nodes' lines for lookers.
-#[derive(Clone, Copy, Debug, PartialEq, Eq, Drop)]
+#[derive(Clone, Copy, Drop)]
 pub enum Part {
     /// The longest times between two turns.
     Premises,

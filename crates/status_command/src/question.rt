@@ -12,7 +12,7 @@ use std::alloc::{AllocError, Global};
 pub const MOST_LOOK_BYTES: usize = 8192;
 
 /// What a node is asked.
-#[derive(Clone, Copy, Debug, PartialEq, Eq, Drop)]
+#[derive(Clone, Copy, Drop)]
 pub enum Question {
     /// Its status line, at its desk.
     Status,

@@ -16,7 +16,7 @@ use std::time::{Clock, Duration, Instant};
 use std::{fs, io, thread};
 
 /// Whether a watch goes on.
-#[derive(Clone, Copy, Debug, PartialEq, Eq, Drop)]
+#[derive(Clone, Copy, Drop)]
 pub enum End {
     /// Nobody asked for its end.
     NotYet,

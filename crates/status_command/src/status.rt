@@ -25,7 +25,7 @@ pub const WAIT: u32 = 1000;
 pub const NO_ANSWER: u8 = 1;
 
 /// The form in which answers are printed.
-#[derive(Clone, Copy, Debug, PartialEq, Eq, Drop)]
+#[derive(Clone, Copy, Drop)]
 pub enum Form {
     /// A line for each node, and their counts.
     Lines,

@@ -27,7 +27,7 @@ use std::time::{Clock, Instant};
 const WAIT: u32 = 300;
 
 /// What to watch, and how.
-#[derive(Clone, Copy, Debug)]
+#[derive(Clone, Copy)]
 pub struct Watch<'a> {
     /// The folder of the nodes' sockets.
     pub folder: &'a str,

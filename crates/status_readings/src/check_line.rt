@@ -9,7 +9,7 @@ use std::fmt;
 use topology::Net;
 
 /// The figures of a reading.
-#[derive(Clone, Copy, Debug, PartialEq, Eq, Drop)]
+#[derive(Clone, Copy, Drop)]
 pub struct Figures {
     /// How many nodes were asked.
     pub nodes: usize,
@@ -77,7 +77,7 @@ impl fmt::Display for Finding {
 }
 
 /// A count of nodes. Printed, it is a figure of the line, with a space in front.
-#[derive(Clone, Copy, Debug, PartialEq, Eq, Drop)]
+#[derive(Clone, Copy, Drop)]
 struct Figure {
     /// What is counted.
     label: &'static str,
@@ -130,7 +130,7 @@ impl fmt::Display for Figures {
 
 /// What a check prints, without its newline: how bad it is, what was found, and the figures of the last
 /// reading.
-#[derive(Clone, Copy, Debug, PartialEq, Eq, Drop)]
+#[derive(Clone, Copy, Drop)]
 pub struct CheckLine {
     /// What was found.
     pub finding: Finding,

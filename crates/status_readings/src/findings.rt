@@ -10,7 +10,7 @@ use node_texts::{NodeAnswer, StatusLine};
 use topology::Net;
 
 /// What was found of a network.
-#[derive(Clone, Copy, Debug, PartialEq, Eq, Drop)]
+#[derive(Clone, Copy, Drop)]
 pub enum Finding {
     /// In each reading every node answers, with its true distance and parent, and at most one lends.
     AllWell,
@@ -27,7 +27,7 @@ pub enum Finding {
 }
 
 /// How bad what was found is, as plugins of monitors say it.
-#[derive(Clone, Copy, Debug, PartialEq, Eq, Drop)]
+#[derive(Clone, Copy, Drop)]
 pub enum Severity {
     /// All is well.
     Fine,

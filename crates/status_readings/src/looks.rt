@@ -16,7 +16,7 @@ use std::fmt::Write;
 
 /// The loans of a node, and how often the token came round, as its line for whoever looks says. Lengths
 /// are in microseconds.
-#[derive(Clone, Copy, Debug, PartialEq, Eq, Drop)]
+#[derive(Clone, Copy, Drop)]
 pub struct LoansSaid {
     /// The loans so far.
     pub count: u64,
@@ -81,7 +81,7 @@ pub fn member_truth(object: &Value, name: &str) -> Option<bool>
 }
 
 /// The link to a neighbour, as a line for whoever looks says.
-#[derive(Clone, Copy, Debug, PartialEq, Eq, Drop)]
+#[derive(Clone, Copy, Drop)]
 pub struct LinkSaid {
     /// The neighbour.
     pub node: u64,

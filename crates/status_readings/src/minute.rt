@@ -8,7 +8,7 @@ use crate::looks::LoansSaid;
 use std::alloc::{AllocError, Global};
 
 /// What a node said of its loans; none if it gave no answer.
-#[derive(Clone, Copy, Debug, PartialEq, Eq, Drop)]
+#[derive(Clone, Copy, Drop)]
 pub struct NodeLoans {
     /// The node.
     pub node: u16,
@@ -31,7 +31,7 @@ fn loans_at(loans: &[NodeLoans], node: u16) -> Option<NodeLoans>
 }
 
 /// The loans of all nodes at a time.
-#[derive(Clone, Copy, Debug, PartialEq, Eq, Drop)]
+#[derive(Clone, Copy, Drop)]
 pub struct Sample {
     /// The time, in milliseconds.
     pub at: u64,
@@ -84,7 +84,7 @@ impl Sample {
 }
 
 /// The loans between two times, and how often the token came round.
-#[derive(Clone, Copy, Debug, PartialEq, Eq, Drop)]
+#[derive(Clone, Copy, Drop)]
 pub struct Rates {
     /// How many loans there were in ten seconds, rounded down.
     pub tenths: u64,

@@ -8,7 +8,7 @@ use node_texts::NodeAnswer;
 use std::alloc::{AllocError, Global};
 
 /// A line of the picture.
-#[derive(Clone, Copy, Debug, PartialEq, Eq, Drop)]
+#[derive(Clone, Copy, Drop)]
 pub struct Row {
     /// Under how many others the node stands.
     pub depth: usize,

@@ -20,7 +20,7 @@ use std::time::Clock;
 use topology::Net;
 
 /// What to measure.
-#[derive(Clone, Copy, Debug, PartialEq, Eq)]
+#[derive(Clone, Copy)]
 pub struct Plan {
     /// How many runs there are.
     pub runs: u32,

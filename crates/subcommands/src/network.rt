@@ -15,7 +15,7 @@ use std::process::ExitCode;
 use topology::Net;
 
 /// The network to make.
-#[derive(Clone, Copy, Debug, PartialEq, Eq)]
+#[derive(Clone, Copy)]
 pub struct Wanted {
     /// Its kind.
     pub kind: Kind,

@@ -22,7 +22,7 @@ use std::rt::Files;
 use topology::Net;
 
 /// What follows the scramble.
-#[derive(Clone, Copy, Debug, PartialEq, Eq)]
+#[derive(Clone, Copy)]
 pub enum Turns {
     /// This many rounds.
     Rounds(u32),

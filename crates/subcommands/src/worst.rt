@@ -32,7 +32,7 @@ const BATCH: u32 = 16;
 const MOST_BATCHES: u32 = 62_500;
 
 /// How many searches there are.
-#[derive(Clone, Copy, Debug, PartialEq, Eq)]
+#[derive(Clone, Copy)]
 pub enum Extent {
     /// This many; 0 counts as 1.
     Searches(u32),
@@ -41,7 +41,7 @@ pub enum Extent {
 }
 
 /// What is searched.
-#[derive(Clone, Copy, Debug, PartialEq, Eq)]
+#[derive(Clone, Copy)]
 pub struct Plan {
     /// How many searches there are.
     pub extent: Extent,

@@ -4,7 +4,7 @@ ghost use Rattle.svg_drawing.specs.Colours.{colour_code};
 
 /// A colour. Those of the marks grow darker in the order pale, gold, grey, red, so that they are
 /// told apart without any colour too.
-#[derive(Clone, Copy, Debug, PartialEq, Eq)]
+#[derive(Clone, Copy)]
 pub enum Colour {
     /// A node whose distance and parent are true.
     Pale,

@@ -3,7 +3,7 @@ ghost use Rattle.std.specs.Prelude.{◌≡◌};
 ghost use Rattle.turn_watch.specs.Links.{down_since, link_seen, break_count};
 
 /// What is seen of the link to a neighbour.
-#[derive(Clone, Copy, Debug, PartialEq, Eq)]
+#[derive(Clone, Copy)]
 pub struct LinkSight {
     /// Whether a connection stands.
     pub is_up: bool,
@@ -21,7 +21,7 @@ impl LinkSight {
 }
 
 /// The link to a neighbour, and since when it is so, in microseconds.
-#[derive(Clone, Copy, Debug, PartialEq, Eq)]
+#[derive(Clone, Copy)]
 pub struct LinkTimes {
     /// What was seen last.
     pub sight: LinkSight,

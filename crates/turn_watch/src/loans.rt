@@ -7,7 +7,7 @@ ghost use Rattle.turn_watch.specs.Turns.{longest_lately};
 use crate::turns::Lately;
 
 /// What is seen of a node's desk after a turn.
-#[derive(Clone, Copy, Debug, PartialEq, Eq)]
+#[derive(Clone, Copy)]
 pub struct DeskSight {
     /// Whether a loan began in the turn.
     pub has_granted: bool,
@@ -17,7 +17,7 @@ pub struct DeskSight {
 
 /// How often a node lent the lock, and for how long, in microseconds: each loan begins and ends with
 /// the turn in which it did.
-#[derive(Clone, Copy, Debug, PartialEq, Eq)]
+#[derive(Clone, Copy)]
 pub struct LoanTimes {
     /// The loans so far; the count stays at 2^64 - 1.
     pub count: u64,

@@ -3,7 +3,7 @@ ghost use Rattle.std.specs.Prelude.{◌≡◌};
 ghost use Rattle.turn_watch.specs.Rounds.{no_rounds, has_moved, machine_seen};
 
 /// What is seen of one of a node's machines after a turn.
-#[derive(Clone, Copy, Debug, PartialEq, Eq)]
+#[derive(Clone, Copy)]
 pub struct MachineSight {
     /// The neighbour from which the machine comes in.
     pub port: u16,
@@ -13,7 +13,7 @@ pub struct MachineSight {
 
 /// How often the token came round at a node: as often as one of its machines moved. A turn moves each
 /// machine once at most, and no move leaves a value as it was.
-#[derive(Clone, Copy, Debug, PartialEq, Eq)]
+#[derive(Clone, Copy)]
 pub struct RoundCount {
     /// The moves so far; the count stays at 2^64 - 1.
     pub count: u64,

@@ -11,7 +11,7 @@ const HALF_MINUTE: u64 = 30_000_000;
 
 /// The longest gaps, or loans, of the half minute that runs and of the two before it, so of the last
 /// minute and of at most half a minute more. In microseconds.
-#[derive(Clone, Copy, Debug, PartialEq, Eq)]
+#[derive(Clone, Copy)]
 pub struct Lately {
     /// Which half minute runs: 0 is the first of the clock.
     pub half: u64,
@@ -75,7 +75,7 @@ impl Lately {
 
 /// How many turns a node took, and how long the gaps between their ends were, in microseconds. The
 /// first gap begins at the node's start.
-#[derive(Clone, Copy, Debug, PartialEq, Eq)]
+#[derive(Clone, Copy)]
 pub struct TurnTimes {
     /// The turns so far; the count stays at 2^64 - 1.
     pub count: u64,

@@ -11,7 +11,7 @@ use std::io::{ErrorKind, Input, Read};
 const STANDARD_INPUT: i32 = 0;
 
 /// What standard input has.
-#[derive(Clone, Copy, Debug, PartialEq, Eq)]
+#[derive(Clone, Copy)]
 pub enum InputSight {
     /// It is open.
     Open,

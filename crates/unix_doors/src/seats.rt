@@ -13,7 +13,7 @@ const PLACES: usize = 128;
 pub(crate) type Seat = Rc<()>;
 
 /// What is seen of the clients that come to a node.
-#[derive(Clone, Copy, Debug, PartialEq, Eq)]
+#[derive(Clone, Copy)]
 pub struct ClientSight {
     /// How many are connected.
     pub connected: usize,

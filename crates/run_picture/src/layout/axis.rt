@@ -15,7 +15,7 @@ use svg_drawing::{Anchor, Canvas, Colour, Point, Px, Stroke};
 const APART: u128 = 70;
 
 /// A number of the axis.
-#[derive(Clone, Copy, Debug, PartialEq, Eq)]
+#[derive(Clone, Copy)]
 pub struct AxisNumber {
     /// The column in which the moment is shown.
     pub place: usize,

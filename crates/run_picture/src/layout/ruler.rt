@@ -52,7 +52,7 @@ const BOUND: Guarantee = Guarantee {
 };
 
 /// A number over a tick.
-#[derive(Clone, Copy, Debug, PartialEq, Eq)]
+#[derive(Clone, Copy)]
 pub struct SweepNumber {
     /// The column of the tick.
     pub place: usize,
