@@ -18,8 +18,8 @@ use std::process::ExitCode;
 use std::rt::Files;
 use std::thread::Threads;
 use std::time::Clock;
-use subcommands::measure::Plan;
-use subcommands::{PathFault, Scheduler, measure, measure_csv, measure_json, measure_plot};
+use subcommands::measure::{Form, Plan};
+use subcommands::{PathFault, Scheduler, measure, measure_plot};
 
 /// What `measure` takes.
 const MEASURE: Grammar<'static> = Grammar {
@@ -157,16 +157,21 @@ pub fn run<R: Files + Print + Eprint + Clock + AllocGlobal + Threads + Sync>(
     ensures { IfOk result (λ status. (exit_status status ≡ 0) ⊎ (exit_status status ≡ 1)) }
 {
     let (file, plan) = (word(given, "FILE")?, plan(given, progress)?);
+    match given.get_str("plot") {
+        Some(path) => plot(rt, file, plan, path),
+        None => Ok(measure::run(rt, file, plan, form(given))?),
+    }
+}
+
+/// How the runs are shown, by the words of `measure`.
+fn form(given: &ArgMatches) -> Form {
     if given.get_flag("json") {
-        return Ok(measure_json::run(rt, file, plan)?);
+        Form::Json
+    } else if given.get_flag("csv") {
+        Form::Rows
+    } else {
+        Form::Lines
     }
-    if let Some(path) = given.get_str("plot") {
-        return plot(rt, file, plan, path);
-    }
-    if given.get_flag("csv") {
-        return Ok(measure_csv::run(rt, file, plan)?);
-    }
-    Ok(measure::run(rt, file, plan)?)
 }
 
 /// Plots the runs of a plan, and prints their rows. The status says whether that failed, or a run.

@@ -16,7 +16,7 @@
 //! // prints a scramble, and the events of 100 rounds after it
 //! let status = schedule::run(rt, "two-nodes.toml", Some(7), Some(1), Turns::Rounds(100))?;
 //! // prints after how many sweeps 1000 scrambled worlds served
-//! let status = measure::run(rt, "two-nodes.toml", &plan)?;
+//! let status = measure::run(rt, "two-nodes.toml", plan, Form::Lines)?;
 //! ```
 //!
 //! The trap: what was printed before a fault stays printed. `simulate` has then named the refused

@@ -5,9 +5,12 @@ ghost use Rattle.std.specs.Process.{exit_status};
 ghost use Rattle.subcommands.specs.Measured.{has_served, run_line, served_sweeps, summary_line};
 ghost use Rattle.subcommands.specs.Measured.{shown_line, run_lines, totals, IsMeasured};
 ghost use Rattle.subcommands.specs.Measured.{IsPlanMeasured, HaveServed};
+ghost use Rattle.command_parts.specs.Output.{IsUntaken};
 ghost use Rattle.subcommands.specs.Faults.{IsUnprinted};
 
 use crate::bound::push_number;
+use crate::measure_csv::plan_csv;
+use crate::measure_json::plan_json;
 use crate::side_by_side::measured;
 use command_parts::{Fault, printed, read_network};
 use experiments::{Recovery, Scheduler, Summary, summary_of};
@@ -34,7 +37,18 @@ pub struct Plan {
     pub progress: bool,
 }
 
-/// Prints after how many sweeps the runs served.
+/// How the runs are shown.
+#[derive(Clone, Copy)]
+pub enum Form {
+    /// A line for each run that the plan shows, and lines that sum all of them up.
+    Lines,
+    /// The names of the columns, and a row for each run, in the order of their seeds.
+    Rows,
+    /// A JSON object on one line.
+    Json,
+}
+
+/// Prints after how many sweeps the runs served, in this form.
 ///
 /// # Errors
 /// If the file gives no network, memory runs out, or standard output fails: the first of these
@@ -43,15 +57,32 @@ pub fn run<R: Files + Print + Eprint + Clock + AllocGlobal + Threads + Sync>(
     rt: &R,
     network: &str,
     plan: Plan,
+    form: Form,
 ) -> Result<ExitCode, Fault>
     ensures ok { IfOk result (λ status. (exit_status status ≡ 0) ⊎ (exit_status status ≡ 1)) }
     ensures err { IfErr result IsUnprinted }
 {
     let net = read_network(rt, network)?;
-    match plan_text(rt, rt.alloc(), &net, plan) {
-        Ok((text, all_served)) => ending(printed(rt, rt.print(text.as_str())), all_served),
-        Err(_) => Err(Fault::Memory),
+    let shown = match form {
+        Form::Lines => plan_text(rt, rt.alloc(), &net, plan),
+        Form::Rows => plan_csv(rt, rt.alloc(), &net, plan),
+        Form::Json => plan_json(rt, rt.alloc(), &net, plan),
+    };
+    match shown {
+        Ok((text, all_served)) => ending(print_as(rt, form, text.as_str()), all_served),
+        Err(AllocError) => Err(Fault::Memory),
     }
+}
+
+/// Prints the text of a form; that of an object has no newline of its own.
+fn print_as<R: Print + Eprint>(rt: &R, form: Form, text: &str) -> Result<(), Fault>
+    ensures { IfErr result IsUntaken }
+{
+    let done = match form {
+        Form::Lines | Form::Rows => rt.print(text),
+        Form::Json => rt.println(text),
+    };
+    printed(rt, done)
 }
 
 /// Makes the runs of a plan. Returns their text, and whether each has served.

@@ -1,45 +1,20 @@
 //! `measure FILE --csv`: when each layer stood for good in scrambled worlds, as rows.
-ghost use Rattle.std.specs.Prelude.{◌≡◌, ◌↔◌, ◌++◌, ◌⊎◌, OnOk, IfOk, IfErr, IsTrue};
+ghost use Rattle.std.specs.Prelude.{◌≡◌, ◌↔◌, ◌++◌, OnOk, IfOk, IsTrue};
 ghost use Rattle.std.specs.Prelude.{string_bytes};
-ghost use Rattle.std.specs.Process.{exit_status};
 ghost use Rattle.subcommands.specs.MeasuredCsv.{csv_row, csv_rows, csv_text, has_settled};
 ghost use Rattle.subcommands.specs.MeasuredCsv.{HaveSettled, IsPlanCsv};
-ghost use Rattle.subcommands.specs.Faults.{IsUnprinted};
 
-use crate::measure::{Plan, ending};
+use crate::measure::Plan;
 use crate::side_by_side::measured;
-use command_parts::{Fault, printed, read_network};
 use experiments::Settling;
 use std::alloc::{AllocError, Global};
 use std::fmt::Write;
-use std::process::ExitCode;
-use std::rt::Files;
 use std::thread::Threads;
 use std::time::Clock;
 use topology::Net;
 
-/// Prints a row for each run of a plan, in the order of their seeds, after the names of the columns.
-///
-/// # Errors
-/// If the file gives no network, memory runs out, or standard output fails: the first of these
-/// that happens.
-pub fn run<R: Files + Print + Eprint + Clock + AllocGlobal + Threads + Sync>(
-    rt: &R,
-    network: &str,
-    plan: Plan,
-) -> Result<ExitCode, Fault>
-    ensures ok { IfOk result (λ status. (exit_status status ≡ 0) ⊎ (exit_status status ≡ 1)) }
-    ensures err { IfErr result IsUnprinted }
-{
-    let net = read_network(rt, network)?;
-    match plan_csv(rt, rt.alloc(), &net, plan) {
-        Ok((text, all_served)) => ending(printed(rt, rt.print(text.as_str())), all_served),
-        Err(_) => Err(Fault::Memory),
-    }
-}
-
 /// Makes the runs of a plan. Returns their rows, and whether each has served.
-fn plan_csv<R: Eprint + Clock + Threads + Sync>(
+pub(crate) fn plan_csv<R: Eprint + Clock + Threads + Sync>(
     rt: &R,
     alloc: Global,
     net: &Net,

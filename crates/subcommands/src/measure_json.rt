@@ -1,48 +1,23 @@
 //! `measure FILE --json`: after how many sweeps scrambled worlds served, as a JSON object.
-ghost use Rattle.std.specs.Prelude.{◌≡◌, ◌⊎◌, IfOk, IfErr, OnOk, [], map, string_bytes};
-ghost use Rattle.std.specs.Process.{exit_status};
+ghost use Rattle.std.specs.Prelude.{◌≡◌, IfOk, OnOk, [], map, string_bytes};
 ghost use Rattle.serde_json.specs.Data.{array, object};
 ghost use Rattle.serde_json.specs.View.{view, items_of, members_view};
 ghost use Rattle.subcommands.specs.MeasuredData.{run_data, runs_data, summary_members, measured_members};
 ghost use Rattle.subcommands.specs.BoundData.{or_null};
 ghost use Rattle.subcommands.specs.MeasuredData.{sweeps_data, measured_data, IsMeasuredJson};
 ghost use Rattle.subcommands.specs.MeasuredData.{IsPlanMeasuredJson};
-ghost use Rattle.subcommands.specs.Faults.{IsUnprinted};
 
-use crate::measure::{Plan, ending, has_served, have_served, served_sweeps};
+use crate::measure::{Plan, has_served, have_served, served_sweeps};
 use crate::side_by_side::measured;
-use command_parts::{Fault, printed, read_network};
 use experiments::{Recovery, Summary, summary_of};
 use serde_json::{Map, Value, push, put};
 use std::alloc::{AllocError, Global};
-use std::process::ExitCode;
-use std::rt::Files;
 use std::thread::Threads;
 use std::time::Clock;
 use topology::Net;
 
-/// Prints after how many sweeps the runs of a plan served, as a JSON object on one line.
-///
-/// # Errors
-/// If the file gives no network, memory runs out, or standard output fails: the first of these
-/// that happens.
-pub fn run<R: Files + Print + Eprint + Clock + AllocGlobal + Threads + Sync>(
-    rt: &R,
-    network: &str,
-    plan: Plan,
-) -> Result<ExitCode, Fault>
-    ensures ok { IfOk result (λ status. (exit_status status ≡ 0) ⊎ (exit_status status ≡ 1)) }
-    ensures err { IfErr result IsUnprinted }
-{
-    let net = read_network(rt, network)?;
-    match plan_json(rt, rt.alloc(), &net, plan) {
-        Ok((text, all_served)) => ending(printed(rt, rt.println(text.as_str())), all_served),
-        Err(_) => Err(Fault::Memory),
-    }
-}
-
 /// Makes the runs of a plan. Returns their object, and whether each has served.
-fn plan_json<R: Eprint + Clock + Threads + Sync>(
+pub(crate) fn plan_json<R: Eprint + Clock + Threads + Sync>(
     rt: &R,
     alloc: Global,
     net: &Net,
