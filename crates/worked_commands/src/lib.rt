@@ -15,6 +15,8 @@ mod network;
 #[cfg(test)]
 mod output;
 #[cfg(test)]
+mod plots;
+#[cfg(test)]
 mod scramble;
 #[cfg(test)]
 mod simulate;

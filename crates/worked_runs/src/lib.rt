@@ -1,11 +1,11 @@
 //! Worked runs: what whole networks do, event by event, judged and reported. Every expected value
 //! was computed by hand.
 //!
-//! It has only tests: of the events text, of worlds and their judge, of woven lists, and of
-//! simulations in which a call fails or a text is too long. They have a crate of their own, since
-//! the tests of a crate prove all of that crate once more. Texts of events, and the states that
-//! they lead to, are in the scripts of `worked_scripts`; the rows of single layers are in
-//! `worked_rows`.
+//! It has only tests: of the events text, of worlds and their judge, of woven lists, of simulations
+//! and recordings in which a call fails, and of simulations of a text that is too long. They have a
+//! crate of their own, since the tests of a crate prove all of that crate once more. Texts of
+//! events, the states that they lead to, and their pictures are in the scripts of `worked_scripts`;
+//! the rows of single layers are in `worked_rows`.
 #![tactic(auto)]
 
 #[cfg(test)]
@@ -14,6 +14,8 @@ mod events;
 mod judged;
 #[cfg(test)]
 mod no_memory;
+#[cfg(test)]
+mod recorded;
 #[cfg(test)]
 mod simulated;
 #[cfg(test)]

@@ -1,13 +1,14 @@
 //! Recordings whose source fails, and recordings without enough memory.
-use crate::rows::{FORGED, two};
-use byte_streams::{Fused, MemorySource, Source};
+use crate::texts::FORGED;
+use crate::worlds::two_nodes;
 use linked_list_allocator::LocalHeap;
-use run_film::SimFault;
-use run_picture::{Window, record};
+use run_recording::{Window, record};
 use std::alloc::{Allocator, Global};
 use std::test::Fail;
 use test_parts::as_expected;
-use topology::Net;
+use world::Net;
+use world::simulation::SimFault;
+use world::streams::{Fused, MemorySource, Source};
 
 /// How many events a recording has, how many columns, and how many nodes are privileged in the last
 /// of them.
@@ -64,7 +65,7 @@ fn unlike_read_of(alloc: Global, net: &Net) -> Result<Option<(usize, u64)>, Fail
 
 /// The same for two nodes.
 fn unlike_read(alloc: Global) -> Result<Option<(usize, u64)>, Fail> {
-    unlike_read_of(alloc, &two(alloc)?)
+    unlike_read_of(alloc, &two_nodes(alloc)?)
 }
 
 #[test]
@@ -103,7 +104,7 @@ fn recorded_at_last(alloc: Global, net: &Net) -> Result<Option<(Recorded, bool)>
 
 /// The same for two nodes.
 fn recorded_of_two(alloc: Global) -> Result<Option<(Recorded, bool)>, Fail> {
-    recorded_at_last(alloc, &two(alloc)?)
+    recorded_at_last(alloc, &two_nodes(alloc)?)
 }
 
 #[test]
