@@ -1,10 +1,11 @@
 //! The words of `measure`.
-ghost use Rattle.std.specs.Prelude.{◌≡◌, ◌⊎◌, IfOk, IfErr, if◌then◌else◌};
+ghost use Rattle.std.specs.Prelude.{◌≡◌, ◌⊎◌, Some, None, IfOk, IfErr, if◌then◌else◌, codes};
 ghost use Rattle.std.specs.Process.{exit_status};
-ghost use Rattle.clap.specs.Matches.{found_of};
+ghost use Rattle.clap.specs.Matches.{found_of, one_text};
 ghost use Rattle.command_line.specs.Plan.{IsPlanOf, IsPlanRefused};
 ghost use Rattle.command_line.specs.Scheduling.{IsNamedRefused, IsNamedScheduler, IsSchedulerOf};
 ghost use Rattle.command_line.specs.Scheduling.{IsSchedulerRefused, is_slow, scheduler_named};
+ghost use Rattle.subcommands.specs.declared.measure.Form.TheVariants.{Json, Lines, Rows};
 ghost use Rattle.subcommands.specs.experiments.declared.measured_run.Scheduler.TheVariants.{Random, Rounds};
 
 use crate::program::NETWORK_FILE;
@@ -164,7 +165,14 @@ pub fn run<R: Files + Print + Eprint + Clock + AllocGlobal + Threads + Sync>(
 }
 
 /// How the runs are shown, by the words of `measure`.
-fn form(given: &ArgMatches) -> Form {
+fn form(given: &ArgMatches) -> Form
+    ensures json { one_text (found_of given.now) (codes "json") ≡ Some (codes "true")
+        → result ≡ Json }
+    ensures rows { one_text (found_of given.now) (codes "json") ≡ None
+        → one_text (found_of given.now) (codes "csv") ≡ Some (codes "true") → result ≡ Rows }
+    ensures lines { one_text (found_of given.now) (codes "json") ≡ None
+        → one_text (found_of given.now) (codes "csv") ≡ None → result ≡ Lines }
+{
     if given.get_flag("json") {
         Form::Json
     } else if given.get_flag("csv") {

@@ -5,13 +5,13 @@ ghost use Rattle.lock_command.specs.Reaching.{IsUnanswered, IsUnread, unread_not
 use crate::desk::{Desk, Heard};
 use crate::notice::Notice;
 use lock_desk::ClientLine;
-use node_texts::desk_file::{desk_path, node_of};
+use node_texts::desk_file::{desk_path, nodes_in};
 use std::alloc::AllocError;
 use std::io::ErrorKind;
 use std::net::Net;
 use std::rt::{Clock, Files};
 use std::time::Duration;
-use std::{fs, io, thread};
+use std::{io, thread};
 
 /// How many looks at the nodes there are, and how many milliseconds between two: a second in all.
 const LOOKS: u32 = 1000;
@@ -30,7 +30,7 @@ pub fn reach_first<'a, R: Net + Files + Clock + AllocGlobal>(
 ) -> Result<Desk, Notice<'a>>
     ensures { IfErr result (λ notice. IsUnanswered folder.entry notice) }
 {
-    let nodes = nodes_in(rt, folder)?;
+    let nodes = nodes_of(rt, folder)?;
     if nodes.is_empty() {
         return Err(Notice::NoSockets(folder));
     }
@@ -95,35 +95,13 @@ fn ask<R: Net>(rt: &R, path: &str, node: u16) -> io::Result<Desk> {
 }
 
 /// The nodes that have a socket in a folder, by ascending id.
-fn nodes_in<'a, R: Files + AllocGlobal>(rt: &R, folder: &'a str) -> Result<Vec<u16>, Notice<'a>>
+fn nodes_of<'a, R: Files + AllocGlobal>(rt: &R, folder: &'a str) -> Result<Vec<u16>, Notice<'a>>
     ensures { IfErr result (λ notice. IsUnread folder.entry notice) }
 {
-    let mut nodes = Vec::new(rt.alloc());
-    match add_sockets(rt, folder, &mut nodes) {
-        Ok(()) => {
-            nodes.sort_unstable();
-            Ok(nodes)
-        }
+    match nodes_in(rt, folder) {
+        Ok(nodes) => Ok(nodes),
         Err(error) => Err(why_unread(error.kind(), folder)),
     }
-}
-
-/// Adds the nodes of the sockets in a folder.
-fn add_sockets<R: Files + AllocGlobal>(
-    rt: &R,
-    folder: &str,
-    nodes: &mut Vec<u16>,
-) -> io::Result<()> {
-    for entry in fs::read_dir(&rt, folder)? {
-        // A name that is no text is not a desk's.
-        let Ok(entry) = entry else {
-            continue;
-        };
-        if let Some(node) = node_of(entry.file_name().as_bytes()) {
-            nodes.push(node)?;
-        }
-    }
-    Ok(())
 }
 
 /// Why a folder cannot be read, by the system's answer.

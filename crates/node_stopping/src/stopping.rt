@@ -4,7 +4,7 @@ ghost use Rattle.std.specs.Prelude.{◌≡◌, if◌then◌else◌, ◌≤◌};
 use crate::lines::{Ending, EndingLine};
 use crate::steps::{Sight, Step, next};
 use node_texts::NodePaths;
-use node_texts::desk_file::node_of;
+use node_texts::desk_file::nodes_in;
 use std::fs::{File, OpenOptions};
 use std::io::ErrorKind;
 use std::rt::Files;
@@ -74,29 +74,10 @@ pub fn is_held<F: Files<File = File>>(files: &F, path: &str) -> bool {
 
 /// The nodes that are named, or those that have a socket in the folder.
 fn nodes_of<R: Files + AllocGlobal>(rt: &R, dir: &str, ids: &[u16]) -> io::Result<Vec<u16>> {
-    let mut nodes = Vec::new(rt.alloc());
-    for id in ids {
-        nodes.push(*id)?;
-    }
     if ids.is_empty() {
-        add_sockets(rt, dir, &mut nodes)?;
-        nodes.sort_unstable();
+        return nodes_in(rt, dir);
     }
-    Ok(nodes)
-}
-
-/// Adds the nodes of the sockets in a folder.
-fn add_sockets<R: Files + AllocGlobal>(rt: &R, dir: &str, nodes: &mut Vec<u16>) -> io::Result<()> {
-    for entry in fs::read_dir(&rt, dir)? {
-        // What has a name that is no text is no desk's.
-        let Ok(entry) = entry else {
-            continue;
-        };
-        if let Some(node) = node_of(entry.file_name().as_bytes()) {
-            nodes.push(node)?;
-        }
-    }
-    Ok(())
+    Ok(ids.iter().copied().collect(rt.alloc())?)
 }
 
 /// A node that was looked at, and asked to end if it runs.

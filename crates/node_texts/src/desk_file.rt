@@ -1,9 +1,13 @@
-//! Where a node's desk listens, and where whoever looks at the node connects.
-ghost use Rattle.std.specs.Prelude.{◌≡◌, ◌↔◌, ◌<◌, ℕ, IfOk, Some, string_bytes};
+//! Where a node's desk listens, where whoever looks at the node connects, and which nodes have a desk in a
+//! folder.
+ghost use Rattle.std.specs.Prelude.{◌≡◌, ◌↔◌, ◌<◌, ℕ, IfOk, Some, IsSorted, string_bytes};
+ghost use Rattle.std.specs.Ordering.{nat_cmp};
 ghost use Rattle.node_texts.specs.DeskFile.{desk_path, desk_name, look_path};
 
 use line_words::number;
 use std::alloc::{AllocError, Global};
+use std::rt::Files;
+use std::{fs, io};
 
 /// The path of a node's desk in a folder, `FOLDER/desk-ID.sock`.
 ///
@@ -31,4 +35,31 @@ pub fn node_of(name: &[u8]) -> Option<u16>
 {
     line_words::laws::one_spelling();
     number(name.strip_prefix(b"desk-")?.strip_suffix(b".sock")?)
+}
+
+/// The nodes that have a socket of their desk in a folder, by ascending id.
+///
+/// # Errors
+/// The system's, if the folder cannot be read; `OutOfMemory`, if memory runs out.
+pub fn nodes_in<R: Files + AllocGlobal>(rt: &R, folder: &str) -> io::Result<Vec<u16>>
+    ensures { IfOk result (λ nodes. IsSorted nat_cmp nodes.items) }
+{
+    let mut nodes = Vec::new(rt.alloc());
+    add_nodes(rt, folder, &mut nodes)?;
+    nodes.sort_unstable();
+    Ok(nodes)
+}
+
+/// Adds the nodes of the sockets in a folder.
+fn add_nodes<R: Files + AllocGlobal>(rt: &R, folder: &str, nodes: &mut Vec<u16>) -> io::Result<()> {
+    for entry in fs::read_dir(&rt, folder)? {
+        // A name that is no text is not a desk's.
+        let Ok(entry) = entry else {
+            continue;
+        };
+        if let Some(node) = node_of(entry.file_name().as_bytes()) {
+            nodes.push(node)?;
+        }
+    }
+    Ok(())
 }

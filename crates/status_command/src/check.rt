@@ -4,11 +4,12 @@ ghost use Rattle.std.specs.List.{range_with_len};
 ghost use Rattle.status_readings.specs.CheckText.{figures};
 ghost use Rattle.status_readings.specs.Verdict.{finding};
 
-use crate::folder::{first_beyond, sockets_in, why_no_nodes};
+use crate::folder::{first_beyond, why_no_nodes};
 use crate::notice::{Notice, UnknownLine};
 use crate::status::{WAIT, answers_of, why_not_asked};
 use network_file::read_network;
 use node_texts::NodeAnswer;
+use node_texts::desk_file::nodes_in;
 use status_readings::{CheckLine, Figures, Severity, verdict};
 use std::alloc::{AllocError, Global};
 use std::rt::Files;
@@ -70,7 +71,7 @@ fn see_folder<'a, R: Files + AllocGlobal>(
     file: &'a str,
     net: &Net,
 ) -> Result<(), Notice<'a>> {
-    match sockets_in(rt, rt.alloc(), folder) {
+    match nodes_in(rt, folder) {
         Ok(found) => match first_beyond(found.as_slice(), net.nodes()) {
             Some(node) => Err(Notice::OtherNetwork { file, folder, node }),
             None => Ok(()),

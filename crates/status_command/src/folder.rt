@@ -6,7 +6,7 @@ ghost use Rattle.status_command.specs.Reasons.{why_no_nodes};
 
 use crate::notice::Notice;
 use node_texts::NodePaths;
-use node_texts::desk_file::node_of;
+use node_texts::desk_file::nodes_in;
 use std::alloc::Global;
 use std::io::ErrorKind;
 use std::rt::Files;
@@ -27,7 +27,7 @@ pub fn nodes_asked<'a, R: Files + AllocGlobal>(
     ensures some { IfOk result (λ nodes. nodes.items ≢ []) }
 {
     let nodes = if named.is_empty() {
-        sockets_in(rt, rt.alloc(), folder)
+        nodes_in(rt, folder)
     } else {
         copied(rt.alloc(), named)
     };
@@ -55,38 +55,6 @@ pub fn why_no_nodes<'a>(kind: ErrorKind, folder: &'a str) -> Notice<'a>
         ErrorKind::Uncategorized => Notice::System,
         _ => Notice::Forbidden(folder),
     }
-}
-
-/// The nodes that have a socket in a folder, by ascending id; or the system's error.
-pub fn sockets_in<R: Files + AllocGlobal>(
-    rt: &R,
-    alloc: Global,
-    folder: &str,
-) -> io::Result<Vec<u16>>
-    ensures { IfOk result (λ nodes. IsSorted nat_cmp nodes.items) }
-{
-    let mut nodes = Vec::new(alloc);
-    add_sockets(rt, folder, &mut nodes)?;
-    nodes.sort_unstable();
-    Ok(nodes)
-}
-
-/// Adds the nodes of the sockets in a folder.
-fn add_sockets<R: Files + AllocGlobal>(
-    rt: &R,
-    folder: &str,
-    nodes: &mut Vec<u16>,
-) -> io::Result<()> {
-    for entry in fs::read_dir(&rt, folder)? {
-        // A name that is no text is not a desk's.
-        let Ok(entry) = entry else {
-            continue;
-        };
-        if let Some(node) = node_of(entry.file_name().as_bytes()) {
-            nodes.push(node)?;
-        }
-    }
-    Ok(())
 }
 
 /// Whether a folder has neither the socket nor the state of a node, so that it never ran there. If
