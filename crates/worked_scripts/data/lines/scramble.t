@@ -15,7 +15,7 @@ That program also computed what the greatest seed gives node 1 of three in a lin
 then its ports to node 0 and to node 2.
 
   $ network 3 0 '[0, 1], [1, 2]' >line.toml; tokentree scramble line.toml 1 one.state 4294967295
-  $ state TKT2 3 1 1 2 0 2 0 4 3 2 1 12 1 2 7 8 2 2 2 2 2 3 0 none 0 0 | cmp one.state -
+  $ state_file TKT2 3 1 1 2 0 2 0 4 3 2 1 12 1 2 7 8 2 2 2 2 2 3 0 none 0 0 | cmp one.state -
 
 A new file is for its owner alone. It is written in place: another name of the file has each state, also after a longer
 one. The middle of a star of 64 nodes has the longest state.

@@ -3,15 +3,15 @@ State files that a node does not read, each with the first of its faults. The no
 A file of node 1 of two nodes has another first word, a ring value of 7, which is the modulus, or another node's id. The
 last file has a number too many.
 
-  $ state TKT9 2 1 1 2 none 0 0 0 2 none 0 2 none 0 0 | begins_from two.toml 1
+  $ state_file TKT9 2 1 1 2 none 0 0 0 2 none 0 2 none 0 0 | begins_from two.toml 1
   start default Magic
-  $ state TKT1 2 1 1 2 none 0 0 0 2 none 0 2 none 0 7 | begins_from two.toml 1
+  $ state_file TKT1 2 1 1 2 none 0 0 0 2 none 0 2 none 0 7 | begins_from two.toml 1
   start default Range
-  $ state TKT1 2 1 1 2 none 0 0 0 2 none 0 2 none 0 0 | begins_from two.toml 0
+  $ state_file TKT1 2 1 1 2 none 0 0 0 2 none 0 2 none 0 0 | begins_from two.toml 0
   start default Shape
-  $ state TKT2 2 1 1 1 2 none 0 0 0 2 none 0 2 none 0 0 | begins_from two.toml 0
+  $ state_file TKT2 2 1 1 1 2 none 0 0 0 2 none 0 2 none 0 0 | begins_from two.toml 0
   start default Shape
-  $ state TKT2 2 1 1 1 1 0 0 4 3 1 0 6 0 none 5 4 0 | begins_from two.toml 1
+  $ state_file TKT2 2 1 1 1 1 0 0 4 3 1 0 6 0 none 5 4 0 | begins_from two.toml 1
   start default Long
 
 Of 1277 bytes, one more than the longest state has, the first four are no word.
@@ -26,14 +26,14 @@ Its 63 ports have 1260 bytes.
   $ for length in 0 3 4 16 1300; do head -c "$length" junk | begins_from two.toml 1; done | uniq -c
         2 start default Short
         3 start default Magic
-  $ after_header() { { state TKT2 64 0 4096 63 64 63; head -c "$1" junk; } | begins_from star.toml 0; }
+  $ after_header() { { state_file TKT2 64 0 4096 63 64 63; head -c "$1" junk; } | begins_from star.toml 0; }
   $ for length in 0 1259 1260 1300; do after_header "$length"; done | uniq -c
         2 start default Short
         2 start default Shape
 
 The front of a file is short. The header has 14 bytes.
 
-  $ state TKT1 2 1 1 2 none 0 0 0 2 none 0 2 none 0 0 >whole; wc -c <whole
+  $ state_file TKT1 2 1 1 2 none 0 0 0 2 none 0 2 none 0 0 >whole; wc -c <whole
   34
   $ for length in 0 3 4 13 14 33; do head -c "$length" whole | begins_from two.toml 1; done | uniq -c
         6 start default Short
@@ -43,14 +43,14 @@ The front of a file is short. The header has 14 bytes.
 Node 2 of a line, joined to node 1 alone, was saved when links held one item. Now they hold two.
 
   $ network 3 0 '[0, 1], [1, 2]' >line.toml; network 3 0 '[0, 1], [1, 2], [0, 2]' | sed 's/ity = 1/ity = 2/' >wider.toml
-  $ state TKT2 3 2 1 1 2 1 1 3 2 2 1 5 1 0 6 5 | begins_from wider.toml 2
+  $ state_file TKT2 3 2 1 1 2 1 1 3 2 2 1 5 1 0 6 5 | begins_from wider.toml 2
   start default Shape
 
 Node 0 of a line was saved when it was joined to both other nodes. `changed PLACE NUMBER` is its file with another
 number at a place, counted from 0.
 
   $ saved='3 0 1 2 3 2 1 4 3 1 0 12 0 none 11 10 2 0 4 3 2 0 3 2 12 12'
-  $ changed() { state TKT2 $(echo $saved | awk -v at="$1" -v number="$2" '{ $(at + 1) = number; print }'); }
+  $ changed() { state_file TKT2 $(echo $saved | awk -v at="$1" -v number="$2" '{ $(at + 1) = number; print }'); }
   $ changed 0 3 | begins_from line.toml 0
   start loaded
 

@@ -3,18 +3,18 @@ folder.
 
 Node 1 of two is saved at its start, once it has heard of the root, and with a state that is not its first one.
 
-  $ state TKT2 2 1 1 1 2 none 0 0 0 2 none 0 2 none 0 0 | pass_from two.toml 1 start
-  $ state TKT1 2 1 1 2 none 0 0 0 2 none 0 2 none 0 0 | pass_from two.toml 1 start-before
-  $ state TKT2 2 1 1 1 2 0 0 1 0 2 0 0 2 none 0 0 | pass_from two.toml 1 heard
-  $ state TKT1 2 1 1 2 0 0 1 0 2 0 0 2 none 0 0 | pass_from two.toml 1 heard-before
-  $ state TKT2 2 1 1 1 1 0 0 4 3 1 0 6 0 none 5 4 | pass_from two.toml 1 other
+  $ state_file TKT2 2 1 1 1 2 none 0 0 0 2 none 0 2 none 0 0 | pass_from two.toml 1 start
+  $ state_file TKT1 2 1 1 2 none 0 0 0 2 none 0 2 none 0 0 | pass_from two.toml 1 start-before
+  $ state_file TKT2 2 1 1 1 2 0 0 1 0 2 0 0 2 none 0 0 | pass_from two.toml 1 heard
+  $ state_file TKT1 2 1 1 2 0 0 1 0 2 0 0 2 none 0 0 | pass_from two.toml 1 heard-before
+  $ state_file TKT2 2 1 1 1 1 0 0 4 3 1 0 6 0 none 5 4 | pass_from two.toml 1 other
 
 Node 2 of a line is joined to node 0 as well since it was saved. Node 0 of a line was joined to node 2 when it was
 saved.
 
   $ network 3 0 '[0, 1], [1, 2]' >line.toml; network 3 0 '[0, 1], [1, 2], [0, 2]' >triangle.toml
-  $ state TKT2 3 2 1 1 2 1 1 3 2 2 1 5 1 0 6 5 | pass_from triangle.toml 2 joined
-  $ state TKT2 3 0 1 2 3 2 1 4 3 1 0 12 0 none 11 10 2 0 4 3 2 0 3 2 12 12 | pass_from line.toml 0 left
+  $ state_file TKT2 3 2 1 1 2 1 1 3 2 2 1 5 1 0 6 5 | pass_from triangle.toml 2 joined
+  $ state_file TKT2 3 0 1 2 3 2 1 4 3 1 0 12 0 none 11 10 2 0 4 3 2 0 3 2 12 12 | pass_from line.toml 0 left
 
 The longest state is that of the middle of a star of 64 nodes. It is scrambled, and so are the states of other nodes.
 

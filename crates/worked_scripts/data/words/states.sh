@@ -1,10 +1,10 @@
 # What scripts of state files know as well.
 
-# state WORD NUMBER..: a state file: its first word, and numbers of two bytes, the higher byte first. `none` is 65535.
-# The numbers are the nodes, the node, the capacity (only after TKT2), how many neighbours, the distance and the parent;
-# then for each neighbour its id, the port's number, the last number that it heard, the distance, the parent and the
-# ring value that it stages, those that it has copied, and the value of its machine.
-state() {
+# state_file WORD NUMBER..: a state file: its first word, and numbers of two bytes, the higher byte first. `none` stands
+# for 65535. The numbers are the nodes, the node, the capacity (only after TKT2), how many neighbours, the distance and
+# the parent; then for each neighbour its id, the port's number, the last number that it heard, the distance, the parent
+# and the ring value that it stages, those that it has copied, and the value of its machine.
+state_file() {
     printf '%s' "$1"
     shift
     for number; do
