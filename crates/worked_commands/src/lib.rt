@@ -1,11 +1,9 @@
 //! What the commands of `tokentree` do where no command line leads: with runs and networks that no words
-//! make, with readers and writers that fail, and without memory. Scripts of command lines test the rest.
+//! make, and with readers and writers that fail. Scripts of command lines test the rest.
 //!
 //! Nothing but tests stands here, since a crate's tests prove all of that crate once more.
 #![tactic(auto)]
 
-#[cfg(test)]
-mod faults;
 #[cfg(test)]
 mod measure;
 #[cfg(test)]
@@ -16,7 +14,5 @@ mod network;
 mod output;
 #[cfg(test)]
 mod plots;
-#[cfg(test)]
-mod scramble;
 #[cfg(test)]
 mod simulate;

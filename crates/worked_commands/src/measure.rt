@@ -1,15 +1,13 @@
 //! Runs that no command makes: some are written by hand, and so are their texts; others begin in a
 //! world that is not scrambled. Two nodes have the sharper bound 35 and the bound 69.
 use crate::nets::two_nodes;
-use command_parts::Fault;
 use experiments::{Recovery, Settling, Watch};
-use schedules::{Slow, give_round, give_slow_round};
+use schedules::{Slow, give_slow_round};
 use std::alloc::Global;
-use std::process::ExitCode;
 use std::test::Fail;
-use subcommands::measure::{ending, has_served, measured_text};
+use subcommands::measure::{has_served, measured_text};
 use subcommands::measure_csv::{csv_text, have_settled};
-use test_parts::{as_expected, is_expected};
+use test_parts::as_expected;
 use topology::Net;
 use world::World;
 
@@ -82,15 +80,10 @@ static TEXTS: [Row<'static>; 6] = [
     ),
 ];
 
-/// The text of runs on two nodes.
-fn text(alloc: Global, runs: &[Recovery], table: bool) -> Result<String, Fail> {
-    let net = two_nodes(alloc)?;
-    Ok(measured_text(alloc, &net, runs, table)?)
-}
-
 /// Whether this is the text of runs on two nodes.
 fn is_text(alloc: Global, runs: &[Recovery], table: bool, want: &str) -> Result<bool, Fail> {
-    Ok(text(alloc, runs, table)?.as_str() == want)
+    let net = two_nodes(alloc)?;
+    Ok(measured_text(alloc, &net, runs, table)?.as_str() == want)
 }
 
 /// Whether each of these runs has served, if the sharper bound is 35.
@@ -113,120 +106,34 @@ fn shows_what_sums_runs_up(rt: HostRuntime) -> Result<(), Fail> {
     as_expected(first_other_text(rt.alloc(), &TEXTS), &None)
 }
 
-/// The answer of standard output, and how the command ends.
-type Ending = (Result<(), Fault>, Result<ExitCode, Fault>);
-
-/// How it ends if a run has not served, which no command line brings about.
-const ENDINGS: [Ending; 3] = [
-    (Ok(()), Ok(ExitCode::FAILURE)),
-    (Err(Fault::Output), Err(Fault::Output)),
-    (Err(Fault::Closed), Err(Fault::Closed)),
-];
-
-/// The place of the first row that ends otherwise.
-fn first_other_ending(rows: &[Ending]) -> Option<usize> {
-    for (at, (printed, want)) in rows.iter().enumerate() {
-        if ending(*printed, false) != *want {
-            return Some(at);
-        }
-    }
-    None
-}
-
-#[test]
-fn ends_with_the_status_of_a_late_run() -> Result<(), Fail> {
-    is_expected(&first_other_ending(&ENDINGS), &None)
-}
-
-/// Plays this many rounds under a watch.
-fn play(net: &Net, watch: &mut Watch, rounds: u64) {
-    for _round in 0..rounds {
-        let _given = give_round(net, watch);
-    }
-}
-
-/// A watch over a network's default world.
-fn watch_of(alloc: Global, net: &Net) -> Result<Watch, Fail> {
-    Ok(Watch::new(World::new(alloc, net)?))
-}
-
-/// How many sweeps there were in this many rounds of a fresh network, and after how many of them
-/// it served.
-fn watched_in(alloc: Global, net: &Net, rounds: u64) -> Result<(u64, u64), Fail> {
-    let mut watch = watch_of(alloc, net)?;
-    play(net, &mut watch, rounds);
-    Ok((watch.sweeps(), watch.served_after()))
-}
-
-/// The same for two nodes.
-fn watched(alloc: Global, rounds: u64) -> Result<(u64, u64), Fail> {
-    let net = two_nodes(alloc)?;
-    watched_in(alloc, &net, rounds)
-}
-
-/// How many rounds there were, how many sweeps, and after how many of them two nodes served.
-///
-/// By hand: in the first round each node takes the other's first words, which say nothing; the first
-/// sweep ends with what node 0 takes. In the second node 1 takes the root's distance, which ends the
-/// second sweep. In the third it ticks, which gives it its distance and ends the third sweep; from
-/// then on the two serve, since the values of their machines were alike at the start.
-const WATCHED: [(u64, (u64, u64)); 5] = [
-    (0, (0, 1)),
-    (1, (1, 2)),
-    (2, (2, 3)),
-    (3, (3, 3)),
-    (35, (35, 3)),
-];
-
-/// The place of the first row whose rounds show something else.
-fn first_other_watched(alloc: Global, rows: &[(u64, (u64, u64))]) -> Result<Option<usize>, Fail> {
-    for (at, (rounds, want)) in rows.iter().enumerate() {
-        if watched(alloc, *rounds)? != *want {
-            return Ok(Some(at));
-        }
-    }
-    Ok(None)
-}
-
-#[test]
-fn two_nodes_serve_after_three_sweeps(rt: HostRuntime) -> Result<(), Fail> {
-    as_expected(first_other_watched(rt.alloc(), &WATCHED), &None)
-}
-
-/// Plays this many rounds with a slow link or node under a watch.
-fn play_slow(net: &Net, watch: &mut Watch, slow: Slow, share: u16, rounds: u64) {
-    for round in 0..rounds {
-        let _given = give_slow_round(net, slow, share, round, watch);
-    }
-}
-
-/// How many sweeps there were in this many rounds of two fresh nodes, one of them or a link slow, and
-/// after how many sweeps they served.
-fn watched_slow(alloc: Global, slow: Slow, share: u16, rounds: u64) -> Result<(u64, u64), Fail> {
-    let net = two_nodes(alloc)?;
-    let mut watch = watch_of(alloc, &net)?;
-    play_slow(&net, &mut watch, slow, share, rounds);
-    Ok((watch.sweeps(), watch.served_after()))
-}
-
-/// What is slow, its share, the rounds, how many sweeps there were, and after how many two nodes served.
+/// What is slow, its share of a hundred rounds, the rounds, how many sweeps there were, and after how
+/// many of them two nodes served.
 type SlowRow = (Slow, u16, u64, (u64, u64));
 
 const NODE: Slow = Slow::Node { node: 1 };
 
 const LINK: Slow = Slow::Link { from: 0, to: 1 };
 
-/// By hand. With half of the rounds, node 1 ticks in each second one. There its tick ends a sweep, since
-/// node 0 has ticked and the links were renewed before. In the second round it takes the root's distance
-/// after that tick, so only its tick in the fourth gives it its own; that ends the second sweep.
+/// By hand. Whoever has all rounds is not slow. Then in the first round each node takes the other's first
+/// words, which say nothing; the first sweep ends with what node 0 takes. In the second node 1 takes the
+/// root's distance, which ends the second sweep. In the third it ticks, which gives it its distance and
+/// ends the third sweep; from then on the two serve, since the values of their machines were alike at the
+/// start.
+///
+/// With half of the rounds, node 1 ticks in each second one. There its tick ends a sweep, since node 0 has
+/// ticked and the links were renewed before. In the second round it takes the root's distance after that
+/// tick, so only its tick in the fourth gives it its own; that ends the second sweep.
 ///
 /// If the link to node 1 has half of the rounds, the root's distance comes to node 1 by its first item in
 /// the second round, which ends the first sweep. The second item and the items to node 0 come after
 /// that, so the ticks of the third round end the second sweep; and node 1 has its distance by its tick. So
-/// there are two sweeps in each two rounds.
-///
-/// Whoever has all rounds is not slow, and whoever has none lets no sweep end.
-const SLOW: [SlowRow; 11] = [
+/// there are two sweeps in each two rounds. Whoever has no rounds lets no sweep end.
+const SLOW: [SlowRow; 15] = [
+    (LINK, 100, 0, (0, 1)),
+    (LINK, 100, 1, (1, 2)),
+    (LINK, 100, 2, (2, 3)),
+    (LINK, 100, 3, (3, 3)),
+    (LINK, 100, 35, (35, 3)),
     (NODE, 50, 0, (0, 1)),
     (NODE, 50, 1, (0, 1)),
     (NODE, 50, 2, (1, 2)),
@@ -236,14 +143,29 @@ const SLOW: [SlowRow; 11] = [
     (LINK, 50, 2, (1, 2)),
     (LINK, 50, 3, (2, 2)),
     (LINK, 50, 4, (3, 2)),
-    (LINK, 100, 3, (3, 3)),
     (LINK, 0, 35, (0, 1)),
 ];
+
+/// Plays this many rounds with a slow link or node under a watch.
+fn play(net: &Net, watch: &mut Watch, slow: Slow, share: u16, rounds: u64) {
+    for round in 0..rounds {
+        let _given = give_slow_round(net, slow, share, round, watch);
+    }
+}
+
+/// How many sweeps there were in this many rounds of two fresh nodes, one of them or a link slow, and
+/// after how many sweeps they served.
+fn watched(alloc: Global, slow: Slow, share: u16, rounds: u64) -> Result<(u64, u64), Fail> {
+    let net = two_nodes(alloc)?;
+    let mut watch = Watch::new(World::new(alloc, &net)?);
+    play(&net, &mut watch, slow, share, rounds);
+    Ok((watch.sweeps(), watch.served_after()))
+}
 
 /// The place of the first row whose rounds show something else.
 fn first_other_slow(alloc: Global, rows: &[SlowRow]) -> Result<Option<usize>, Fail> {
     for (at, (slow, share, rounds, want)) in rows.iter().enumerate() {
-        if watched_slow(alloc, *slow, *share, *rounds)? != *want {
+        if watched(alloc, *slow, *share, *rounds)? != *want {
             return Ok(Some(at));
         }
     }

@@ -6,19 +6,15 @@ use subcommands::network::{Wanted, named_text};
 use test_parts::as_expected;
 use topology::Net;
 
-/// A network with root 0, capacity 1 and no lease.
-fn of(kind: Kind, nodes: u16) -> Wanted {
-    Wanted {
+/// Whether there is a readable file of a network of this kind, with root 0, capacity 1 and no lease.
+fn is_read(alloc: Global, kind: Kind, nodes: u16) -> bool {
+    let wanted = Wanted {
         kind,
         nodes,
         root: 0,
         capacity: 1,
         lease: 0,
-    }
-}
-
-/// Whether a network's file can be read.
-fn is_read(alloc: Global, wanted: Wanted) -> bool {
+    };
     match named_text(alloc, wanted) {
         Ok(text) => Net::read(alloc, text.as_str()).is_ok(),
         Err(_) => false,
@@ -28,7 +24,7 @@ fn is_read(alloc: Global, wanted: Wanted) -> bool {
 /// The first number of nodes of a kind for which there is no readable file.
 fn first_unread(alloc: Global, kind: Kind) -> Option<u16> {
     for nodes in least_nodes(kind)..=most_nodes(kind) {
-        if !is_read(alloc, of(kind, nodes)) {
+        if !is_read(alloc, kind, nodes) {
             return Some(nodes);
         }
     }

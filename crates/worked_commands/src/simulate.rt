@@ -65,26 +65,16 @@ fn simulate<W: Write + Drop>(
     simulate_between(alloc, net, source, sink).map(|simulated| simulated.summary)
 }
 
-/// Simulates what these reads answer, on a network, and writes to a shelf.
-fn simulate_on(
-    alloc: Global,
-    net: &Net,
-    answers: &[Answer<'_>],
-    shelf: Shelf<'_>,
-) -> Result<Result<Summary, Fault>, Error> {
-    let mut sink = WriteSink::new(BufWriter::with_capacity(alloc, 16, shelf)?);
-    let mut source = ReadSource::new(Answers { answers, reads: 0 });
-    Ok(simulate(alloc, net, &mut source, &mut sink))
-}
-
-/// The same on two nodes.
+/// Simulates what these reads answer, on two nodes, and writes to a shelf.
 fn simulate_to(
     alloc: Global,
     answers: &[Answer<'_>],
     shelf: Shelf<'_>,
 ) -> Result<Result<Summary, Fault>, Fail> {
     let net = two_nodes(alloc)?;
-    Ok(simulate_on(alloc, &net, answers, shelf)?)
+    let mut sink = WriteSink::new(BufWriter::with_capacity(alloc, 16, shelf)?);
+    let mut source = ReadSource::new(Answers { answers, reads: 0 });
+    Ok(simulate(alloc, &net, &mut source, &mut sink))
 }
 
 /// Whether a simulation has this answer, and writes this.

@@ -3,7 +3,7 @@ use linked_list_allocator::LocalHeap;
 use std::alloc::{AllocError, Global};
 
 /// How a call ended on a heap.
-#[derive(Clone, Copy, Debug, PartialEq, Eq)]
+#[derive(Clone, Copy)]
 pub enum End {
     /// There was too little room for the arguments of the call.
     NoRoom,
@@ -15,27 +15,28 @@ pub enum End {
     Wrong,
 }
 
-/// Makes a call on heaps of ever more units of 16 bytes, up to this many, until one does not
-/// refuse it. Returns how the call ended there, and how many heaps refused it before.
-pub fn first_end<F: FnMut(&LocalHeap) -> End>(
+/// Makes a call on heaps of ever more units of 16 bytes, until one does not refuse it. Returns
+/// whether it was done there, and at least so many heaps refused it before.
+pub fn meets_each_refusal<F: FnMut(&LocalHeap) -> End>(
     alloc: Global,
-    most: usize,
+    least: u32,
     mut call: F,
-) -> Result<(End, u32), AllocError>
+) -> Result<bool, AllocError>
     requires { F.IsAlwaysCallable call }
 {
     let mut refused = 0u32;
-    for units in 1..most {
+    for units in 1..1000usize {
         let heap = LocalHeap::new(alloc, units.saturating_mul(16))?;
         let end = call(&heap);
         if heap.used() != 0 {
-            return Ok((End::Wrong, refused));
+            return Ok(false);
         }
         match end {
             End::NoRoom => {}
             End::Refused => refused = refused.saturating_add(1),
-            End::Done | End::Wrong => return Ok((end, refused)),
+            End::Done => return Ok(refused >= least),
+            End::Wrong => return Ok(false),
         }
     }
-    Ok((End::Refused, refused))
+    Ok(false)
 }

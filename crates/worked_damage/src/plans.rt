@@ -3,7 +3,7 @@
 ghost use Rattle.std.specs.Prelude.{⊤};
 
 use crate::calls::two;
-use crate::heaps::{End, first_end};
+use crate::heaps::{End, meets_each_refusal};
 use experiments::{
     Chances, EventSink, Order, PlanFault, Recovery, Scheduler, give_plan, measure_run,
 };
@@ -12,7 +12,7 @@ use rand_core::SeedableRng;
 use rand_pcg::Lcg64Xsh32;
 use std::alloc::{AllocError, Allocator, Global};
 use std::test::Fail;
-use test_parts::is_expected;
+use test_parts::as_expected;
 use topology::{Net, NetFault};
 use world::Event;
 use world::streams::{Failed, Fuse};
@@ -54,67 +54,57 @@ impl EventSink for Keeper {
     ghost takes_both = { λ _ _ _ _ _ _ _. tt };
 }
 
-/// A schedule for two nodes.
-#[derive(Clone, Copy)]
-enum Kind {
-    /// A scramble with the seed 7, and three rounds.
-    Rounds,
-    /// The same, with loans of one tick.
-    GivenBack,
-    /// Sixty random steps with the seed 3, with losses and clients.
-    Random,
-}
+/// A schedule for two nodes: whether it is a scramble with the seed 7 and three rounds, or sixty random
+/// steps with the seed 3, with losses and clients; and how many ticks its loans last, if they end.
+type Plan = (bool, Option<u16>);
 
-/// The scramble of a schedule, the length of its loans, and its steps.
-fn parts(kind: Kind) -> (Option<Lcg64Xsh32>, Option<u16>, Order) {
-    match kind {
-        Kind::Rounds => (
+const ROUNDS: Plan = (true, None);
+
+const GIVEN_BACK: Plan = (true, Some(1));
+
+const RANDOM: Plan = (false, Some(2));
+
+/// The scramble of a schedule, and its steps.
+fn parts(is_rounds: bool) -> (Option<Lcg64Xsh32>, Order) {
+    if is_rounds {
+        return (
             Some(Lcg64Xsh32::seed_from_u64(7)),
-            None,
             Order::Rounds { count: 3 },
-        ),
-        Kind::GivenBack => (
-            Some(Lcg64Xsh32::seed_from_u64(7)),
-            Some(1),
-            Order::Rounds { count: 3 },
-        ),
-        Kind::Random => (
-            None,
-            Some(2),
-            Order::Random {
-                steps: 60,
-                chances: Chances {
-                    loss: 20,
-                    clients: true,
-                },
-                generator: Lcg64Xsh32::seed_from_u64(3),
-            },
-        ),
+        );
     }
+    let order = Order::Random {
+        steps: 60,
+        chances: Chances {
+            loss: 20,
+            clients: true,
+        },
+        generator: Lcg64Xsh32::seed_from_u64(3),
+    };
+    (None, order)
 }
 
 /// Gives a keeper the schedule.
 fn given<A: Allocator + Copy>(
     alloc: A,
     net: &Net<A>,
-    kind: Kind,
+    (is_rounds, loan): Plan,
     keeper: &mut Keeper,
 ) -> Result<(), PlanFault> {
-    let (scramble, loan, order) = parts(kind);
+    let (scramble, order) = parts(is_rounds);
     give_plan(alloc, net, scramble, loan, order, keeper)
 }
 
 /// The events of a whole schedule.
-fn whole(alloc: Global, net: &Net, kind: Kind) -> Result<Vec<Event>, PlanFault> {
+fn whole(alloc: Global, net: &Net, plan: Plan) -> Result<Vec<Event>, PlanFault> {
     let mut keeper = Keeper::new(alloc, u64::MAX);
-    given(alloc, net, kind, &mut keeper)?;
+    given(alloc, net, plan, &mut keeper)?;
     Ok(keeper.events)
 }
 
 /// Those of two nodes.
-fn whole_of_two(alloc: Global, kind: Kind) -> Result<Vec<Event>, Fail> {
+fn whole_of_two(alloc: Global, plan: Plan) -> Result<Vec<Event>, Fail> {
     let net = two(alloc)?;
-    Ok(whole(alloc, &net, kind)?)
+    Ok(whole(alloc, &net, plan)?)
 }
 
 /// Gives the schedule to a keeper that fails after `calls` events. Returns whether the answer is
@@ -122,12 +112,12 @@ fn whole_of_two(alloc: Global, kind: Kind) -> Result<Vec<Event>, Fail> {
 fn is_cut_short(
     alloc: Global,
     net: &Net,
-    kind: Kind,
+    plan: Plan,
     calls: usize,
     whole: &[Event],
 ) -> Option<bool> {
     let mut keeper = Keeper::new(alloc, calls as u64);
-    let answer = given(alloc, net, kind, &mut keeper);
+    let answer = given(alloc, net, plan, &mut keeper);
     if !keeper.fuse.has_failed() {
         return None;
     }
@@ -139,44 +129,39 @@ fn is_cut_short(
 
 /// The first number of events after which the schedule is not cut short, or is cut short at its
 /// end.
-fn first_uncut(alloc: Global, kind: Kind, whole: &[Event]) -> Result<Option<usize>, NetFault> {
+fn first_uncut(alloc: Global, plan: Plan, whole: &[Event]) -> Result<Option<usize>, NetFault> {
     let net = two(alloc)?;
     for calls in 0..=whole.len() {
         let want = (calls < whole.len()).then_some(true);
-        if is_cut_short(alloc, &net, kind, calls, whole) != want {
+        if is_cut_short(alloc, &net, plan, calls, whole) != want {
             return Ok(Some(calls));
         }
     }
     Ok(None)
 }
 
-/// How many events a schedule has, and this number.
-fn cut_after_each(alloc: Global, kind: Kind) -> Result<(usize, Option<usize>), Fail> {
-    let events = whole_of_two(alloc, kind)?;
-    Ok((events.len(), first_uncut(alloc, kind, &events)?))
+/// Whether a schedule has at least so many events, and each of them is once not taken.
+fn is_cut_after_each(alloc: Global, plan: Plan, least: usize) -> Result<bool, Fail> {
+    let events = whole_of_two(alloc, plan)?;
+    Ok(events.len() >= least && first_uncut(alloc, plan, &events)?.is_none())
+}
+
+/// The schedules, and how many events each has at least.
+const KINDS: [(Kind, usize); 3] = [(ROUNDS, 44), (Kind::GivenBack, 44), (RANDOM, 60)];
+
+/// The place of the first schedule that is not so.
+fn first_not_cut(alloc: Global) -> Result<Option<usize>, Fail> {
+    for (at, (plan, least)) in PLANS.iter().enumerate() {
+        if !is_cut_after_each(alloc, *plan, *least)? {
+            return Ok(Some(at));
+        }
+    }
+    Ok(None)
 }
 
 #[test]
-fn each_event_of_rounds_is_once_not_taken(rt: HostRuntime) -> Result<(), Fail> {
-    let (count, uncut) = cut_after_each(rt.alloc(), Kind::Rounds)?;
-    is_expected(&(count >= 44, uncut), &(true, None))
-}
-
-#[test]
-fn each_event_of_rounds_with_loans_is_once_not_taken(rt: HostRuntime) -> Result<(), Fail> {
-    let (count, uncut) = cut_after_each(rt.alloc(), Kind::GivenBack)?;
-    is_expected(&(count >= 44, uncut), &(true, None))
-}
-
-#[test]
-fn each_event_of_random_steps_is_once_not_taken(rt: HostRuntime) -> Result<(), Fail> {
-    let (count, uncut) = cut_after_each(rt.alloc(), Kind::Random)?;
-    is_expected(&(count >= 60, uncut), &(true, None))
-}
-
-/// Two nodes; the network, and whatever is done with it, has its memory from this allocator.
-fn two_on<A: Allocator + Copy>(alloc: A) -> Result<Net<A>, NetFault> {
-    Net::make(alloc, 2, 0, 1, 0, &[(0, 1)])
+fn each_event_of_a_schedule_is_once_not_taken(rt: HostRuntime) -> Result<(), Fail> {
+    as_expected(first_not_cut(rt.alloc()), &None)
 }
 
 /// Gives a schedule to a keeper that has its own memory. Returns how that ends.
@@ -184,11 +169,11 @@ fn given_whole<A: Allocator + Copy>(
     alloc: Global,
     on: A,
     net: &Net<A>,
-    kind: Kind,
+    plan: Plan,
     whole: &[Event],
 ) -> End {
     let mut keeper = Keeper::new(alloc, u64::MAX);
-    match given(on, net, kind, &mut keeper) {
+    match given(on, net, plan, &mut keeper) {
         Ok(()) if keeper.events.as_slice() == whole => End::Done,
         // All memory is taken before the first event.
         Err(PlanFault::Memory) if keeper.events.is_empty() => End::Refused,
@@ -197,29 +182,27 @@ fn given_whole<A: Allocator + Copy>(
 }
 
 /// The same for two nodes on a heap.
-fn given_on(alloc: Global, heap: &LocalHeap, kind: Kind, whole: &[Event]) -> End {
-    match two_on(heap) {
-        Ok(net) => given_whole(alloc, heap, &net, kind, whole),
+fn given_on(alloc: Global, heap: &LocalHeap, plan: Plan, whole: &[Event]) -> End {
+    match two(heap) {
+        Ok(net) => given_whole(alloc, heap, &net, plan, whole),
         Err(_) => End::NoRoom,
     }
 }
 
-/// How a schedule is given on ever larger heaps.
-fn given_in_turn(alloc: Global, kind: Kind) -> Result<(End, u32), Fail> {
-    let events = whole_of_two(alloc, kind)?;
-    Ok(first_end(alloc, 1000, |heap| given_on(alloc, heap, kind, &events))?)
+/// Whether a schedule is given on ever larger heaps.
+fn given_in_turn(alloc: Global, plan: Plan) -> Result<bool, Fail> {
+    let events = whole_of_two(alloc, plan)?;
+    Ok(meets_each_refusal(alloc, 21, |heap| given_on(alloc, heap, plan, &events))?)
+}
+
+/// The same for rounds, and for random steps.
+fn both_in_turn(alloc: Global) -> Result<[bool; 2], Fail> {
+    Ok([given_in_turn(alloc, ROUNDS)?, given_in_turn(alloc, RANDOM)?])
 }
 
 #[test]
-fn a_schedule_of_rounds_meets_each_refusal(rt: HostRuntime) -> Result<(), Fail> {
-    let (end, refused) = given_in_turn(rt.alloc(), Kind::Rounds)?;
-    is_expected(&(end, refused > 20), &(End::Done, true))
-}
-
-#[test]
-fn a_schedule_of_random_steps_meets_each_refusal(rt: HostRuntime) -> Result<(), Fail> {
-    let (end, refused) = given_in_turn(rt.alloc(), Kind::Random)?;
-    is_expected(&(end, refused > 20), &(End::Done, true))
+fn a_schedule_meets_each_refusal(rt: HostRuntime) -> Result<(), Fail> {
+    as_expected(both_in_turn(rt.alloc()), &[true; 2])
 }
 
 /// The run with the seed 7.
@@ -253,37 +236,30 @@ fn measured_again<A: Allocator + Copy>(
 
 /// The same for two nodes on a heap.
 fn measured_on(heap: &LocalHeap, scheduler: Scheduler, run: Recovery) -> End {
-    match two_on(heap) {
+    match two(heap) {
         Ok(net) => measured_again(heap, &net, scheduler, run),
         Err(_) => End::NoRoom,
     }
 }
 
-/// The seed of a run, its sweeps with ample memory, and how it is measured on ever larger heaps.
-fn measured_in_turn(alloc: Global, scheduler: Scheduler) -> Result<((u64, u64), (End, u32)), Fail> {
+/// The seed of a run, its sweeps with ample memory, and whether it is measured on ever larger heaps.
+fn measured_in_turn(alloc: Global, scheduler: Scheduler) -> Result<(u64, u64, bool), Fail> {
     let run = measured_of_two(alloc, scheduler)?;
-    let found = first_end(alloc, 1000, |heap| measured_on(heap, scheduler, run))?;
-    Ok(((run.seed, run.seen), found))
+    let same = meets_each_refusal(alloc, 21, |heap| measured_on(heap, scheduler, run))?;
+    Ok((run.seed, run.seen, same))
 }
 
-/// The seed of each run, and its sweeps: the sharper bound for two nodes and links of one place is
-/// 35.
-const RUN: (u64, u64) = (7, 35);
-
-#[test]
-fn measured_rounds_meet_each_refusal(rt: HostRuntime) -> Result<(), Fail> {
-    let (run, (end, refused)) = measured_in_turn(rt.alloc(), Scheduler::Rounds)?;
-    is_expected(&(run, end, refused > 20), &(RUN, End::Done, true))
+/// The same for rounds, for random steps, and for rounds with a slow link.
+fn all_in_turn(alloc: Global) -> Result<[(u64, u64, bool); 3], Fail> {
+    Ok([
+        measured_in_turn(alloc, Scheduler::Rounds)?,
+        measured_in_turn(alloc, Scheduler::Random)?,
+        measured_in_turn(alloc, Scheduler::SlowLink { share: 50 })?,
+    ])
 }
 
+/// The sharper bound for two nodes and links of one place is 35 sweeps.
 #[test]
-fn measured_random_steps_meet_each_refusal(rt: HostRuntime) -> Result<(), Fail> {
-    let (run, (end, refused)) = measured_in_turn(rt.alloc(), Scheduler::Random)?;
-    is_expected(&(run, end, refused > 20), &(RUN, End::Done, true))
-}
-
-#[test]
-fn measured_rounds_with_a_slow_link_meet_each_refusal(rt: HostRuntime) -> Result<(), Fail> {
-    let (run, (end, refused)) = measured_in_turn(rt.alloc(), Scheduler::SlowLink { share: 50 })?;
-    is_expected(&(run, end, refused > 20), &(RUN, End::Done, true))
+fn measured_runs_meet_each_refusal(rt: HostRuntime) -> Result<(), Fail> {
+    as_expected(all_in_turn(rt.alloc()), &[(7, 35, true); 3])
 }

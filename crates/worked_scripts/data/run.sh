@@ -17,7 +17,7 @@ awk -v q="'" '
     function close_command() {
         if (command == "") return
         print "printf \"%s\\n\" " quoted(shown)
-        print "{ " command "\n} >\"$said\" 2>&1 </dev/null"
+        print "{ " command "\n} >\"$said_by_command\" 2>&1 </dev/null"
         print "show $?"
         command = ""
     }
@@ -27,8 +27,8 @@ awk -v q="'" '
     { close_command(); print "printf \"%s\\n\" " quoted($0) }
     END { close_command() }
 ' "$script" >.program
-said=$room/.said
-export said
+said_by_command=$room/.said
+export said_by_command
 cat "$here"/words/*.sh .program >.whole
 
 sh .whole >.seen

@@ -7,6 +7,9 @@ the generator.
   "m&tt}YgWO#W2LhWdJ,J;NK%1m;}}T|l@);"x
   R3BHS:y^
   $ tokentree junk 7 0
+  $ tokentree junk 0 2
+  P*Kn2+/S'b=hmMrd#TUvK0"1oB
+  {]NUJ%9"zsUkx#
   $ tokentree junk 4294967295 1
   [3c/~drGd/3U%9A/vul,:CgWN;Un8CP+U#e
 

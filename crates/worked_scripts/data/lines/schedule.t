@@ -33,3 +33,17 @@ Random steps have losses and clients only where these are asked for. With 100 lo
   lose 400
   $ kinds --clients
   take ask leave 400
+
+A scramble writes every part of a network, here of three nodes in a line whose loans last 3 ticks at most. Each of its
+harms is accepted, after those of other seeds too. Three are of distances, four of each of four ports, three of desks,
+and four empty the links. The others put items on links: another program drew 1, 2, 1, 2 and 1 of these.
+
+  $ network 3 3 '[0, 1], [1, 2]' >leased.toml
+  $ for seed in 1 2 3 4 5; do tokentree schedule leased.toml --rounds 0 --scramble "$seed" | tee -a harms | wc -l; done
+  27
+  28
+  27
+  28
+  27
+  $ tokentree simulate leased.toml harms | grep '^line '
+  [1]

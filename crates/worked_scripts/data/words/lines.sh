@@ -2,7 +2,7 @@
 
 # show STATUS: what the last command printed, as a script has it.
 show() {
-    sed 's/^/  /' "$said"
+    sed 's/^/  /' "$said_by_command"
     [ "$1" -eq 0 ] || echo "  [$1]"
 }
 
