@@ -147,7 +147,7 @@ fn is_cut_after_each(alloc: Global, plan: Plan, least: usize) -> Result<bool, Fa
 }
 
 /// The schedules, and how many events each has at least.
-const KINDS: [(Kind, usize); 3] = [(ROUNDS, 44), (Kind::GivenBack, 44), (RANDOM, 60)];
+const PLANS: [(Plan, usize); 3] = [(ROUNDS, 44), (GIVEN_BACK, 44), (RANDOM, 60)];
 
 /// The place of the first schedule that is not so.
 fn first_not_cut(alloc: Global) -> Result<Option<usize>, Fail> {
