@@ -90,50 +90,41 @@ impl<'a> Names<'a> {
         ensures looks { lost.looks ≡ false → self.new.looks ≡ self.old.looks }
     {
         if lost.links {
-            let heard = hear_links(rt, doors, &self.links);
+            let heard = hear(rt, doors, &self.links, Whom::Neighbours);
             self.links.note(rt, heard);
         }
         if lost.clients {
-            let heard = hear_clients(rt, doors, &self.clients);
+            let heard = hear(rt, doors, &self.clients, Whom::Clients);
             self.clients.note(rt, heard);
         }
         if lost.looks {
-            let heard = hear_looks(rt, doors, &self.looks);
+            let heard = hear(rt, doors, &self.looks, Whom::Lookers);
             self.looks.note(rt, heard);
         }
     }
 }
 
-/// Makes a socket for neighbours of this name, and listens at it.
-fn hear_links<'a, R: Files + Sockets>(
-    rt: &'a R,
-    doors: &mut UnixDoors<'a, R>,
-    name: &Name<'_>,
-) -> io::Result<FileId> {
-    let made = bind_again(rt, name.path, name.mode)?;
-    doors.listen_for_links(made.socket)?;
-    Ok(made.file)
+/// For whom a socket is.
+#[derive(Clone, Copy)]
+enum Whom {
+    Neighbours,
+    Clients,
+    Lookers,
 }
 
-/// The same for clients.
-fn hear_clients<'a, R: Files + Sockets>(
+/// Makes a socket of this name, and listens at it.
+fn hear<'a, R: Files + Sockets>(
     rt: &'a R,
     doors: &mut UnixDoors<'a, R>,
     name: &Name<'_>,
+    whom: Whom,
 ) -> io::Result<FileId> {
     let made = bind_again(rt, name.path, name.mode)?;
-    doors.listen_for_clients(made.socket)?;
-    Ok(made.file)
-}
-
-/// The same for whoever looks.
-fn hear_looks<'a, R: Files + Sockets>(
-    rt: &'a R,
-    doors: &mut UnixDoors<'a, R>,
-    name: &Name<'_>,
-) -> io::Result<FileId> {
-    let made = bind_again(rt, name.path, name.mode)?;
-    doors.listen_for_looks(made.socket)?;
+    match whom {
+        Whom::Neighbours => doors.listen_for_links(made.socket)?,
+        Whom::Clients => doors.listen_for_clients(made.socket)?,
+        Whom::Lookers => doors.listen_for_looks(made.socket)?,
+    }
     Ok(made.file)
 }
 

@@ -538,16 +538,17 @@ where
     ensures started { deed_at seen kept.old.keeper.failures kept.old.keeper.stage ≡ Start
         → (kept.new.keeper.stage ≡ Runs 0) ⊎ (kept.new.keeper.stage ≡ Waits 10) }
 {
+    let id = kept.id;
     match kept.keeper.step(seen) {
         Deed::Rest => {}
         Deed::Start => try_start(rt, program, kept),
-        Deed::SayAgain(end) => say_again(rt, kept, end),
-        Deed::SayLeft(end) => say_left(rt, kept, end),
-        Deed::SayGone(end) => say_gone(rt, kept, end),
+        Deed::SayAgain(end) => say(rt, kept, &EndLine { id, end }),
+        Deed::SayLeft(end) => say(rt, kept, &LeftLine { id, end }),
+        Deed::SayGone(end) => say(rt, kept, &GoneLine { id, end }),
         Deed::CloseInput => kept.close_input(),
         Deed::Kill => {
             let end = kept.kill();
-            say_gone(rt, kept, end);
+            say(rt, kept, &GoneLine { id, end });
         }
     }
 }
@@ -566,8 +567,9 @@ where
             kept.keeper.step(Seen::Started);
         }
         Err(_) => {
-            kept.keeper.step(Seen::Ended(End::Unstarted));
-            say_again(rt, kept, End::Unstarted);
+            let (id, end) = (kept.id, End::Unstarted);
+            kept.keeper.step(Seen::Ended(end));
+            say(rt, kept, &EndLine { id, end });
         }
     }
 }
@@ -594,44 +596,14 @@ fn end_of(status: ExitStatus) -> End
     }
 }
 
-/// Says how the process of a node that is started again ended.
-fn say_again<R, P: OpenProcess + Drop>(rt: &R, kept: &mut Kept<P>, end: End)
+/// Says how the process of a node ended, in one write.
+fn say<R, P: OpenProcess + Drop, D: Display>(rt: &R, kept: &mut Kept<P>, line: &D)
 where
     R: Print + AllocGlobal,
     ensures stays { (kept.new.id ≡ kept.old.id) × (kept.new.keeper ≡ kept.old.keeper) }
     ensures gone { kept.new.child ≡ None }
 {
     kept.child = None;
-    let line = EndLine { id: kept.id, end };
-    print_line(rt, &line);
-}
-
-/// Says how the process of a node that is left alone ended.
-fn say_left<R, P: OpenProcess + Drop>(rt: &R, kept: &mut Kept<P>, end: End)
-where
-    R: Print + AllocGlobal,
-    ensures stays { (kept.new.id ≡ kept.old.id) × (kept.new.keeper ≡ kept.old.keeper) }
-    ensures gone { kept.new.child ≡ None }
-{
-    kept.child = None;
-    let line = LeftLine { id: kept.id, end };
-    print_line(rt, &line);
-}
-
-/// Says how the process of a node that was asked to end did end.
-fn say_gone<R, P: OpenProcess + Drop>(rt: &R, kept: &mut Kept<P>, end: End)
-where
-    R: Print + AllocGlobal,
-    ensures stays { (kept.new.id ≡ kept.old.id) × (kept.new.keeper ≡ kept.old.keeper) }
-    ensures gone { kept.new.child ≡ None }
-{
-    kept.child = None;
-    let line = GoneLine { id: kept.id, end };
-    print_line(rt, &line);
-}
-
-/// Prints a line in one write.
-fn print_line<R: Print + AllocGlobal, D: Display>(rt: &R, line: &D) {
     if let Ok(text) = format!(in rt.alloc(); "{line}\n") {
         let _ = rt.print(text.as_str());
     }
