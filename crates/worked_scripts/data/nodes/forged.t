@@ -17,8 +17,7 @@ again before node 0 reads them.
   node 2 distance 1 parent 0
   $ stop 0; stop 1; stop 2
 
-The replay of the records leads to where the nodes stood, and a frame that node 2 did not send is named. After a kill
-other frames of neighbours may differ as well, so this alone does not show that a forged one is.
+The replay of the records leads to where the nodes stood, and a frame that node 2 did not send is named.
 
   $ tokentree gather run --network net.toml >events 2>said
   $ tokentree simulate net.toml events | resting
@@ -26,3 +25,11 @@ other frames of neighbours may differ as well, so this alone does not show that 
   node 1 distance 1 parent 0
   node 2 distance 1 parent 0
   $ grep -q '^tokentree: node 0 differs at microsecond .*: a frame that node 2 did not send$' said
+
+After a kill other frames of neighbours may differ as well. So the list of events itself shows the forged ones: they are
+put on the link as damage, with the numbers, the distance and the parent that were forged.
+
+  $ grep -x 'harm frame 2 0 [0-9]* 0 3 1 0' events | sort -u
+  harm frame 2 0 1 0 3 1 0
+  harm frame 2 0 2 0 3 1 0
+  harm frame 2 0 3 0 3 1 0
