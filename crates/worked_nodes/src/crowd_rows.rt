@@ -35,17 +35,16 @@ fn crowd(run: &mut Run<'_>, stage: &Stage) -> Option<(usize, Option<usize>)> {
     Some((run.node().waiting(), first_wrong_answer(&clients.pairs)))
 }
 
-/// The same at a new root of two nodes, for 129 clients.
-fn crowded(alloc: Global) -> Result<Option<(usize, Option<usize>)>, Fail> {
-    on_stage(alloc, 0, 129, |stage| {
-        let made = run_of(alloc, stage, row(alloc, 2, 1, 0)?, 0, b"");
-        with_made(made, |run| crowd(run, stage))
-    })
+/// The same at a new root of two nodes.
+fn crowded(alloc: Global, stage: &Stage) -> Result<Option<(usize, Option<usize>)>, Fail> {
+    let made = run_of(alloc, stage, row(alloc, 2, 1, 0)?, 0, b"");
+    with_made(made, |run| crowd(run, stage))
 }
 
 #[test]
 fn the_hundred_and_twenty_ninth_client_is_closed(rt: HostRuntime) -> Result<(), Fail> {
-    as_expected(crowded(rt.alloc()), &Some((64, None)))
+    let found = on_stage(rt.alloc(), 0, 129, |stage| crowded(rt.alloc(), stage));
+    as_expected(found, &Some((64, None)))
 }
 
 /// Lets a node attend 256 times. Returns the first time before which it closed a connection other
@@ -80,15 +79,14 @@ fn silence(run: &mut Run<'_>, stage: &Stage) -> Option<Silence> {
     Some((wrong, count, last.down.gives(b"F000000000003ffff0000\n")))
 }
 
-/// The same at the root of a row, over 66 connections.
-fn silent(alloc: Global) -> Result<Option<Silence>, Fail> {
-    on_stage(alloc, 66, 0, |stage| {
-        let made = run_of(alloc, stage, row(alloc, 3, 1, 0)?, 0, b"");
-        with_made(made, |run| silence(run, stage))
-    })
+/// The same at the root of a row.
+fn silent(alloc: Global, stage: &Stage) -> Result<Option<Silence>, Fail> {
+    let made = run_of(alloc, stage, row(alloc, 3, 1, 0)?, 0, b"");
+    with_made(made, |run| silence(run, stage))
 }
 
 #[test]
 fn silent_connections_are_few_and_go(rt: HostRuntime) -> Result<(), Fail> {
-    as_expected(silent(rt.alloc()), &Some((None, 65, true)))
+    let found = on_stage(rt.alloc(), 66, 0, |stage| silent(rt.alloc(), stage));
+    as_expected(found, &Some((None, 65, true)))
 }

@@ -74,7 +74,7 @@ const LETS_IN: [Turn; 5] = [
     (Some(2), false, 1),
 ];
 
-/// The first wrong one of these turns of a node of two.
+/// The first wrong one of these turns of a node of two. To node 0 the other one has come.
 fn first_wrong(
     alloc: Global,
     stage: &Stage,
@@ -85,6 +85,9 @@ fn first_wrong(
     if id >= net.nodes() {
         return Err(Fail::from(AllocError));
     }
+    if let (0, Some(links)) = (id, stage.links.first()) {
+        links.greet(b"H0001\n");
+    }
     let mut follower = Follower::new(alloc, &net, id)?;
     let made = run_of(alloc, stage, net, id, b"");
     with_made(
@@ -93,16 +96,12 @@ fn first_wrong(
     )
 }
 
-/// The first wrong turns of node 1 and of node 0, to which node 1 has come.
+/// The first wrong turns of node 1 and of node 0.
 fn of_both(alloc: Global) -> Result<[Option<usize>; 2], Fail> {
-    let coming = on_stage(alloc, 2, 0, |stage| first_wrong(alloc, stage, 1, &COMES))?;
-    let letting_in = on_stage(alloc, 2, 0, |stage| {
-        if let Some(links) = stage.links.first() {
-            links.greet(b"H0001\n");
-        }
-        first_wrong(alloc, stage, 0, &LETS_IN)
-    })?;
-    Ok([coming, letting_in])
+    Ok([
+        on_stage(alloc, 2, 0, |stage| first_wrong(alloc, stage, 1, &COMES))?,
+        on_stage(alloc, 2, 0, |stage| first_wrong(alloc, stage, 0, &LETS_IN))?,
+    ])
 }
 
 /// A port is loose until connecting succeeds, and a door that fails closes none.

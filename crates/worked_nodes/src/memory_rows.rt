@@ -106,7 +106,8 @@ fn tried(alloc: Global, stage: &Stage, size: usize) -> Result<(Outcome, bool), F
     };
     links.greet(b"H0001\nF000000000002ffff0000\n");
     let client = clients.greet(b"lock\nunlock\nstatus\n");
-    let outcome = tried_on(alloc, stage, &LocalHeap::new(alloc, size)?)?;
+    let heap = LocalHeap::new(alloc, size)?;
+    let outcome = tried_on(alloc, stage, &heap)?;
     let has_answers = client.is_some_and(|client| client.down.gives(ANSWERS));
     Ok((outcome, has_answers))
 }
@@ -125,9 +126,8 @@ fn tried_on(alloc: Global, stage: &Stage, heap: &LocalHeap) -> Result<Outcome, F
 fn first_to_run(alloc: Global) -> Result<(bool, Outcome, bool), Fail> {
     let mut refused = 0u32;
     for units in 1..4000usize {
-        let (outcome, has_answers) = on_stage(alloc, 1, 1, |stage| {
-            tried(alloc, stage, units * 128)
-        })?;
+        let size = units * 128;
+        let (outcome, has_answers) = on_stage(alloc, 1, 1, |stage| tried(alloc, stage, size))?;
         match outcome {
             NO_NODE => {}
             CAME_BACK => refused = refused.saturating_add(1),
@@ -215,7 +215,7 @@ fn rewired(
     Ok((None, third.is_some_and(|pair| pair.down.is_closed.get())))
 }
 
-/// What the root of a row does with them on its own heap.
+/// What the root of a row does with them on this heap.
 fn rewired_on(
     alloc: Global,
     stage: &Stage,
@@ -228,12 +228,15 @@ fn rewired_on(
     }
 }
 
+/// The same on its own heap.
+fn rewired_alone(alloc: Global, stage: &Stage) -> Result<(Option<usize>, bool), Fail> {
+    let heap = LocalHeap::new(alloc, 524_288)?;
+    rewired_on(alloc, stage, &heap)
+}
+
 /// The connection of node 2 goes with its edge.
 #[test]
 fn a_network_with_other_edges_is_taken_up_without_memory(rt: HostRuntime) -> Result<(), Fail> {
-    let alloc = rt.alloc();
-    let found = on_stage(alloc, 4, 0, |stage| {
-        rewired_on(alloc, stage, &LocalHeap::new(alloc, 524_288)?)
-    });
+    let found = on_stage(rt.alloc(), 4, 0, |stage| rewired_alone(rt.alloc(), stage));
     as_expected(found, &(None, true))
 }

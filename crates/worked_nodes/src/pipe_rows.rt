@@ -1,6 +1,6 @@
 //! Frames between two links whose pipes fail.
 use crate::ends::{End, Part};
-use crate::nodes::{on_stage, row};
+use crate::nodes::row;
 use crate::stage::Stage;
 use crate::wires::Queue;
 use socket_links::{Flow, Offer, Pull, SocketLink};
@@ -130,20 +130,24 @@ fn with_a_failure(
     Some((has_failed, ends.are_right(side, has_failed)))
 }
 
+/// The same on new stages.
+fn with_new_stages(
+    alloc: Global,
+    net: &Net,
+    side: usize,
+    calls: u64,
+) -> Result<(bool, bool), Fail> {
+    let (near, far) = (Stage::new(alloc, 1, 2, 0)?, Stage::new(alloc, 1, 0, 0)?);
+    let found = with_a_failure(net, (&near, &far), side, calls);
+    Ok(found.unwrap_or((false, false)))
+}
+
 /// Makes each call of one side fail in turn. Returns how many calls there are, and whether all was
 /// right, also if none failed.
 fn calls_of(alloc: Global, side: usize) -> Result<(u64, bool), Fail> {
     let net = row(alloc, 3, 1, 0)?;
     for calls in 0..100 {
-        let found = on_stage(alloc, 2, 0, |near| {
-            on_stage(
-                alloc,
-                0,
-                0,
-                |far| Ok(with_a_failure(&net, (near, far), side, calls)),
-            )
-        })?;
-        let (has_failed, is_right) = found.unwrap_or((false, false));
+        let (has_failed, is_right) = with_new_stages(alloc, &net, side, calls)?;
         if !has_failed || !is_right {
             return Ok((calls, is_right));
         }

@@ -101,18 +101,28 @@ fn life<'a>(
     Ok((fault, missed))
 }
 
-/// Runs three nodes in a row, ends node 2, and starts it again with this much of that state in its
+/// Starts node 2 beside two running nodes, ends it, and starts it again with these bytes in its
 /// store. Returns the results of both starts.
+fn both_lives<'a>(
+    alloc: Global,
+    stage: &'a Stage,
+    runs: &mut Vec<Run<'a>>,
+    bytes: &[u8],
+) -> Result<[Life; 2], Fail> {
+    Ok([
+        life(alloc, stage, runs, b"")?,
+        life(alloc, stage, runs, bytes)?,
+    ])
+}
+
+/// The same beside two new nodes, with so many bytes of that state.
 fn lives(alloc: Global, stage: &Stage, kept: usize) -> Result<[Life; 2], Fail> {
     for clients in stage.clients.iter().take(2) {
         clients.knock();
     }
     let bytes = &SCRAMBLED[..kept.min(SCRAMBLED.len())];
     let runs = runs_of(alloc, stage, &row(alloc, 3, 64, 0)?, &[b"", b""]);
-    with_made(runs, |runs| {
-        let first = life(alloc, stage, runs, b"")?;
-        Ok([first, life(alloc, stage, runs, bytes)?])
-    })?
+    with_made(runs, |runs| both_lives(alloc, stage, runs, bytes))?
 }
 
 /// The same with all bytes of the state, and with 33 of 36.
