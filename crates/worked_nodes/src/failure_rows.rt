@@ -1,84 +1,48 @@
-//! Doors, connections and stores that fail.
-use crate::stage::{
-    Run, doors, doors_to, in_a_row, over_new, run_with, turn_once, with_made, with_token,
+//! Connections and stores that fail.
+use crate::nodes::{
+    Run, RunWith, WITH_TOKEN, on_stage, row, runs_of, started, stored, turn_all, with_made,
 };
-use crate::wires::{MemoryDoors, Pair, Queue, Trip};
-use node_core::Node;
-use node_loop::{NodeRun, Notes};
-use node_state_file::{FusedStore, MOST_BYTES, MemoryStore, StoreFault};
+use crate::stage::Stage;
+use node_loop::Notes;
+use node_state_file::{FusedStore, MemoryStore, StoreFault};
 use std::alloc::{AllocError, Global};
 use std::test::Fail;
 use test_parts::as_expected;
-use topology::Net;
 
-/// Whether one of two nodes in a row has its true distance, and nobody waits or borrows.
-fn is_settled(node: &Node) -> bool {
-    node.distance() == node.id() && node.waiting() == 0 && node.lent().is_none()
-}
-
-/// A client comes, asks for the lock and releases it.
-fn ask(clients: &Queue<'_>) {
-    if let Some(client) = clients.knock() {
-        client.up.write(b"lock\nunlock\n");
-    }
-}
-
-/// Sixteen turns of each.
-fn turn_both(near: &mut Run<'_>, far: &mut Run<'_>) {
+/// Sixteen turns of each of two nodes. Returns whether each is then at its place, and nobody waits
+/// or borrows.
+fn are_settled(runs: &mut [Run<'_>]) -> bool {
     for _ in 0..16 {
-        turn_once(near);
-        turn_once(far);
+        turn_all(runs);
     }
+    for run in runs.iter() {
+        let node = run.node();
+        let parent = node.id().checked_sub(1);
+        let is_placed = node.distance() == node.id() && node.parent() == parent;
+        if !is_placed || node.waiting() > 0 || node.lent().is_some() {
+            return false;
+        }
+    }
+    true
 }
 
-/// Runs two nodes over these connections, the first two of them for clients, and makes the call
-/// after this many others fail. Returns whether both settle, node 1 below node 0, and whether that
-/// call was made.
-fn settle(alloc: Global, calls: u64, pairs: &[Pair]) -> Result<(bool, bool), Fail> {
-    let (near_clients, far_clients) = (Queue::new(pairs, 0, 1), Queue::new(pairs, 1, 2));
-    let (links, trip) = (Queue::new(pairs, 2, 5), Trip::after(calls));
-    let are_settled = settle_at(
-        alloc,
-        doors(&links, &near_clients, &trip),
-        doors_to(&links, &far_clients, &trip),
-    )?;
-    Ok((are_settled, trip.is_over()))
-}
-
-/// Makes the near one of two nodes, then the far one beside it. Returns whether both settle.
-fn settle_at(
-    alloc: Global,
-    near_doors: MemoryDoors<'_>,
-    far_doors: MemoryDoors<'_>,
-) -> Result<bool, Fail> {
-    let near = with_token(alloc, near_doors);
-    ask(near_doors.clients);
-    with_made(near, |near| settle_with(alloc, near, far_doors))?
-}
-
-/// Makes the far one of two nodes, and runs it beside the near one. Returns whether both settle.
-fn settle_with<'a>(
-    alloc: Global,
-    near: &mut Run<'_>,
-    doors: MemoryDoors<'a>,
-) -> Result<bool, Fail> {
-    let clients = doors.clients;
-    let far = in_a_row(alloc, 2, 1, doors);
-    ask(clients);
-    with_made(far, |far| are_settled(near, far))
-}
-
-/// Runs two nodes side by side. Returns whether both settle, the far one below the other.
-fn are_settled(near: &mut Run<'_>, far: &mut Run<'_>) -> bool {
-    turn_both(near, far);
-    is_settled(near.node()) && is_settled(far.node()) && far.node().parent() == Some(0)
+/// Runs two nodes, each with a client that asks for the lock and releases it, and makes the call
+/// after this many others fail. Returns whether both settle, and whether that call was made.
+fn settle(alloc: Global, stage: &Stage, calls: u64) -> Result<(bool, bool), Fail> {
+    stage.spared.set(Some(calls));
+    for clients in &stage.clients {
+        clients.greet(b"lock\nunlock\n");
+    }
+    let runs = runs_of(alloc, stage, &row(alloc, 2, 1, 0)?, &[&WITH_TOKEN, b""]);
+    let are_settled = with_made(runs, |runs| are_settled(runs.as_mut_slice()))?;
+    Ok((are_settled, stage.spared.get().is_none()))
 }
 
 /// Makes each call fail in turn, each time over new connections. Returns the first failure after
 /// which the two do not settle, and whether there are more than 100 calls.
 fn first_unsettled(alloc: Global) -> Result<(Option<u64>, bool), Fail> {
     for calls in 0..10_000 {
-        let (are_settled, has_failed) = over_new(alloc, 5, |pairs| settle(alloc, calls, pairs))?;
+        let (are_settled, has_failed) = on_stage(alloc, 3, 1, |stage| settle(alloc, stage, calls))?;
         if !are_settled {
             return Ok((Some(calls), calls > 100));
         }
@@ -95,23 +59,7 @@ fn two_nodes_settle_whichever_call_fails(rt: HostRuntime) -> Result<(), Fail> {
 }
 
 /// A node whose store fails once.
-type Fused<'a> = NodeRun<MemoryDoors<'a>, FusedStore<MemoryStore>>;
-
-/// A store whose first save fails.
-fn fused(alloc: Global) -> Result<FusedStore<MemoryStore>, Fail> {
-    Ok(FusedStore::new(MemoryStore::new(alloc, MOST_BYTES)?, 0))
-}
-
-/// Node 1 of two; its first save fails.
-fn with_fused_store<'a>(alloc: Global, doors: MemoryDoors<'a>) -> Result<Fused<'a>, Fail> {
-    let store = fused(alloc)?;
-    let net = Net::make(alloc, 2, 0, 1, 0, &[(0, 1)])?;
-    if net.nodes() < 2 {
-        return Err(Fail::from(AllocError));
-    }
-    let node = Node::new(alloc, &net, 1)?;
-    run_with(alloc, net, node, doors, store)
-}
+type Fused<'a> = RunWith<'a, FusedStore<MemoryStore>>;
 
 /// Turns a node 512 times, and lets it attend before each turn. Returns the first turn that
 /// wrongly saved or did not save: the 256th fails to save, and the 512th saves. After both the
@@ -141,14 +89,16 @@ fn has_stored(run: &Fused<'_>) -> bool {
     run.store().inner().stored() == Some(TICKED.as_slice())
 }
 
-/// The first wrong turn of node 1 alone, and whether it has stored that in the end.
-fn saved(alloc: Global) -> Result<(Option<u32>, bool), Fail> {
-    let (links, clients, trip) = (Queue::new(&[], 0, 0), Queue::new(&[], 0, 0), Trip::never());
-    let made = with_fused_store(alloc, doors(&links, &clients, &trip));
-    with_made(made, |run| (first_wrong_turn(run), has_stored(run)))
+/// The first wrong turn of node 1 alone, and whether it has stored that in the end. Its store fails
+/// at the first call after the start, which loads.
+fn saved(alloc: Global, stage: &Stage) -> Result<(Option<u32>, bool), Fail> {
+    let store = FusedStore::new(stored(alloc, b"")?, 1);
+    let run = started(alloc, stage, row(alloc, 2, 1, 0)?, 1, store, &mut None);
+    with_made(run, |run| (first_wrong_turn(run), has_stored(run)))
 }
 
 #[test]
 fn each_256th_turn_saves_and_goes_on_where_that_fails(rt: HostRuntime) -> Result<(), Fail> {
-    as_expected(saved(rt.alloc()), &(None, true))
+    let found = on_stage(rt.alloc(), 0, 0, |stage| saved(rt.alloc(), stage));
+    as_expected(found, &(None, true))
 }

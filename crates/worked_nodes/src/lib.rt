@@ -1,29 +1,36 @@
 //! Nodes that run over connections in memory: their turns, their clients, their failures and their
-//! restarts, with every expected value computed by hand.
+//! restarts, with every expected value computed by hand; and replays of what they did in their turns.
+//!
+//! In a replay three and five nodes run in any order, with clients that ask, leave and vanish, and
+//! connections that break at any call. Their accounts make events, which lead a world to the same
+//! nodes, turn for turn. A seed says who turns when, what clients do, and which calls break.
+//! Connections that go wrong on purpose show that the replay can fail.
 //!
 //! Nothing but tests stands here, since a crate's tests prove all of that crate once more.
 #![tactic(auto)]
 
 #[cfg(test)]
-mod acts;
-#[cfg(test)]
-mod cast;
-#[cfg(test)]
-mod client_rows;
+mod crowd_rows;
 #[cfg(test)]
 mod door_rows;
 #[cfg(test)]
-mod failure_rows;
+mod draws;
 #[cfg(test)]
-mod link_rows;
+mod ends;
+#[cfg(test)]
+mod failure_rows;
 #[cfg(test)]
 mod memory_rows;
 #[cfg(test)]
-mod note_rows;
+mod nodes;
 #[cfg(test)]
 mod pace_rows;
 #[cfg(test)]
 mod pipe_rows;
+#[cfg(test)]
+mod plays;
+#[cfg(test)]
+mod replays;
 #[cfg(test)]
 mod restart_rows;
 #[cfg(test)]

@@ -3,176 +3,122 @@ ghost use Rattle.std.specs.Prelude.{◌≡◌};
 ghost use Rattle.node_core.specs.Site.{site_of};
 ghost use Rattle.node_core.specs.View.{site_in};
 
-use crate::stage::{doors, over_new, with_made};
-use crate::wires::{MemoryDoors, Pair, Queue, Trip};
+use crate::nodes::{on_stage, row, stored, with_made};
+use crate::stage::{Stage, StageDoors};
 use linked_list_allocator::LocalHeap;
 use node_core::Node;
-use node_loop::{NodeRun, Notes, Unmade};
-use node_state_file::{MOST_BYTES, MemoryStore};
-use pace::Manner;
-use std::alloc::{AllocError, Global};
+use node_loop::{NodeRun, Notes};
+use node_state_file::MemoryStore;
+use pace::{Manner, Pace};
+use std::alloc::Global;
 use std::test::Fail;
 use test_parts::{as_expected, fill};
 use topology::Net;
 
 /// A node that runs on a heap.
-type RunOn<'a, 'h> = NodeRun<MemoryDoors<'a>, MemoryStore, &'h LocalHeap>;
+type RunOn<'a, 'h> = NodeRun<StageDoors<'a>, MemoryStore, &'h LocalHeap>;
 
-/// The edges of a row of three nodes.
-const ROW: [(i64, i64); 2] = [(0, 1), (1, 2)];
+/// What came of a node on a heap, in words.
+type Outcome = &'static str;
 
-/// What came of a node on a heap.
-#[derive(Drop)]
-enum Begun<'a, 'h> {
-    /// The heap has no room for the node.
-    NoNode,
-    /// The loop was refused: whether node and network came back, and nothing else kept memory.
-    Refused(bool),
-    /// It can run.
-    Whole(RunOn<'a, 'h>),
-}
+/// The heap has no room for the node.
+const NO_NODE: Outcome = "no room for the node";
+/// The loop was refused: node and network came back, and nothing else kept memory.
+const CAME_BACK: Outcome = "all came back";
+/// It ran, and no turn took memory.
+const RAN: Outcome = "it ran";
 
-/// What a node on a heap of some size did.
-#[derive(Clone, Copy, PartialEq, Eq, Debug)]
-enum Outcome {
-    NoNode,
-    Refused(bool),
-    /// It ran: whether no turn took memory.
-    Ran(bool),
-}
-
-/// Whether what was handed in came back, and nothing else kept memory of the heap.
-fn came_back(
-    unmade: &Unmade<MemoryDoors<'_>, MemoryStore, &LocalHeap>,
-    heap: &LocalHeap,
-    nodes: u16,
-    used: usize,
-) -> bool {
-    unmade.node.id() == 0 && unmade.net.nodes() == nodes && heap.used() == used
-}
-
-/// Begins the loop of this node on a heap.
+/// Begins the loop of node 0 on a heap, or says why there is none.
 fn looped<'a, 'h>(
     heap: &'h LocalHeap,
+    stage: &'a Stage,
     net: Net,
     node: Node<&'h LocalHeap>,
-    doors: MemoryDoors<'a>,
     store: MemoryStore,
-) -> Begun<'a, 'h>
+) -> Result<RunOn<'a, 'h>, Outcome>
     requires { site_in node ≡ site_of net (site_in node).id }
 {
     let (nodes, used) = (net.nodes(), heap.used());
+    let doors = StageDoors {
+        node: 0,
+        stage,
+        failures: 0,
+    };
     match NodeRun::new(heap, net, node, doors, store, Manner::usual()) {
-        Ok(run) => Begun::Whole(run),
-        Err(unmade) => Begun::Refused(came_back(&unmade, heap, nodes, used)),
+        Ok(run) => Ok(run),
+        Err(back) if back.node.id() == 0 && back.net.nodes() == nodes && heap.used() == used => {
+            Err(CAME_BACK)
+        }
+        Err(_back) => Err("something kept memory"),
     }
 }
 
-/// Begins node 0 of this network on a heap.
-fn begun_on<'a, 'h>(
+/// Begins the root of a network on a heap.
+fn begun<'a, 'h>(
     heap: &'h LocalHeap,
+    stage: &'a Stage,
     net: Net,
-    doors: MemoryDoors<'a>,
     store: MemoryStore,
-) -> Begun<'a, 'h> {
+) -> Result<RunOn<'a, 'h>, Outcome> {
     if net.nodes() == 0 {
-        return Begun::NoNode;
+        return Err(NO_NODE);
     }
     match Node::new(heap, &net, 0) {
-        Ok(node) => looped(heap, net, node, doors, store),
-        Err(_) => Begun::NoNode,
+        Ok(node) => looped(heap, stage, net, node, store),
+        Err(_) => Err(NO_NODE),
     }
 }
 
-/// Begins the root of this number of nodes in a row on a heap.
-fn root_of<'a, 'h>(
-    alloc: Global,
-    heap: &'h LocalHeap,
-    nodes: i64,
-    edges: &[(i64, i64)],
-    doors: MemoryDoors<'a>,
-) -> Result<Begun<'a, 'h>, Fail> {
-    let store = MemoryStore::new(alloc, MOST_BYTES)?;
-    let net = Net::make(alloc, nodes, 0, 1, 0, edges)?;
-    Ok(begun_on(heap, net, doors, store))
-}
-
-/// The next one knocks, and writes this.
-fn comes(queue: &Queue<'_>, bytes: &[u8]) {
-    if let Some(pair) = queue.knock() {
-        pair.up.write(bytes);
-    }
-}
-
-/// One turn at the node's own pace, and what it does before the next one.
+/// One turn at the node's own pace.
 fn turn_at(run: &mut RunOn<'_, '_>, now: u64) {
     run.wait(now);
     run.turn(now, &mut Notes::none());
+}
+
+/// What the node does before the next turn.
+fn attend_at(run: &mut RunOn<'_, '_>, now: u64) {
     run.attend(now, &mut Notes::none());
 }
 
-/// This number of `turns` at the node's own pace, 10 milliseconds apart.
-fn turn_often(run: &mut RunOn<'_, '_>, turns: u64) {
-    for turn in 0..turns {
-        turn_at(run, turn.saturating_mul(10_000));
-    }
-}
-
-/// Turns a node on a heap that has nothing left. Returns whether it takes nothing.
-fn takes_nothing(alloc: Global, heap: &LocalHeap, run: &mut RunOn<'_, '_>) -> Result<bool, Fail> {
+/// Turns a node on a heap that has nothing left 256 times, 10 milliseconds apart.
+fn turn_often(alloc: Global, heap: &LocalHeap, run: &mut RunOn<'_, '_>) -> Result<Outcome, Fail> {
     let _full = fill(alloc, heap)?;
     let used = heap.used();
-    turn_often(run, 256);
-    Ok(heap.used() == used)
-}
-
-/// What a node on a heap does once a neighbour and a client come.
-fn outcome_of(
-    alloc: Global,
-    heap: &LocalHeap,
-    begun: &mut Begun<'_, '_>,
-    links: &Queue<'_>,
-    clients: &Queue<'_>,
-) -> Result<Outcome, Fail> {
-    match begun {
-        Begun::NoNode => Ok(Outcome::NoNode),
-        Begun::Refused(is_whole) => Ok(Outcome::Refused(*is_whole)),
-        Begun::Whole(run) => {
-            comes(links, b"H0001\nF000000000002ffff0000\n");
-            comes(clients, b"lock\nunlock\nstatus\n");
-            Ok(Outcome::Ran(takes_nothing(alloc, heap, run)?))
-        }
+    for turn in 0..256u64 {
+        turn_at(run, turn.saturating_mul(10_000));
+        attend_at(run, turn.saturating_mul(10_000));
     }
-}
-
-/// What the root of two nodes does on this heap.
-fn tried_on(alloc: Global, heap: &LocalHeap, pairs: &[Pair]) -> Result<Outcome, Fail> {
-    let (links, clients) = (Queue::new(pairs, 0, 1), Queue::new(pairs, 1, 2));
-    let trip = Trip::never();
-    let made = root_of(alloc, heap, 2, &ROW[..1], doors(&links, &clients, &trip));
-    with_made(
-        made,
-        |begun| outcome_of(alloc, heap, begun, &links, &clients),
-    )?
-}
-
-/// What the root of two nodes does on a heap of this size.
-fn tried(alloc: Global, size: usize, pairs: &[Pair]) -> Result<Outcome, Fail> {
-    let heap = LocalHeap::new(alloc, size)?;
-    tried_on(alloc, &heap, pairs)
+    Ok(if heap.used() == used {
+        RAN
+    } else {
+        "a turn took memory"
+    })
 }
 
 /// What a client that leaves before it is granted the lock hears.
 const ANSWERS: &[u8] = b"released\nnode 0 distance 2 parent none token no lent none waiting 0\n";
 
-/// The same, and whether its client then has all answers.
-fn tried_over(alloc: Global, size: usize, pairs: &[Pair]) -> Result<(Outcome, bool), Fail> {
-    let outcome = tried(alloc, size, pairs)?;
-    let has_answers = match pairs.get(1) {
-        Some(client) => client.says(ANSWERS),
-        None => false,
+/// What the root of two nodes does on a heap of this size once a neighbour and a client come, and
+/// whether the client then has all answers.
+fn tried(alloc: Global, stage: &Stage, size: usize) -> Result<(Outcome, bool), Fail> {
+    let (Some(links), Some(clients)) = (stage.links.first(), stage.clients.first()) else {
+        return Ok((NO_NODE, false));
     };
+    links.greet(b"H0001\nF000000000002ffff0000\n");
+    let client = clients.greet(b"lock\nunlock\nstatus\n");
+    let heap = LocalHeap::new(alloc, size)?;
+    let outcome = tried_on(alloc, stage, &heap)?;
+    let has_answers = client.is_some_and(|client| client.down.gives(ANSWERS));
     Ok((outcome, has_answers))
+}
+
+/// What the root of two nodes does on this heap.
+fn tried_on(alloc: Global, stage: &Stage, heap: &LocalHeap) -> Result<Outcome, Fail> {
+    let made = begun(heap, stage, row(alloc, 2, 1, 0)?, stored(alloc, b"")?);
+    match with_made(made, |run| turn_often(alloc, heap, run)) {
+        Ok(outcome) => outcome,
+        Err(outcome) => Ok(outcome),
+    }
 }
 
 /// Tries ever larger heaps. Returns whether more than 100 refused the loop, what happened on the
@@ -181,147 +127,116 @@ fn first_to_run(alloc: Global) -> Result<(bool, Outcome, bool), Fail> {
     let mut refused = 0u32;
     for units in 1..4000usize {
         let size = units * 128;
-        let (outcome, has_answers) = over_new(alloc, 2, |pairs| tried_over(alloc, size, pairs))?;
+        let (outcome, has_answers) = on_stage(alloc, 1, 1, |stage| tried(alloc, stage, size))?;
         match outcome {
-            Outcome::NoNode => {}
-            Outcome::Refused(true) => refused = refused.saturating_add(1),
+            NO_NODE => {}
+            CAME_BACK => refused = refused.saturating_add(1),
             _ => return Ok((refused > 100, outcome, has_answers)),
         }
     }
-    // A larger heap is needed.
-    Ok((refused > 100, Outcome::NoNode, false))
+    Ok((refused > 100, "a larger heap is needed", false))
 }
 
 #[test]
 fn only_new_asks_for_memory(rt: HostRuntime) -> Result<(), Fail> {
-    as_expected(first_to_run(rt.alloc()), &(true, Outcome::Ran(true), true))
+    as_expected(first_to_run(rt.alloc()), &(true, RAN, true))
 }
 
-/// Three nodes, the root first, with these edges.
-fn three(alloc: Global, capacity: i64, edges: &[(i64, i64)]) -> Result<Net, Fail> {
-    Ok(Net::make(alloc, 3, 0, capacity, 0, edges)?)
-}
+/// A network of three nodes for the root: how many frames its links hold, its edges, whether the
+/// node takes it over, and whether node 2 is welcome then.
+type Handed = (i64, &'static [(i64, i64)], bool, bool);
 
-/// What a node did with a network: whether it took it over, whether node 2 was then welcome, and
-/// how much memory was free.
-type Rewired = Option<(bool, bool, usize)>;
+/// A row.
+const ROW: &[(i64, i64)] = &[(0, 1), (1, 2)];
+
+/// A ring.
+const RING: &[(i64, i64)] = &[(0, 1), (1, 2), (0, 2)];
+
+/// Networks for the root of a row: the row, a ring with other links, the ring, and the row.
+const HANDED: [Handed; 4] = [
+    (1, ROW, true, false),
+    (2, RING, false, false),
+    (1, RING, true, true),
+    (1, ROW, true, false),
+];
 
 /// Takes over a network, without showing the contract of that. Returns whether it did.
 fn is_taken_up(run: &mut RunOn<'_, '_>, net: &Net) -> bool {
     run.rewire(net)
 }
 
-/// Takes over a network and turns; before that node 2 knocks.
-fn rewired(run: &mut RunOn<'_, '_>, net: &Net, links: &Queue<'_>, heap: &LocalHeap) -> Rewired {
-    let pair = links.knock()?;
-    pair.up.write(b"H0002\n");
-    let is_taken = is_taken_up(run, net);
-    turn_at(run, 0);
-    Some((is_taken, !pair.down.is_closed(), heap.free()))
-}
-
-/// A network for a node: how many frames its links hold, its edges, and what the node does with
-/// it.
-type Handed<'a> = (i64, &'a [(i64, i64)], Rewired);
-
-/// The edges of a ring of three nodes.
-const RING: [(i64, i64); 3] = [(0, 1), (1, 2), (0, 2)];
-
-/// The networks for the root of a row: the row, a ring with other links, the ring, and the row.
-const HANDED: [Handed<'static>; 4] = [
-    (1, &ROW, Some((true, false, 0))),
-    (2, &RING, Some((false, false, 0))),
-    (1, &RING, Some((true, true, 0))),
-    (1, &ROW, Some((true, false, 0))),
-];
-
-/// Whether the node does with this network what it should.
-fn is_as_expected(
+/// Takes over a network, turns and attends; before that node 2 knocks. Returns whether the node does
+/// what it should, and in its turn sends its first frame to node 2 exactly if that is welcome. It
+/// takes no memory.
+fn is_rewired(
     alloc: Global,
-    run: &mut RunOn<'_, '_>,
-    links: &Queue<'_>,
     heap: &LocalHeap,
-    (capacity, edges, want): Handed<'_>,
+    run: &mut RunOn<'_, '_>,
+    stage: &Stage,
+    (capacity, edges, is_taken, is_welcome): Handed,
 ) -> Result<bool, Fail> {
-    let net = three(alloc, capacity, edges)?;
-    Ok(rewired(run, &net, links, heap) == want)
+    let net = Net::make(alloc, 3, 0, capacity, 0, edges)?;
+    let Some(pair) = stage
+        .links
+        .first()
+        .and_then(|links| links.greet(b"H0002\n"))
+    else {
+        return Ok(false);
+    };
+    let has_taken = is_taken_up(run, &net);
+    let frame: &[u8] = if is_welcome {
+        b"F000000000003ffff0000\n"
+    } else {
+        b""
+    };
+    turn_at(run, 0);
+    let is_as_said = pair.down.gives(frame) && pair.down.is_closed.get() != is_welcome;
+    attend_at(run, 0);
+    Ok(has_taken == is_taken && is_as_said && heap.free() == 0)
 }
 
-/// The place of the first of these networks, one after the other, with which the node does
-/// something else.
-fn first_unlike(
+/// Hands a node on a heap that has nothing left these networks, one after the other. It offers a
+/// frame on each port at any time. Returns the place of the first with which it does something else,
+/// and whether the third connection is closed in the end.
+fn rewired(
     alloc: Global,
-    run: &mut RunOn<'_, '_>,
-    links: &Queue<'_>,
     heap: &LocalHeap,
-    rows: &[Handed<'_>],
-) -> Result<Option<usize>, Fail> {
-    for (place, row) in rows.iter().enumerate() {
-        if !is_as_expected(alloc, run, links, heap, *row)? {
-            return Ok(Some(place));
+    run: &mut RunOn<'_, '_>,
+    stage: &Stage,
+) -> Result<(Option<usize>, bool), Fail> {
+    let _full = fill(alloc, heap)?;
+    run.set_pace(Pace::new(Manner { hold: 0, repeat: 0 }));
+    for (place, handed) in HANDED.iter().enumerate() {
+        if !is_rewired(alloc, heap, run, stage, *handed)? {
+            return Ok((Some(place), false));
         }
     }
-    Ok(None)
+    let third = stage.links.first().and_then(|links| links.pairs.get(2));
+    Ok((None, third.is_some_and(|pair| pair.down.is_closed.get())))
 }
 
-/// What went wrong, and whether the third connection was then closed.
-type Said = (Option<usize>, bool);
-
-/// The same for those networks on a heap that has nothing left.
-fn rewired_on_a_full_heap(
+/// What the root of a row does with them on this heap.
+fn rewired_on(
     alloc: Global,
-    run: &mut RunOn<'_, '_>,
-    links: &Queue<'_>,
+    stage: &Stage,
     heap: &LocalHeap,
-    pairs: &[Pair],
-) -> Result<Said, Fail> {
-    let _full = fill(alloc, heap)?;
-    let unlike = first_unlike(alloc, run, links, heap, &HANDED)?;
-    let has_gone = match pairs.get(2) {
-        Some(pair) => pair.down.is_closed(),
-        None => false,
-    };
-    Ok((unlike, has_gone))
-}
-
-/// What a node that has begun does with them.
-fn rewired_from(
-    alloc: Global,
-    begun: &mut Begun<'_, '_>,
-    links: &Queue<'_>,
-    heap: &LocalHeap,
-    pairs: &[Pair],
-) -> Result<Said, Fail> {
-    match begun {
-        Begun::Whole(run) => rewired_on_a_full_heap(alloc, run, links, heap, pairs),
-        _ => Err(Fail::from(AllocError)),
+) -> Result<(Option<usize>, bool), Fail> {
+    let made = begun(heap, stage, row(alloc, 3, 1, 0)?, stored(alloc, b"")?);
+    match with_made(made, |run| rewired(alloc, heap, run, stage)) {
+        Ok(found) => found,
+        Err(outcome) => Err(Fail::new(outcome)),
     }
-}
-
-/// What the root of a row does with them, on this heap.
-fn rewired_on(alloc: Global, heap: &LocalHeap, pairs: &[Pair]) -> Result<Said, Fail> {
-    let (links, clients) = (Queue::new(pairs, 0, 4), Queue::new(pairs, 4, 4));
-    let trip = Trip::never();
-    let made = root_of(alloc, heap, 3, &ROW, doors(&links, &clients, &trip));
-    with_made(
-        made,
-        |begun| rewired_from(alloc, begun, &links, heap, pairs),
-    )?
 }
 
 /// The same on its own heap.
-fn rewired_over(alloc: Global, pairs: &[Pair]) -> Result<Said, Fail> {
+fn rewired_alone(alloc: Global, stage: &Stage) -> Result<(Option<usize>, bool), Fail> {
     let heap = LocalHeap::new(alloc, 524_288)?;
-    rewired_on(alloc, &heap, pairs)
+    rewired_on(alloc, stage, &heap)
 }
 
-/// The same over new connections.
-fn rewired_anew(alloc: Global) -> Result<Said, Fail> {
-    over_new(alloc, 4, |pairs| rewired_over(alloc, pairs))
-}
-
+/// The connection of node 2 goes with its edge.
 #[test]
-fn a_network_is_taken_up_without_memory(rt: HostRuntime) -> Result<(), Fail> {
-    // The connection of node 2 went with its edge.
-    as_expected(rewired_anew(rt.alloc()), &(None, true))
+fn a_network_with_other_edges_is_taken_up_without_memory(rt: HostRuntime) -> Result<(), Fail> {
+    let found = on_stage(rt.alloc(), 4, 0, |stage| rewired_alone(rt.alloc(), stage));
+    as_expected(found, &(None, true))
 }

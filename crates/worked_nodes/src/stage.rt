@@ -1,173 +1,171 @@
-//! Nodes that run over memory, and how they begin.
-ghost use Rattle.std.specs.Prelude.{◌≡◌};
-ghost use Rattle.node_core.specs.Site.{site_of};
-ghost use Rattle.node_core.specs.View.{site_in};
-
-use crate::wires::{MemoryDoors, Pair, Queue, Trip};
-use node_core::Node;
-use node_loop::{NodeRun, Notes};
-use node_state_file::{MOST_BYTES, MemoryStore, Store, decode};
-use pace::Manner;
+//! What nodes in memory share, and the doors through which connections come to them.
+use crate::ends::{End, Part};
+use crate::replays::account::Account;
+use crate::replays::desk::Desk;
+use crate::wires::{Queue, ROOM};
+use node_loop::{Door, Doors};
 use std::alloc::{AllocError, Global};
-use std::test::Fail;
-use topology::Net;
+use std::cell::Cell;
 
-/// A node that runs over memory.
-pub type Run<'a> = NodeRun<MemoryDoors<'a>, MemoryStore>;
+/// How often a planned mistake happens: once every this many frames, or asks.
+const EACH: u32 = 20;
 
-/// The root of two nodes, which has the token: node 1 is its tree neighbour.
-const WITH_TOKEN: [u8; 34] = *b"TKT1\x00\x02\x00\x00\x00\x01\x00\x00\xff\xff\
-\x00\x01\x00\x00\x00\x00\x00\x02\xff\xff\x00\x00\x00\x01\x00\x00\x00\x00\x00\x00";
-
-/// The manner of a node that offers a frame on each port at any time.
-pub fn eager() -> Manner {
-    Manner { hold: 0, repeat: 0 }
+/// What nodes in memory share.
+#[derive(Drop)]
+pub struct Stage {
+    /// The connections that come to each node from higher neighbours.
+    pub links: Vec<Queue>,
+    /// Those that come from clients.
+    pub clients: Vec<Queue>,
+    /// How many calls come before the one that fails, among all calls of all doors and connections;
+    /// none if none fails any more.
+    pub spared: Cell<Option<u64>>,
+    /// How many bytes each wire holds.
+    pub room: usize,
+    /// The tickets of each node's clients, if the deeds of turns are noted.
+    pub desks: Vec<Desk>,
+    /// The deeds of the current turn.
+    pub account: Account,
+    /// The mistake that happens now and then, if it has a name.
+    pub mistake: &'static str,
+    chances: Cell<u32>,
 }
 
-/// Does something with what was made (a running node, say), drops it, and returns the result.
-///
-/// A function that holds a node and may return early is expensive to prove; here that is done once
-/// for all.
-pub fn with_made<R: Drop, T, F: FnOnce(&mut R) -> T>(
-    made: Result<R, Fail>,
-    deed: F,
-) -> Result<T, Fail>
-    requires { F.IsAlwaysCallable deed }
-{
-    let mut held = made?;
-    Ok(deed(&mut held))
-}
-
-/// This number of new connections.
-pub fn connections(alloc: Global, count: usize) -> Result<Vec<Pair>, Fail> {
-    let mut pairs = Vec::with_capacity(alloc, count)?;
-    for _ in 0..count {
-        pairs.push(Pair::new())?;
+impl Stage {
+    /// A stage for so many nodes, with so many connections to each of them.
+    pub fn new(
+        alloc: Global,
+        nodes: u16,
+        links: usize,
+        clients: usize,
+    ) -> Result<Stage, AllocError> {
+        let mut stage = Stage {
+            links: Vec::new(alloc),
+            clients: Vec::new(alloc),
+            spared: Cell::new(None),
+            room: ROOM,
+            desks: Vec::new(alloc),
+            account: Account::new(),
+            mistake: "",
+            chances: Cell::new(0),
+        };
+        for _ in 0..nodes {
+            stage.links.push(Queue::new(alloc, links)?)?;
+            stage.clients.push(Queue::new(alloc, clients)?)?;
+        }
+        Ok(stage)
     }
-    Ok(pairs)
-}
 
-/// Does something over this number of new connections, drops them, and returns the result.
-pub fn over_new<T, F: FnOnce(&[Pair]) -> Result<T, Fail>>(
-    alloc: Global,
-    count: usize,
-    deed: F,
-) -> Result<T, Fail>
-    requires { F.IsAlwaysCallable deed }
-{
-    let pairs = connections(alloc, count)?;
-    deed(pairs.as_slice())
-}
-
-/// One turn, without showing its contract, which would otherwise be part of each test.
-pub fn turn_once(run: &mut Run<'_>) {
-    run.turn(0, &mut Notes::none());
-}
-
-/// What a node does between two turns.
-pub fn attend_once(run: &mut Run<'_>) {
-    run.attend(0, &mut Notes::none());
-}
-
-/// Doors for higher neighbours and clients of a node without a lower neighbour.
-pub fn doors<'a>(links: &'a Queue<'a>, clients: &'a Queue<'a>, trip: &'a Trip) -> MemoryDoors<'a> {
-    MemoryDoors {
-        links: Some(links),
-        clients,
-        lower: None,
-        trip,
-        failures: 0,
+    /// Counts a call, and says whether it fails.
+    pub fn trips(&self) -> bool {
+        let spared = self.spared.get();
+        self.spared
+            .set(spared.and_then(|calls| calls.checked_sub(1)));
+        spared == Some(0)
     }
-}
 
-/// Doors for clients of a node that has a lower neighbour there.
-pub fn doors_to<'a>(
-    lower: &'a Queue<'a>,
-    clients: &'a Queue<'a>,
-    trip: &'a Trip,
-) -> MemoryDoors<'a> {
-    MemoryDoors {
-        links: None,
-        clients,
-        lower: Some(lower),
-        trip,
-        failures: 0,
+    /// Counts a chance for this mistake, and says whether it happens.
+    pub fn errs(&self, mistake: &str) -> bool {
+        if self.mistake != mistake {
+            return false;
+        }
+        let chances = self.chances.get().wrapping_add(1);
+        self.chances.set(chances);
+        chances % EACH == 0
     }
-}
 
-/// Doors for higher neighbours and clients of a node that also has a lower neighbour.
-pub fn doors_between<'a>(
-    links: &'a Queue<'a>,
-    lower: &'a Queue<'a>,
-    clients: &'a Queue<'a>,
-    trip: &'a Trip,
-) -> MemoryDoors<'a> {
-    MemoryDoors {
-        links: Some(links),
-        clients,
-        lower: Some(lower),
-        trip,
-        failures: 0,
+    /// Whether the deeds of turns are noted.
+    pub fn is_noted(&self) -> bool {
+        !self.desks.is_empty()
     }
-}
 
-/// A fresh node `id` of two or three nodes in a row, the root first.
-pub fn in_a_row<'a>(
-    alloc: Global,
-    nodes: i64,
-    id: u16,
-    doors: MemoryDoors<'a>,
-) -> Result<Run<'a>, Fail> {
-    let edges = [(0, 1), (1, 2)];
-    let count = if nodes == 2 { 1 } else { 2 };
-    let net = Net::make(alloc, nodes, 0, 1, 0, &edges[..count])?;
-    if id >= net.nodes() {
-        return Err(Fail::from(AllocError));
+    /// What is noted of a connection between a node and a neighbour at the node's end.
+    fn part(&self, here: u16, there: u16, place: usize) -> Part<'_> {
+        if self.is_noted() {
+            Part::Link { here, there, place }
+        } else {
+            Part::Unseen
+        }
     }
-    let node = Node::new(alloc, &net, id)?;
-    run_of(alloc, net, node, doors)
-}
 
-/// The root of two nodes, which has the token; loans have no lease.
-pub fn with_token<'a>(alloc: Global, doors: MemoryDoors<'a>) -> Result<Run<'a>, Fail> {
-    with_lease(alloc, 0, doors)
-}
-
-/// The root of two nodes, which has the token; loans have this lease in ticks.
-pub fn with_lease<'a>(alloc: Global, lease: i64, doors: MemoryDoors<'a>) -> Result<Run<'a>, Fail> {
-    let net = Net::make(alloc, 2, 0, 1, lease, &[(0, 1)])?;
-    if net.nodes() == 0 {
-        return Err(Fail::from(AllocError));
+    /// The next connection of a neighbour that has come to a node.
+    fn link(&self, node: u16) -> Option<End<'_>> {
+        let links = self.links.get(node as usize)?;
+        let place = links.given.get();
+        let pair = links.next()?;
+        let part = self.part(node, pair.newcomer.get(), place);
+        Some(End::new(pair, false, self, part))
     }
-    let node = decode(alloc, &WITH_TOKEN, &net, 0)?;
-    run_of(alloc, net, node, doors)
-}
 
-/// This node, with this store. It offers a frame on each port in each turn.
-pub fn run_with<'a, S: Store + Drop>(
-    alloc: Global,
-    net: Net,
-    node: Node,
-    doors: MemoryDoors<'a>,
-    store: S,
-) -> Result<NodeRun<MemoryDoors<'a>, S>, Fail>
-    requires { site_in node ≡ site_of net (site_in node).id }
-{
-    match NodeRun::new(alloc, net, node, doors, store, eager()) {
-        Ok(run) => Ok(run),
-        Err(_unmade) => Err(Fail::from(AllocError)),
+    /// The next connection of a client that has come to a node.
+    fn client(&self, node: u16) -> Option<End<'_>> {
+        let clients = self.clients.get(node as usize)?;
+        let Some(desk) = self.desks.get(node as usize) else {
+            return Some(End::new(clients.next()?, false, self, Part::Unseen));
+        };
+        let ticket = desk.admit()?;
+        let pair = clients.pairs.get(ticket as usize)?;
+        pair.up.clear();
+        pair.down.clear();
+        pair.lasts.set(u64::MAX);
+        Some(End::new(pair, false, self, Part::Client(desk, ticket)))
+    }
+
+    /// A connection that a node makes to a lower one; none once all are made.
+    fn connect(&self, node: u16, lower: u16) -> Option<End<'_>> {
+        let links = self.links.get(lower as usize)?;
+        let place = links.come.get();
+        let pair = links.knock()?;
+        pair.newcomer.set(node);
+        Some(End::new(pair, true, self, self.part(node, lower, place)))
     }
 }
 
-/// This node, with room for one state in its store.
-pub fn run_of<'a>(
-    alloc: Global,
-    net: Net,
-    node: Node,
-    doors: MemoryDoors<'a>,
-) -> Result<Run<'a>, Fail>
-    requires { site_in node ≡ site_of net (site_in node).id }
-{
-    let store = MemoryStore::new(alloc, MOST_BYTES)?;
-    run_with(alloc, net, node, doors, store)
+/// The doors of a node on a stage.
+#[derive(Drop)]
+pub struct StageDoors<'a> {
+    pub node: u16,
+    pub stage: &'a Stage,
+    pub failures: u64,
+}
+
+impl<'a> Doors for StageDoors<'a> {
+    type P = End<'a>;
+
+    ghost failures = { λ d. d.failures };
+
+    fn wait(&mut self, _rest: u64) {}
+
+    fn link(&mut self) -> Door<End<'a>> {
+        if self.stage.trips() {
+            self.failures = self.failures.saturating_add(1);
+            return Door::Failed;
+        }
+        match self.stage.link(self.node) {
+            Some(end) => Door::Came(end),
+            None => Door::Nobody,
+        }
+    }
+
+    fn client(&mut self) -> Door<End<'a>> {
+        if self.stage.trips() {
+            self.failures = self.failures.saturating_add(1);
+            return Door::Failed;
+        }
+        match self.stage.client(self.node) {
+            Some(end) => Door::Came(end),
+            None => Door::Nobody,
+        }
+    }
+
+    fn connect(&mut self, neighbour: u16) -> Door<End<'a>> {
+        if self.stage.trips() {
+            self.failures = self.failures.saturating_add(1);
+            return Door::Failed;
+        }
+        match self.stage.connect(self.node, neighbour) {
+            Some(end) => Door::Came(end),
+            None => Door::Nobody,
+        }
+    }
 }

@@ -1,5 +1,5 @@
 //! Damage between runs.
-use crate::ran::{LINE, happen, judged_right, made, ran, start, tree};
+use crate::ran::{LINE, happen, judged_right, line, made, ran, tree};
 use damage_tool::scramble_world;
 use rand_core::SeedableRng;
 use rand_pcg::Lcg64Xsh32;
@@ -9,19 +9,8 @@ use std::test::Fail;
 use std::thread::Threads;
 use test_parts::as_expected;
 use thread_net::{Pace, Woven};
-use topology::{Net, NetFault};
+use topology::Net;
 use world::{Event, World};
-
-/// The line of three nodes, whose links hold one item each, with a lease of three ticks.
-fn net_of_three(alloc: Global) -> Result<Net, NetFault> {
-    Net::make(alloc, 3, 0, 1, 3, &[(0, 1), (1, 2)])
-}
-
-/// Its default world.
-fn three(alloc: Global) -> Result<World, Fail> {
-    let net = net_of_three(alloc)?;
-    Ok(start(alloc, &net)?)
-}
 
 /// Harms for every part of a network's world, drawn from a seed.
 fn scrambled(alloc: Global, net: &Net, seed: u64) -> Result<Vec<Event>, AllocError> {
@@ -44,29 +33,9 @@ fn damage(
     Ok([(26..=30).contains(&harms.len()), happen(world, &harms)])
 }
 
-/// Whether node 0 is the root of the line and the others follow, and at most one is privileged and
-/// lends.
-fn is_right(world: &World) -> [bool; 3] {
-    [
-        tree(world) == Some(LINE),
-        world.privileged() <= 1,
-        world.lending() <= 1,
-    ]
-}
-
-/// Runs 4,000 turns in step. Returns what the nodes did, and whether the gate held.
-fn in_step<R: Threads + Wait + Sync>(
-    rt: &R,
-    alloc: Global,
-    world: World,
-) -> Result<(Woven, bool), Fail> {
-    let gate = Pace::new(3);
-    let woven = made(ran(rt, alloc, world, 4000, &gate))?;
-    Ok((woven, !gate.gave_up()))
-}
-
 /// The findings of a run: on its damage, whether the gate held, what a judge says of the history
-/// including the run, from the default world, and of the final world.
+/// including the run, from the default world, and of the final world: whether node 0 is the root of
+/// the line and the others follow, and at most one is privileged and lends.
 type Held = ([bool; 2], bool, [bool; 3], [bool; 3]);
 
 /// The findings if all is right.
@@ -79,11 +48,17 @@ fn held_of(
     history: &mut Vec<Event>,
 ) -> Result<([bool; 3], [bool; 3]), Fail> {
     history.extend_from_slice(&woven.events)?;
-    let judged = judged_right(alloc, three(alloc)?, history, &woven.world)?;
-    Ok((judged, is_right(&woven.world)))
+    let world = &woven.world;
+    let judged = judged_right(alloc, line(alloc, 3)?, history, world)?;
+    let is_line = tree(world) == Some(LINE);
+    Ok((
+        judged,
+        [is_line, world.privileged() <= 1, world.lending() <= 1],
+    ))
 }
 
-/// Damages a world, and then runs it. Returns the final world, and the findings.
+/// Damages a world, and then runs it for 4,000 turns in step. Returns the final world, and the
+/// findings.
 fn run_damaged<R: Threads + Wait + Sync>(
     rt: &R,
     alloc: Global,
@@ -92,19 +67,21 @@ fn run_damaged<R: Threads + Wait + Sync>(
     history: &mut Vec<Event>,
 ) -> Result<(World, Held), Fail> {
     let damaged = damage(alloc, seed, &mut world, history)?;
-    let (woven, paced) = in_step(rt, alloc, world)?;
+    let gate = Pace::new(3);
+    let woven = made(ran(rt, alloc, world, 4000, &gate))?;
     let (judged, right) = held_of(alloc, &woven, history)?;
-    Ok((woven.world, (damaged, paced, judged, right)))
+    Ok((woven.world, (damaged, !gate.gave_up(), judged, right)))
 }
 
 /// The findings of five runs, each from the final world of the one before, with the seeds 1 to 5.
+/// The first world is the default one of a line with a lease of three ticks.
 fn five_runs<R: Threads + Wait + Sync>(
     rt: &R,
     alloc: Global,
     history: &mut Vec<Event>,
 ) -> Result<[Option<Held>; 5], Fail> {
     let mut all = [None; 5];
-    let mut world = three(alloc)?;
+    let mut world = line(alloc, 3)?;
     for (seed, place) in (1..=5).zip(&mut all) {
         let (came, held) = run_damaged(rt, alloc, seed, world, history)?;
         world = came;
@@ -113,17 +90,9 @@ fn five_runs<R: Threads + Wait + Sync>(
     Ok(all)
 }
 
-/// The same with their own history.
-fn five_runs_alone<R: Threads + Wait + Sync>(
-    rt: &R,
-    alloc: Global,
-) -> Result<[Option<Held>; 5], Fail> {
-    let mut history = Vec::new(alloc);
-    five_runs(rt, alloc, &mut history)
-}
-
 /// Each of five runs begins with a scrambled world, and ends with one that serves.
 #[test]
 fn runs_recover_from_damage(rt: HostRuntime) -> Result<(), Fail> {
-    as_expected(five_runs_alone(&rt, rt.alloc()), &[Some(RIGHT); 5])
+    let mut history = Vec::new(rt.alloc());
+    as_expected(five_runs(&rt, rt.alloc(), &mut history), &[Some(RIGHT); 5])
 }

@@ -5,20 +5,16 @@
 #![tactic(auto)]
 
 #[cfg(test)]
+mod copies;
+#[cfg(test)]
 mod damaged;
 #[cfg(test)]
 mod full;
 #[cfg(test)]
-mod meet;
-#[cfg(test)]
 mod memory;
-#[cfg(test)]
-mod open;
-#[cfg(test)]
-mod pace;
 #[cfg(test)]
 mod ran;
 #[cfg(test)]
-mod refused;
-#[cfg(test)]
 mod sameness;
+#[cfg(test)]
+mod steps;

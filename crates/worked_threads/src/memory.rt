@@ -9,18 +9,15 @@ use topology::Net;
 use world::simulation::SimFault;
 use world::{Event, World};
 
-/// How far a run gets on a heap.
-#[derive(Clone, Copy, Debug, PartialEq, Eq)]
-enum Reached {
-    /// There is no room for the world.
-    Nothing,
-    /// The world comes back unchanged.
-    SameWorld,
-    /// All that the run needs is made.
-    Run,
-    /// Anything else.
-    Wrong,
-}
+/// How far a run gets on a heap, in words.
+type Reached = &'static str;
+
+/// There is no room for the world.
+const NOTHING: Reached = "nothing";
+/// The world comes back unchanged.
+const SAME_WORLD: Reached = "the same world";
+/// All that the run needs is made.
+const RUN: Reached = "a run";
 
 /// A client asks, and each link has a frame under way.
 const EVENTS: [Event; 3] = [
@@ -36,9 +33,9 @@ fn reach_of<A: Allocator + Copy>(
     text: &[u8],
 ) -> Result<Reached, SimFault> {
     match back {
-        None => Ok(Reached::Run),
-        Some(world) if is_shown_as(alloc, world, text)? => Ok(Reached::SameWorld),
-        Some(_) => Ok(Reached::Wrong),
+        None => Ok(RUN),
+        Some(world) if is_shown_as(alloc, world, text)? => Ok(SAME_WORLD),
+        Some(_) => Ok("another world"),
     }
 }
 
@@ -58,10 +55,10 @@ fn prepared<A: Allocator + Copy>(
 /// How far a run of two nodes gets on a heap.
 fn tried(alloc: Global, heap: &LocalHeap, net: &Net) -> Result<Reached, SimFault> {
     let Ok(mut world) = start(heap, net) else {
-        return Ok(Reached::Nothing);
+        return Ok(NOTHING);
     };
     if !happen(&mut world, &EVENTS) {
-        return Ok(Reached::Wrong);
+        return Ok("a refused event");
     }
     prepared(alloc, heap, world)
 }
@@ -73,23 +70,23 @@ fn tried_within(alloc: Global, units: usize, net: &Net) -> Result<Reached, Fail>
     Ok(if heap.used() == 0 {
         reached
     } else {
-        Reached::Wrong
+        "something was kept"
     })
 }
 
 /// How far it gets on the first of ever larger heaps that has room for a world and does not send
 /// it back unchanged, and how many sent it back before.
 fn tried_in_turn(alloc: Global) -> Result<(Reached, u32), Fail> {
-    let net = net_of(alloc, 2, &[(0, 1)])?;
+    let net = net_of(alloc, 2, 0, &[(0, 1)])?;
     let mut came_back = 0u32;
     for units in 1..4000usize {
         match tried_within(alloc, units, &net)? {
-            Reached::Nothing => {}
-            Reached::SameWorld => came_back = came_back.saturating_add(1),
+            NOTHING => {}
+            SAME_WORLD => came_back = came_back.saturating_add(1),
             reached => return Ok((reached, came_back)),
         }
     }
-    Ok((Reached::Nothing, came_back))
+    Ok((NOTHING, came_back))
 }
 
 /// Ever larger heaps refuse each growth in turn, until one has room for all. Each time the world
@@ -97,5 +94,5 @@ fn tried_in_turn(alloc: Global) -> Result<(Reached, u32), Fail> {
 #[test]
 fn each_growth_before_a_run_is_refused_in_turn(rt: HostRuntime) -> Result<(), Fail> {
     let (reached, came_back) = tried_in_turn(rt.alloc())?;
-    is_expected(&(reached, came_back > 0), &(Reached::Run, true))
+    is_expected(&(reached, came_back > 0), &(RUN, true))
 }

@@ -11,9 +11,14 @@ use world::simulation::{SimFault, state_text};
 use world::streams::MemorySink;
 use world::{Event, EventFault, World};
 
-/// A network whose links hold one item, with node 0 as its root and no lease.
-pub fn net_of(alloc: Global, nodes: i64, edges: &[(i64, i64)]) -> Result<Net, NetFault> {
-    Net::make(alloc, nodes, 0, 1, 0, edges)
+/// A network whose links hold one item, with node 0 as its root and a lease in ticks, if not 0.
+pub fn net_of(
+    alloc: Global,
+    nodes: i64,
+    lease: i64,
+    edges: &[(i64, i64)],
+) -> Result<Net, NetFault> {
+    Net::make(alloc, nodes, 0, 1, lease, edges)
 }
 
 /// The tree of a line of three nodes: each node's distance from the root, and its parent.
@@ -27,9 +32,9 @@ pub fn start<A: Allocator + Copy>(alloc: A, net: &Net) -> Result<World<A>, Alloc
     World::new(alloc, net)
 }
 
-/// The default world of a line of three nodes.
-pub fn line(alloc: Global) -> Result<World, Fail> {
-    let net = net_of(alloc, 3, &[(0, 1), (1, 2)])?;
+/// The default world of a line of three nodes, with a lease in ticks, if not 0.
+pub fn line(alloc: Global, lease: i64) -> Result<World, Fail> {
+    let net = net_of(alloc, 3, lease, &[(0, 1), (1, 2)])?;
     Ok(start(alloc, &net)?)
 }
 
@@ -63,7 +68,7 @@ pub fn ran<R: Threads + Wait + Sync, G: Gate>(
 }
 
 /// Judges a run.
-pub fn judged(world: World, events: &[Event]) -> Report {
+fn judged(world: World, events: &[Event]) -> Report {
     judge(world, events)
 }
 
@@ -103,12 +108,6 @@ pub fn is_shown_as<A: Allocator + Copy>(
     Ok(sink.taken() == text)
 }
 
-/// Whether two worlds are shown by one text.
-pub fn is_same(alloc: Global, world: &World, other: &World) -> Result<bool, SimFault> {
-    let sink = shown(alloc, world)?;
-    is_shown_as(alloc, other, sink.taken())
-}
-
 /// Whether a judge accepts each of these events, sees at least the 217 sweeps that a line of three
 /// nodes needs from any state, and reaches the final world.
 pub fn judged_right(
@@ -118,7 +117,7 @@ pub fn judged_right(
     came: &World,
 ) -> Result<[bool; 3], SimFault> {
     let report = judged(from, events);
-    let is_same = is_same(alloc, &report.world, came)?;
+    let is_same = is_shown_as(alloc, &report.world, shown(alloc, came)?.taken())?;
     Ok([report.refused == 0, report.sweeps >= 217, is_same])
 }
 
@@ -136,7 +135,7 @@ pub fn tree(world: &World) -> Option<Tree> {
 }
 
 /// How often a list has an event.
-pub fn count(event: Event, events: &[Event]) -> usize {
+fn count(event: Event, events: &[Event]) -> usize {
     let mut found = 0usize;
     for other in events {
         if *other == event {

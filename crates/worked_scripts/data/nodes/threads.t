@@ -18,6 +18,14 @@ one was taken, so they say what the nodes said at the start.
   >     *) cat printed ;;
   > esac
 
+Each ticked once, and sent once over its one outgoing link, which was empty.
+
+  $ grep -e tick -e send events | sort
+  send 0 1
+  send 1 0
+  tick 0
+  tick 1
+
 One turn, and a hundred, print what `simulate` prints of their events.
 
   $ tokentree simulate two.toml events | cmp - printed

@@ -8,13 +8,13 @@ pub const LINE: usize = 22;
 const ROOM: usize = 64;
 
 /// A frame's line on a connection.
-#[derive(Clone, Copy, Debug, PartialEq, Eq)]
+#[derive(Clone, Copy)]
 pub struct Line {
     pub from: u16,
     pub to: u16,
     /// The place of the connection; a later connection has a greater place.
-    pub connection: usize,
-    pub bytes: [u8; LINE],
+    pub place: usize,
+    pub frame: [u8; LINE],
 }
 
 impl Line {
@@ -25,30 +25,30 @@ impl Line {
 
     /// Whether it is on the same link, on an earlier connection.
     pub fn is_older(&self, other: &Line) -> bool {
-        self.shares_link(other) && self.connection < other.connection
+        self.shares_link(other) && self.place < other.place
     }
 }
 
 /// A deed of a node, except its ticks, which no connection sees.
-#[derive(Clone, Copy, Debug, PartialEq, Eq)]
+#[derive(Clone, Copy)]
 pub enum Deed {
     /// The line came whole: its frame is taken.
     Takes(Line),
     /// The link accepted the line.
     Sends(Line),
-    /// The client with the ticket asks for the lock.
-    Asks { node: u16, ticket: u16 },
-    /// The client with the ticket releases the lock, waits no longer, or is gone.
-    Leaves { node: u16, ticket: u16 },
+    /// The client with this ticket asks for the lock.
+    Asks(u16),
+    /// The client with this ticket releases the lock, waits no longer, or is gone.
+    Leaves(u16),
 }
 
 /// The deeds of one turn, in order.
 #[derive(Drop)]
 pub struct Account {
     deeds: Cell<[Option<Deed>; ROOM]>,
-    count: Cell<usize>,
+    pub count: Cell<usize>,
     /// How many of them come before the tick.
-    heard: Cell<usize>,
+    pub heard: Cell<usize>,
 }
 
 impl Account {
@@ -66,14 +66,8 @@ impl Account {
         self.heard.set(0);
     }
 
-    /// Adds a deed that was done while the node listened, before its tick.
-    pub fn hear(&self, deed: Deed) {
-        self.add(deed);
-        self.heard.set(self.count.get());
-    }
-
-    /// Adds a deed that was done while the node spoke, after its tick.
-    pub fn add(&self, deed: Deed) {
+    /// Adds a deed that was done while the node listened, before its tick, or else spoke.
+    pub fn add(&self, deed: Deed, is_heard: bool) {
         let count = self.count.get();
         let mut deeds = self.deeds.get();
         if count < ROOM {
@@ -81,23 +75,16 @@ impl Account {
             self.deeds.set(deeds);
             self.count.set(count + 1);
         }
+        if is_heard {
+            self.heard.set(self.count.get());
+        }
     }
 
     /// The deed at a place, if there is one.
     pub fn get(&self, place: usize) -> Option<Deed> {
-        if place >= self.count.get() || place >= ROOM {
+        if place >= self.count.get() {
             return None;
         }
-        self.deeds.get()[place]
-    }
-
-    /// How many deeds come before the tick.
-    pub fn heard(&self) -> usize {
-        self.heard.get()
-    }
-
-    /// How many deeds there are.
-    pub fn count(&self) -> usize {
-        self.count.get()
+        *self.deeds.get().get(place)?
     }
 }
