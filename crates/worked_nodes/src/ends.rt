@@ -3,7 +3,7 @@ ghost use Rattle.std.specs.Prelude.{◌≡◌, ◌≤◌, length};
 
 use crate::replays::account::{Deed, LINE, Line};
 use crate::replays::desk::Desk;
-use crate::stage::Stage;
+use crate::stage::{Mistake, Stage};
 use crate::wires::{Pair, ROOM, Wire};
 use socket_links::{Pipe, ReadAnswer, WriteAnswer};
 use std::cell::Cell;
@@ -111,7 +111,7 @@ impl<'a> End<'a> {
     /// Notes what a client said.
     fn hear_client(&self, ticket: u16, bytes: &[u8]) {
         match bytes {
-            b"lock\n" if !self.stage.errs("unasked") => {
+            b"lock\n" if !self.stage.errs(Mistake::Unasked) => {
                 self.stage.account.add(Deed::Asks(ticket), true);
             }
             b"unlock\n" => self.stage.account.add(Deed::Leaves(ticket), true),
@@ -121,10 +121,10 @@ impl<'a> End<'a> {
 
     /// Notes a frame that was given whole.
     fn take(&self, line: Line) {
-        if !self.stage.errs("untaken") {
+        if !self.stage.errs(Mistake::Untaken) {
             self.stage.account.add(Deed::Takes(line), true);
         }
-        if self.stage.errs("twice") {
+        if self.stage.errs(Mistake::Twice) {
             self.near().put_back(&line.frame);
         }
     }
@@ -158,7 +158,7 @@ impl<'a> End<'a> {
         if matches!(self.part, Part::Client(_, _)) {
             return bytes.len();
         }
-        if bytes.len() == LINE && self.stage.errs("dropped") {
+        if bytes.len() == LINE && self.stage.errs(Mistake::Dropped) {
             self.unsent.set(0);
             return bytes.len();
         }

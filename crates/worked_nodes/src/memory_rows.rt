@@ -80,19 +80,16 @@ fn attend_at(run: &mut RunOn<'_, '_>, now: u64) {
     run.attend(now, &mut Notes::none());
 }
 
-/// Turns a node on a heap that has nothing left 256 times, 10 milliseconds apart.
-fn turn_often(alloc: Global, heap: &LocalHeap, run: &mut RunOn<'_, '_>) -> Result<Outcome, Fail> {
+/// Turns a node on a heap that has nothing left 256 times, 10 milliseconds apart. Returns whether it
+/// takes nothing.
+fn takes_nothing(alloc: Global, heap: &LocalHeap, run: &mut RunOn<'_, '_>) -> Result<bool, Fail> {
     let _full = fill(alloc, heap)?;
     let used = heap.used();
     for turn in 0..256u64 {
         turn_at(run, turn.saturating_mul(10_000));
         attend_at(run, turn.saturating_mul(10_000));
     }
-    Ok(if heap.used() == used {
-        RAN
-    } else {
-        "a turn took memory"
-    })
+    Ok(heap.used() == used)
 }
 
 /// What a client that leaves before it is granted the lock hears.
@@ -115,8 +112,8 @@ fn tried(alloc: Global, stage: &Stage, size: usize) -> Result<(Outcome, bool), F
 /// What the root of two nodes does on this heap.
 fn tried_on(alloc: Global, stage: &Stage, heap: &LocalHeap) -> Result<Outcome, Fail> {
     let made = begun(heap, stage, row(alloc, 2, 1, 0)?, stored(alloc, b"")?);
-    match with_made(made, |run| turn_often(alloc, heap, run)) {
-        Ok(outcome) => outcome,
+    match with_made(made, |run| takes_nothing(alloc, heap, run)) {
+        Ok(answer) => Ok(if answer? { RAN } else { "a turn took memory" }),
         Err(outcome) => Ok(outcome),
     }
 }

@@ -22,8 +22,8 @@ const PLACES: [&str; 3] = [
 /// The most turns in which distances may settle.
 const TURNS: u32 = 1_000;
 
-/// The fault of a node's start, and what it missed afterwards.
-type Life = (Option<StartFault>, Option<&'static str>);
+/// The fault of a node's start.
+type Life = Option<StartFault>;
 
 /// Asks a node through this client how it stands, again and again. Returns whether at last the
 /// answer begins like this.
@@ -86,7 +86,7 @@ fn missed(runs: &mut [Run<'_>], stage: &Stage) -> Option<&'static str> {
 }
 
 /// Starts node 2 beside two running nodes, with these bytes in its store, and ends it. Returns the
-/// fault of its start, and what it missed.
+/// fault of its start; it fails with what it missed afterwards.
 fn life<'a>(
     alloc: Global,
     stage: &'a Stage,
@@ -98,7 +98,10 @@ fn life<'a>(
     runs.push(started(alloc, stage, row(alloc, 3, 64, 0)?, 2, store, &mut fault)?)?;
     let missed = missed(runs.as_mut_slice(), stage);
     let _ended = runs.pop();
-    Ok((fault, missed))
+    match missed {
+        None => Ok(fault),
+        Some(missed) => Err(Fail::new(missed)),
+    }
 }
 
 /// Starts node 2 beside two running nodes, ends it, and starts it again with these bytes in its
@@ -108,15 +111,15 @@ fn both_lives<'a>(
     stage: &'a Stage,
     runs: &mut Vec<Run<'a>>,
     bytes: &[u8],
-) -> Result<[Life; 2], Fail> {
-    Ok([
+) -> Result<(Life, Life), Fail> {
+    Ok((
         life(alloc, stage, runs, b"")?,
         life(alloc, stage, runs, bytes)?,
-    ])
+    ))
 }
 
 /// The same beside two new nodes, with so many bytes of that state.
-fn lives(alloc: Global, stage: &Stage, kept: usize) -> Result<[Life; 2], Fail> {
+fn lives(alloc: Global, stage: &Stage, kept: usize) -> Result<(Life, Life), Fail> {
     for clients in stage.clients.iter().take(2) {
         clients.knock();
     }
@@ -126,19 +129,16 @@ fn lives(alloc: Global, stage: &Stage, kept: usize) -> Result<[Life; 2], Fail> {
 }
 
 /// The same with all bytes of the state, and with 33 of 36.
-fn all_lives(alloc: Global) -> Result<[[Life; 2]; 2], Fail> {
-    Ok([
+fn all_lives(alloc: Global) -> Result<((Life, Life), (Life, Life)), Fail> {
+    Ok((
         on_stage(alloc, 3, 4, |stage| lives(alloc, stage, 36))?,
         on_stage(alloc, 3, 4, |stage| lives(alloc, stage, 33))?,
-    ])
+    ))
 }
 
 #[test]
 fn a_node_starts_again_whatever_its_file_holds(rt: HostRuntime) -> Result<(), Fail> {
-    let first = (Some(StartFault::Absent), None);
+    let first = Some(StartFault::Absent);
     let short = Some(StartFault::File(FileFault::Short));
-    as_expected(
-        all_lives(rt.alloc()),
-        &[[first, (None, None)], [first, (short, None)]],
-    )
+    as_expected(all_lives(rt.alloc()), &((first, None), (first, short)))
 }

@@ -10,6 +10,19 @@ use std::cell::Cell;
 /// How often a planned mistake happens: once every this many frames, or asks.
 const EACH: u32 = 20;
 
+/// A mistake of connections.
+#[derive(Clone, Copy, Debug, PartialEq)]
+pub enum Mistake {
+    /// A frame is passed on twice.
+    Twice,
+    /// A frame is dropped from a working connection.
+    Dropped,
+    /// A frame is passed on, and its take is left out of the account.
+    Untaken,
+    /// A client asks, and that is left out of the account.
+    Unasked,
+}
+
 /// What nodes in memory share.
 #[derive(Drop)]
 pub struct Stage {
@@ -26,8 +39,8 @@ pub struct Stage {
     pub desks: Vec<Desk>,
     /// The deeds of the current turn.
     pub account: Account,
-    /// The mistake that happens now and then, if it has a name.
-    pub mistake: &'static str,
+    /// The mistake that happens now and then, if there is one.
+    pub mistake: Option<Mistake>,
     chances: Cell<u32>,
 }
 
@@ -46,7 +59,7 @@ impl Stage {
             room: ROOM,
             desks: Vec::new(alloc),
             account: Account::new(),
-            mistake: "",
+            mistake: None,
             chances: Cell::new(0),
         };
         for _ in 0..nodes {
@@ -65,8 +78,8 @@ impl Stage {
     }
 
     /// Counts a chance for this mistake, and says whether it happens.
-    pub fn errs(&self, mistake: &str) -> bool {
-        if self.mistake != mistake {
+    pub fn errs(&self, mistake: Mistake) -> bool {
+        if self.mistake != Some(mistake) {
             return false;
         }
         let chances = self.chances.get().wrapping_add(1);

@@ -1,6 +1,7 @@
 //! Runs with some seeds, and connections with deliberate mistakes.
 use crate::replays::replay::{Counts, OTHER_NODE, SENT_ON_FULL, SENT_OTHER, TOOK_OTHER, Wrong};
 use crate::replays::runs::{Shape, run_seed};
+use crate::stage::Mistake;
 use std::env;
 use std::test::Fail;
 use test_parts::as_expected;
@@ -38,7 +39,7 @@ fn said(rt: &HostRuntime, shape: Shape) -> Result<Said, Fail> {
     let (mut wrong, mut still, mut counts) = (None, None, [0; 5]);
     let seeds = seeds(rt);
     for seed in 1..=seeds {
-        let (found, half, more) = run_seed(rt.alloc(), shape, "", seed)?;
+        let (found, half, more) = run_seed(rt.alloc(), shape, None, seed)?;
         wrong = wrong.or(found.map(|(turn, wrong)| (seed, turn, wrong)));
         let [_, _, _, _, sweeps] = more;
         let rises = 0 < half && half < sweeps;
@@ -54,14 +55,14 @@ fn said(rt: &HostRuntime, shape: Shape) -> Result<Said, Fail> {
 }
 
 /// What is said of the ring and of the ring with a chord.
-fn both(rt: &HostRuntime) -> Result<[Said; 2], Fail> {
-    Ok([said(rt, RING)?, said(rt, CHORD)?])
+fn both(rt: &HostRuntime) -> Result<(Said, Said), Fail> {
+    Ok((said(rt, RING)?, said(rt, CHORD)?))
 }
 
 #[test]
 fn turns_of_three_and_of_five_nodes_are_a_run(rt: HostRuntime) -> Result<(), Fail> {
     let ring = (None, None, [true, true, false]);
-    as_expected(both(&rt), &[ring, (None, None, [true, true, true])])
+    as_expected(both(&rt), &(ring, (None, None, [true, true, true])))
 }
 
 /// How many of the first seeds are run with each mistake.
@@ -71,26 +72,22 @@ const MISTAKEN: u64 = 6;
 /// One that was dropped, or taken in secret, stays under way: the next take meets it, or the link is
 /// full before that. A secret take or ask changes the node, and a frame that it sends then differs
 /// too.
-const MISTAKES: [(&str, &[Wrong]); 4] = [
-    // A frame is passed on twice.
-    ("twice", &[TOOK_OTHER]),
-    // A frame is dropped from a working connection.
-    ("dropped", &[TOOK_OTHER, SENT_ON_FULL]),
-    // A frame is passed on, and its take is left out of the account.
+const MISTAKES: [(Mistake, &[Wrong]); 4] = [
+    (Mistake::Twice, &[TOOK_OTHER]),
+    (Mistake::Dropped, &[TOOK_OTHER, SENT_ON_FULL]),
     (
-        "untaken",
+        Mistake::Untaken,
         &[OTHER_NODE, SENT_OTHER, TOOK_OTHER, SENT_ON_FULL],
     ),
-    // A client asks, and that is left out of the account.
-    ("unasked", &[OTHER_NODE]),
+    (Mistake::Unasked, &[OTHER_NODE]),
 ];
 
 /// The first mistake and seed of a run in which it is not found as one of these.
-fn first_unfound(rt: &HostRuntime) -> Result<Option<(Wrong, u64)>, Fail> {
+fn first_unfound(rt: &HostRuntime) -> Result<Option<(Mistake, u64)>, Fail> {
     for (mistake, wrongs) in MISTAKES {
         for seed in 1..=MISTAKEN {
-            let (found, _, _) = run_seed(rt.alloc(), RING, mistake, seed)?;
-            println!(rt; "{mistake}, seed {seed}: {found:?}")?;
+            let (found, _, _) = run_seed(rt.alloc(), RING, Some(mistake), seed)?;
+            println!(rt; "{mistake:?}, seed {seed}: {found:?}")?;
             match found {
                 Some((_, wrong)) if wrongs.contains(&wrong) => {}
                 _ => return Ok(Some((mistake, seed))),

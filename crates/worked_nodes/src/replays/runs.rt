@@ -3,7 +3,7 @@ use crate::draws::Draws;
 use crate::nodes::{Run, started};
 use crate::replays::desk::{CLIENTS, Desk};
 use crate::replays::replay::{Counts, NO_NODE, Replay, Wrong};
-use crate::stage::Stage;
+use crate::stage::{Mistake, Stage};
 use crate::wires::{Pair, ROOM};
 use node_loop::Notes;
 use pace::{Manner, Pace};
@@ -29,11 +29,11 @@ pub type Shape = (u16, u16, i64, &'static [(i64, i64)]);
 /// counts at the end.
 pub type Ending = (Option<(u32, Wrong)>, u64, Counts);
 
-/// A stage for a network, on which this mistake happens now and then, if it has a name.
+/// A stage for a network, on which this mistake happens now and then, if there is one.
 fn stage_of(
     alloc: Global,
     (nodes, capacity, _, _): Shape,
-    mistake: &'static str,
+    mistake: Option<Mistake>,
     draws: &mut Draws,
 ) -> Result<Stage, Fail> {
     let mut stage = Stage::new(alloc, nodes, CONNECTIONS, CLIENTS)?;
@@ -192,11 +192,11 @@ fn run_over(
     Ok(make_turns(runs.as_mut_slice(), stage, &mut replay, draws))
 }
 
-/// Runs a network with a seed, and connections that make this mistake, if it has a name.
+/// Runs a network with a seed, and connections that make this mistake, if there is one.
 pub fn run_seed(
     alloc: Global,
     shape: Shape,
-    mistake: &'static str,
+    mistake: Option<Mistake>,
     seed: u64,
 ) -> Result<Ending, Fail> {
     let (nodes, capacity, lease, edges) = shape;
