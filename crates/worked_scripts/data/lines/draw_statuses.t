@@ -26,6 +26,10 @@ Command lines of `draw`, and their statuses.
   > 2 draw drawn.toml drawn.events --film --columns 9
   > 2 draw drawn.toml drawn.events --page
   > 2 draw drawn.toml drawn.events --seconds 5
+  > 2 draw drawn.toml drawn.events --page --layers
+  > 2 draw drawn.toml drawn.events --page --columns 9
+  > 2 draw drawn.toml drawn.events --seconds 5 --layers
+  > 2 draw drawn.toml drawn.events --seconds 5 --columns 9
   > 2 draw drawn.toml drawn.events --film --seconds 1
   > 3 draw drawn.toml drawn-refused.events
   > 3 draw drawn.toml drawn-unread.events --columns 1

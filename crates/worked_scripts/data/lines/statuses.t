@@ -81,6 +81,8 @@ command line is invalid; 3 `simulate` is done, and refused some lines of its eve
   > 2 measure two.toml --runs 2 --plot two.svg
   > 2 measure two.toml --csv --table
   > 2 measure two.toml --json --csv
+  > 2 measure two.toml --runs 2 --json --plot two.svg
+  > 2 measure two.toml --runs 2 --table --plot two.svg
   > 1 measure bad.toml --runs 1
   > 2 measure two.toml --runs 0
   > 0 worst two.toml --searches 2 --steps 3
@@ -100,6 +102,12 @@ command line is invalid; 3 `simulate` is done, and refused some lines of its eve
   > 2 measure two.toml --schedule slow-node --share 0
   > 2 measure two.toml --schedule slow-link --share 101
   > 2 measure two.toml --share 50
+  > 2 measure two.toml --share 50 --rounds
+  > 2 measure two.toml --share 50 --random
+  > 2 status run --every 1
+  > 2 status run --every 1 --links
+  > 2 status run --every 1 --premises
+  > 2 status run --every 1 --check two.toml
   > 2 measure two.toml --schedule slow-link --random
   > 0 version
   > 0 -v
