@@ -10,9 +10,8 @@
 # socat, the shell's client runs over a stand-in of eight lines.
 set -euo pipefail
 cd "$(dirname "$0")/.."
-program=$(realpath "${TOKENTREE:-./tokentree}")
-"$program" --help > /dev/null
-[ -n "${TOKENTREE:-}" ] || program=$PWD/crates/tokentree/out/tokentree
+[ -n "${TOKENTREE:-}" ] || ./tokentree --build
+program=$(realpath "${TOKENTREE:-crates/tokentree/out/tokentree}")
 folder=$(mktemp -d)
 trap 'rm -rf "$folder"' EXIT
 python3 - "$program" "$folder" "${1:-20}" << 'PYTHON'

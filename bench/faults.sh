@@ -17,9 +17,8 @@ case ${1:-} in
 short) set -- 1 3 ;;
 esac
 cd "$(dirname "$0")/.."
-program=$(realpath "${TOKENTREE:-./tokentree}")
-"$program" --help > /dev/null
-[ -n "${TOKENTREE:-}" ] || program=$PWD/crates/tokentree/out/tokentree
+[ -n "${TOKENTREE:-}" ] || ./tokentree --build
+program=$(realpath "${TOKENTREE:-crates/tokentree/out/tokentree}")
 folder=$(mktemp -d)
 trap 'rm -rf "$folder"' EXIT
 PYTHONPATH=$PWD/bench PYTHONDONTWRITEBYTECODE=1 python3 - "$program" "$folder" "$@" << 'PYTHON'

@@ -11,10 +11,8 @@
 # without it.
 set -u
 cd "$(dirname "$0")/.." || exit 1
-program=${TOKENTREE:-./tokentree}
-"$program" --version >/dev/null || exit 1
-[ -n "${TOKENTREE:-}" ] || program=./crates/tokentree/out/tokentree
-program=$(realpath "$program")
+[ -n "${TOKENTREE:-}" ] || ./tokentree --build || exit 1
+program=$(realpath "${TOKENTREE:-crates/tokentree/out/tokentree}")
 examples=$PWD/examples
 completions=$PWD/packaging/completions
 operating=$PWD/docs/OPERATING.md

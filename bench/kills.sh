@@ -13,9 +13,8 @@ set -euo pipefail
 starts=250
 [ "${1:-}" != short ] || starts=25
 cd "$(dirname "$0")/.."
-program=$(realpath "${TOKENTREE:-./tokentree}")
-"$program" --help > /dev/null
-[ -n "${TOKENTREE:-}" ] || program=$PWD/crates/tokentree/out/tokentree
+[ -n "${TOKENTREE:-}" ] || ./tokentree --build
+program=$(realpath "${TOKENTREE:-crates/tokentree/out/tokentree}")
 folder=$(mktemp -d)
 trap 'rm -rf "$folder"' EXIT
 python3 - "$program" "$folder" "$starts" << 'PYTHON'

@@ -22,9 +22,8 @@ compare=
 [ "${1:-}" != --record ] || { compare=record; shift; }
 [ $# -gt 0 ] || set -- 3 8
 cd "$(dirname "$0")/.."
-program=$(realpath "${TOKENTREE:-./tokentree}")
-"$program" --help > /dev/null
-[ -n "${TOKENTREE:-}" ] || program=$PWD/crates/tokentree/out/tokentree
+[ -n "${TOKENTREE:-}" ] || ./tokentree --build
+program=$(realpath "${TOKENTREE:-crates/tokentree/out/tokentree}")
 folder=$(mktemp -d)
 trap 'rm -rf "$folder"' EXIT
 if [ "$compare" ] && ! { command -v cyclictest > /dev/null && [ "$(id -u)" = 0 ]; }; then

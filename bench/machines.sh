@@ -20,9 +20,8 @@
 set -euo pipefail
 cd "$(dirname "$0")/.."
 if [ "${1:-}" != --inside ]; then
-    program=$(realpath "${TOKENTREE:-./tokentree}")
-    "$program" --help > /dev/null
-    [ -n "${TOKENTREE:-}" ] || program=$PWD/crates/tokentree/out/tokentree
+    [ -n "${TOKENTREE:-}" ] || ./tokentree --build
+    program=$(realpath "${TOKENTREE:-crates/tokentree/out/tokentree}")
     folder=$(mktemp -d)
     trap 'rm -rf "$folder"' EXIT
     trap 'kill -KILL $!; wait; exit 130' HUP INT TERM

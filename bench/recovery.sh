@@ -21,9 +21,8 @@
 # The program is ./tokentree, or what TOKENTREE names. Needs python3.
 set -euo pipefail
 cd "$(dirname "$0")/.."
-program=$(realpath "${TOKENTREE:-./tokentree}")
-"$program" --help > /dev/null
-[ -n "${TOKENTREE:-}" ] || program=$PWD/crates/tokentree/out/tokentree
+[ -n "${TOKENTREE:-}" ] || ./tokentree --build
+program=$(realpath "${TOKENTREE:-crates/tokentree/out/tokentree}")
 folder=$(mktemp -d)
 trap 'rm -rf "$folder"' EXIT
 PYTHONPATH=$PWD/bench PYTHONDONTWRITEBYTECODE=1 python3 - "$program" "$folder" "${1:-20}" "${2:-}" << 'PYTHON'

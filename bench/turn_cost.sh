@@ -8,9 +8,8 @@
 # The program is ./tokentree, or what TOKENTREE names. It takes 40 seconds. Needs valgrind.
 set -eu
 cd "$(dirname "$0")/.."
-program=$(realpath "${TOKENTREE:-./tokentree}")
-"$program" --help > /dev/null
-[ -n "${TOKENTREE:-}" ] || program=$PWD/crates/tokentree/out/tokentree
+[ -n "${TOKENTREE:-}" ] || ./tokentree --build
+program=$(realpath "${TOKENTREE:-crates/tokentree/out/tokentree}")
 network=$PWD/examples/ring-of-three.toml
 folder=$(mktemp -d)
 

@@ -8,7 +8,7 @@ set -eu
 folder=$(cd "${1:-.}" && pwd)
 cd "$(dirname "$0")/.."
 program=${TOKENTREE:-./crates/tokentree/out/tokentree}
-[ -x "$program" ] || { echo "deb.sh: $program is not there: run ./tokentree --help first" >&2; exit 1; }
+[ -x "$program" ] || { echo "deb.sh: $program is not there: run ./tokentree --build first" >&2; exit 1; }
 version=$("$program" --version | awk '{ print $2 }')
 architecture=$(dpkg --print-architecture)
 maintainer="${DEBFULLNAME:-tokentree maintainers} <${DEBEMAIL:-maintainers@tokentree.example}>"

@@ -5,12 +5,12 @@ ghost use Rattle.command_line.specs.Wanted.{IsFilmOf, IsFilmRefused, IsWantedOf,
 ghost use Rattle.command_line.specs.Wanted.{IsWindowOf, IsWindowRefused};
 
 use crate::film::Film;
-use crate::program::{EVENTS_TEXT, NETWORK_FILE};
-use crate::refusal::Refusal;
 use clap::{ArgMatches, Command};
 use command_grammar::{Grammar, Number, Parameter, number_if_given, with_command, word};
 use run_picture::command::{MOST_COLUMNS, Wanted};
 use run_picture::{Window, command};
+use service_line::program::{EVENTS_TEXT, NETWORK_FILE};
+use service_line::refusal::Refusal;
 use std::alloc::{AllocError, Global};
 use std::io::Input;
 use std::process::ExitCode;

@@ -4,7 +4,7 @@ use run_film::{Wanted, film_text, page_text};
 use run_picture::command::{Drawn, Draws};
 use run_picture::{Net, Source};
 use std::alloc::Global;
-use subcommands::Fault;
+use subcommands::{Fault, simulation_fault};
 
 /// The film that is asked for.
 #[derive(Clone, Copy)]
@@ -13,10 +13,11 @@ pub struct Film(pub Wanted);
 impl Draws for Film {
     fn drawn<S: Source>(self, alloc: Global, net: &Net, source: &mut S) -> Result<Drawn, Fault> {
         let film = if self.0.page {
-            page_text(alloc, net, source, self.0)?
+            page_text(alloc, net, source, self.0)
         } else {
-            film_text(alloc, net, source, self.0)?
+            film_text(alloc, net, source, self.0)
         };
+        let film = film.map_err(simulation_fault)?;
         Ok(Drawn {
             text: film.text,
             refused: film.refused,

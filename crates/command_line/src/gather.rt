@@ -4,10 +4,10 @@ ghost use Rattle.std.specs.Process.{exit_status};
 ghost use Rattle.clap.specs.Matches.{found_of};
 ghost use Rattle.command_line.specs.Gather.{IsStretchOf, IsStretchRefused};
 
-use crate::refusal::Refusal;
 use clap::{ArgMatches, Command};
 use command_grammar::{Grammar, Number, Parameter, WordFault, number_if_given, with_command, word};
 use gather_command::{Stretch, command};
+use service_line::refusal::Refusal;
 use std::alloc::{AllocError, Global};
 use std::process::ExitCode;
 use std::rt::Files;

@@ -2,9 +2,9 @@
 ghost use Rattle.std.specs.Prelude.{◌≡◌, IfOk};
 ghost use Rattle.std.specs.Process.{exit_status};
 
-use crate::refusal::Refusal;
 use clap::{ArgMatches, Command};
 use command_grammar::{Grammar, Number, Parameter, given_number, with_command};
+use service_line::refusal::Refusal;
 use std::alloc::{AllocError, Global};
 use std::process::ExitCode;
 use subcommands::junk;

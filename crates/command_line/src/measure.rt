@@ -8,12 +8,12 @@ ghost use Rattle.command_line.specs.Scheduling.{IsSchedulerRefused, is_slow, sch
 ghost use Rattle.subcommands.specs.declared.measure.Form.TheVariants.{Json, Lines, Rows};
 ghost use Rattle.subcommands.specs.experiments.declared.measured_run.Scheduler.TheVariants.{Random, Rounds};
 
-use crate::program::NETWORK_FILE;
-use crate::refusal::{Refusal, ScheduleFault, ended};
 use clap::{ArgMatches, Command};
 use command_grammar::{
     Grammar, Number, Parameter, given_number, number_if_given, with_command, word,
 };
+use service_line::program::NETWORK_FILE;
+use service_line::refusal::{Refusal, ScheduleFault, ended};
 use std::alloc::{AllocError, Global};
 use std::process::ExitCode;
 use std::rt::Files;

@@ -5,13 +5,13 @@ ghost use Rattle.clap.specs.Matches.{found_of};
 ghost use Rattle.command_grammar.specs.Given.{IsGiven, IsRefused};
 ghost use Rattle.command_line.specs.Turns.{AreTurnsOf, AreTurnsRefused};
 
-use crate::program::NETWORK_FILE;
-use crate::refusal::Refusal;
 use clap::{ArgMatches, Command};
 use command_grammar::{
     Choice, Grammar, Number, Parameter, WordFault, given_number, number_if_given, with_command,
     word,
 };
+use service_line::program::NETWORK_FILE;
+use service_line::refusal::Refusal;
 use std::alloc::{AllocError, Global};
 use std::process::ExitCode;
 use std::rt::Files;

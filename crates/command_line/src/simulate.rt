@@ -2,10 +2,10 @@
 ghost use Rattle.std.specs.Prelude.{◌≡◌, ◌⊎◌, IfOk};
 ghost use Rattle.std.specs.Process.{exit_status};
 
-use crate::program::{EVENTS_TEXT, NETWORK_FILE};
-use crate::refusal::Refusal;
 use clap::{ArgMatches, Command};
 use command_grammar::{Grammar, Parameter, with_command, word};
+use service_line::program::{EVENTS_TEXT, NETWORK_FILE};
+use service_line::refusal::Refusal;
 use std::alloc::{AllocError, Global};
 use std::io::Input;
 use std::process::ExitCode;

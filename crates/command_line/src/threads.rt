@@ -2,11 +2,11 @@
 ghost use Rattle.std.specs.Prelude.{◌≡◌, IfOk};
 ghost use Rattle.std.specs.Process.{exit_status};
 
-use crate::program::{NETWORK_FILE, Runtime};
-use crate::refusal::Refusal;
 use clap::{ArgMatches, Command};
 use command_grammar::{Grammar, Number, Parameter, given_number, with_command, word};
 use live_commands::threads;
+use service_line::program::{NETWORK_FILE, Runtime};
+use service_line::refusal::Refusal;
 use std::alloc::{AllocError, Global};
 use std::process::ExitCode;
 

@@ -4,12 +4,12 @@ ghost use Rattle.std.specs.Process.{exit_status};
 ghost use Rattle.clap.specs.Matches.{found_of};
 ghost use Rattle.command_line.specs.Worst.{IsExtentOf, IsExtentRefused, IsSearchOf, IsSearchRefused};
 
-use crate::program::{NETWORK_FILE, Runtime};
-use crate::refusal::Refusal;
 use clap::{ArgMatches, Command};
 use command_grammar::{
     Grammar, Number, Parameter, WordFault, given_number, number_if_given, with_command, word,
 };
+use service_line::program::{NETWORK_FILE, Runtime};
+use service_line::refusal::Refusal;
 use std::alloc::{AllocError, Global};
 use std::process::ExitCode;
 use subcommands::worst::{self, Extent, Plan};

@@ -1,3 +1,2 @@
 pub mod EventLines
 mod RowsTexts
-mod RowsOutput

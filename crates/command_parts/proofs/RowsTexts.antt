@@ -3,19 +3,14 @@ use Rattle.std.proofs.Common.{◌≡◌, ◌≢◌, ℕ, true, false, List, [], 
 use Rattle.std.proofs.lemmas.Fmt.{decimal_digit}
 use Rattle.memchr.specs.Find.{first_of, places_from}
 use Rattle.topology.specs.Network.{Network}
-use Rattle.topology.specs.declared.fault.NetFault.TheVariants.{NotToml}
 use Rattle.world.specs.run_model.Start.{default_world}
 use Rattle.world.specs.run_model.World.{World}
 use Rattle.world.specs.run_model.declared.event.Event.TheVariants.{Damage, Leave, Lose, Tick}
 use Rattle.world.specs.run_model.declared.event.Harm.TheVariants as harm
-use Rattle.network_file.specs.declared.fault.NetworkFault.TheVariants.{Refused, Unreadable}
 use Rattle.world.specs.declared.simulation.SimFault.TheVariants as simulation
 use Rattle.world.specs.declared.simulation.Summary.{Summary}
-use Rattle.command_parts.specs.declared.fault.Fault.TheVariants as fault
-use Rattle.command_parts.specs.declared.path_fault.PathFault.TheVariants as path
+use Rattle.command_faults.specs.declared.fault.Fault.TheVariants as fault
 use Rattle.command_parts.specs.EventText.{GrowsByText, text_of}
-use Rattle.command_parts.specs.FaultText.{fault_text}
-use Rattle.command_parts.specs.PathFaultText.{path_fault_text}
 use Rattle.command_parts.specs.Returns.{gave_return, has_return, return_hint}
 use Rattle.command_parts.specs.Simulated.{IsCaused, IsDone, IsFailed, IsReportedAs}
 use Rattle.command_parts.specs.SimulationFault.{fault_of}
@@ -51,24 +46,6 @@ grows_not-silent : ¬ GrowsByText (Some []) (Tick 1 ∷ []) (Some [])
 grows_not-silent e = grind (arith, one-is, e)
 
 -- ---- faults
-
-says-network : fault_text (fault.Network Unreadable) ≡ codes "network Unreadable"
-says-network = refl
-
-says-refused : fault_text (fault.Network (Refused NotToml)) ≡ codes "network NotToml"
-says-refused = refl
-
-says-node : fault_text fault.NoNode ≡ codes "id NoNode"
-says-node = refl
-
-says-long : fault_text fault.EventsLong ≡ codes "events Long"
-says-long = refl
-
-says_not-output : fault_text fault.Output ≢ fault_text fault.Memory
-says_not-output = grind arith
-
-says-path : path_fault_text (path.Fault fault.Threads) ≡ codes "threads Refused"
-says-path = refl
 
 -- each fault of a simulation is reported as its own
 said-read : fault_of simulation.Read ≡ fault.EventsUnreadable

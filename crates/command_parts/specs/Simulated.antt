@@ -5,8 +5,8 @@ use Rattle.world.specs.declared.simulation.Summary.{Summary}
 use Rattle.world.specs.declared.simulation.SimFault.{SimFault}
 use Rattle.world.specs.Simulating.{IsSimulated}
 use Rattle.byte_streams.specs.Streams.{Rose}
-use Rattle.command_parts.specs.declared.fault.Fault.{Fault}
-use Rattle.command_parts.specs.declared.fault.Fault.TheVariants.{EventsUnreadable, Output}
+use Rattle.command_faults.specs.declared.fault.Fault.{Fault}
+use Rattle.command_faults.specs.declared.fault.Fault.TheVariants.{EventsUnreadable, Output}
 use Rattle.command_parts.specs.SimulationFault.{fault_of}
 
 -- a simulation's fault is reported as the program's fault for it; if the simulation is done, the

@@ -1,6 +1,6 @@
 -- The program's fault for a simulation's fault.
-use Rattle.command_parts.specs.declared.fault.Fault.{Fault}
-use Rattle.command_parts.specs.declared.fault.Fault.TheVariants.{EventsUnreadable, EventsLong, Memory, Output}
+use Rattle.command_faults.specs.declared.fault.Fault.{Fault}
+use Rattle.command_faults.specs.declared.fault.Fault.TheVariants.{EventsUnreadable, EventsLong, Memory, Output}
 use Rattle.world.specs.declared.simulation.SimFault.{SimFault}
 use Rattle.world.specs.declared.simulation.SimFault.TheVariants.{Memory as MemoryRefused, Read, Long, Write}
 

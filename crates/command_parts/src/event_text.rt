@@ -3,11 +3,10 @@ ghost use Rattle.std.specs.Prelude.{◌≡◌, ◌∷◌, OnOk, None, []};
 ghost use Rattle.std.specs.Io.Buffered.{writer_buffer, writer_contents};
 ghost use Rattle.std.specs.Io.KnownBytes.{Keeps};
 ghost use Rattle.byte_streams.specs.Streams.{CountsFailures};
-ghost use Rattle.command_parts.specs.Output.{kept_fault, IsKeptAs, KeepsFirst};
+ghost use Rattle.command_faults.specs.Output.{kept_fault, IsKeptAs, KeepsFirst};
 
-use crate::fault::Fault;
-use crate::output::kept_fault;
 use crate::streams::note_failure;
+use command_faults::{Fault, kept_fault};
 use schedules::EventSink;
 use std::io::{BufWriter, Error, Write};
 use world::streams::Failed;
@@ -37,7 +36,7 @@ impl<W: Write + Drop> EventText<W> {
     }
 
     /// The fault that a command ends with after this one, if the text goes to standard output. One of
-    /// the output is that of the text's first error, as [`output_fault`](crate::output_fault) has it.
+    /// the output is that of the text's first error, as [`output_fault`](command_faults::output_fault) has it.
     pub fn fault<R: Eprint>(&self, rt: &R, fault: Fault) -> Fault
         ensures fault { result ≡ kept_fault fault self.now.first }
         ensures kept { IsKeptAs fault result }

@@ -6,13 +6,14 @@ ghost use Rattle.world.specs.SimulatedText.{events_of, simulated_start};
 ghost use Rattle.world.specs.judge.configuration.ConfigurationView.{world_of};
 ghost use Rattle.world.specs.run_model.Run.{run};
 ghost use Rattle.command_parts.specs.Simulated.{IsCaused, IsDone};
+ghost use Rattle.command_parts.specs.SimulationFault.{fault_of};
 
-use crate::fault::Fault;
 use crate::streams::Flush;
+use command_faults::Fault;
 use std::alloc::Global;
 use std::process::ExitCode;
 use topology::Net;
-use world::simulation::{Simulated, simulate_to};
+use world::simulation::{SimFault, Simulated, simulate_to};
 use world::streams::Source;
 
 /// The name that means standard input, in place of a file of events.
@@ -53,10 +54,22 @@ pub fn simulate_between<S: Source, W: Flush>(
 {
     let simulated = simulate_to(alloc, net, source, sink);
     let flushed = sink.flush();
-    let simulated = simulated?;
+    let simulated = simulated.map_err(simulation_fault)?;
     match flushed {
         Ok(()) => Ok(simulated),
         Err(_) => Err(Fault::Output),
+    }
+}
+
+/// The fault of a command whose simulation ended with this one.
+pub fn simulation_fault(fault: SimFault) -> Fault
+    ensures { result ≡ fault_of fault }
+{
+    match fault {
+        SimFault::Memory => Fault::Memory,
+        SimFault::Read => Fault::EventsUnreadable,
+        SimFault::Long => Fault::EventsLong,
+        SimFault::Write => Fault::Output,
     }
 }
 

@@ -7,10 +7,9 @@ ghost use Rattle.std.specs.Prelude.{◌≡◌, ◌≤◌, ℕ, List, [], None, O
 ghost use Rattle.std.specs.Io.Buffered.{writer_buffer, writer_contents};
 ghost use Rattle.std.specs.Io.KnownBytes.{Appends, Keeps, ReadConsumes};
 ghost use Rattle.byte_streams.specs.Streams.{CountsFailures, Reads, Rose, Writes};
-ghost use Rattle.command_parts.specs.Output.{first_error, kept_fault, IsKeptAs, KeepsFirst};
+ghost use Rattle.command_faults.specs.Output.{first_error, kept_fault, IsKeptAs, KeepsFirst};
 
-use crate::fault::Fault;
-use crate::output::kept_fault;
+use command_faults::{Fault, kept_fault};
 use std::io::{BufWriter, Error, ErrorKind, Read, Write};
 use world::streams::{Failed, Sink, Source};
 
@@ -98,7 +97,7 @@ impl<W: Write + Drop> WriteSink<W> {
     }
 
     /// The fault that a command ends with after this one, if the sink writes to standard output. One of
-    /// the output is that of the sink's first error, as [`output_fault`](crate::output_fault) has it.
+    /// the output is that of the sink's first error, as [`output_fault`](command_faults::output_fault) has it.
     pub fn fault<R: Eprint>(&self, rt: &R, fault: Fault) -> Fault
         ensures fault { result ≡ kept_fault fault self.now.first }
         ensures kept { IsKeptAs fault result }

@@ -18,7 +18,7 @@ use Rattle.gather_command.specs.declared.damage.Difference.{Difference}
 use Rattle.gather_command.specs.declared.fault.FlawKind.TheVariants as kind
 use Rattle.gather_command.specs.Reading.{IsReadOn, Ends, Tears, Nameless, Stops, Further, start_of}
 use Rattle.gather_command.specs.Records.{starts_earlier}
-use Rattle.command_parts.specs.declared.fault.Fault.TheVariants as said
+use Rattle.command_parts.specs.command_faults.declared.fault.Fault.TheVariants as said
 use Rattle.topology.specs.Network.{Network}
 use Rattle.gather_command.specs.Ends.{IsPrintFault, PrintingEndsWith}
 use Rattle.gather_command.specs.declared.command.PrintFault.TheVariants as print

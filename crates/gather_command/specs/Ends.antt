@@ -3,9 +3,9 @@ use Rattle.std.specs.Prelude.{◌≡◌, ℕ, List, [], ◌∷◌, Option, Resul
 use Rattle.std.specs.Process.{exit_status}
 use Rattle.std.specs.declared.io.Error.{Error}
 use Rattle.std.specs.declared.process.ExitCode.{ExitCode}
-use Rattle.command_parts.specs.declared.fault.Fault.{Fault}
-use Rattle.command_parts.specs.declared.fault.Fault.TheVariants as said
-use Rattle.command_parts.specs.Output.{kept_fault, IsUntaken}
+use Rattle.command_parts.specs.command_faults.declared.fault.Fault.{Fault}
+use Rattle.command_parts.specs.command_faults.declared.fault.Fault.TheVariants as said
+use Rattle.command_parts.specs.command_faults.Output.{kept_fault, IsUntaken}
 use Rattle.gather_command.specs.declared.command.PrintFault.{PrintFault}
 use Rattle.gather_command.specs.declared.command.PrintFault.TheVariants as print
 use Rattle.gather_command.specs.declared.gathered.Gathered.{Gathered}

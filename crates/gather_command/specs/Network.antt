@@ -1,8 +1,8 @@
 -- The network of the records.
 use Rattle.std.specs.Prelude.{◌≡◌, ℕ, Bool, true, false, List, ◌++◌, Option, Some, None, Result, Ok, Err, codes}
 use Rattle.topology.specs.Network.{Network}
-use Rattle.command_parts.specs.FaultText.{fault_text}
-use Rattle.command_parts.specs.declared.fault.Fault.{Fault}
+use Rattle.command_parts.specs.command_faults.FaultText.{fault_text}
+use Rattle.command_parts.specs.command_faults.declared.fault.Fault.{Fault}
 use Rattle.node_recorder.specs.Names.{network_name}
 
 -- the path of its file: the one that is given, or the one in which the nodes keep it

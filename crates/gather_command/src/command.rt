@@ -3,7 +3,7 @@ ghost use Rattle.std.specs.Prelude.{◌≡◌, ◌⊎◌, [], IfOk, IfErr, Err, 
 ghost use Rattle.std.specs.Io.Buffered.{writer_buffer, writer_contents};
 ghost use Rattle.std.specs.Process.{exit_status};
 ghost use Rattle.command_parts.specs.EventText.{GrowsByText};
-ghost use Rattle.command_parts.specs.declared.fault.Fault.TheVariants.{Memory, Network};
+ghost use Rattle.command_parts.specs.command_faults.declared.fault.Fault.TheVariants.{Memory, Network};
 ghost use Rattle.gather_command.specs.Reading.{MayFail, Reads, Begins};
 ghost use Rattle.gather_command.specs.Gathered.{IsRefused};
 ghost use Rattle.gather_command.specs.Part.{IsGatheredAs};

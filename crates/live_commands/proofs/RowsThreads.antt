@@ -15,7 +15,7 @@ use Rattle.command_parts.specs.world.StateText.{state_text}
 use Rattle.thread_net.specs.ThreadRun.{IsThreadRun}
 use Rattle.thread_net.specs.declared.run.Woven.{Woven}
 use Rattle.thread_net.specs.declared.run.RunFault.TheVariants as run
-use Rattle.command_parts.specs.declared.fault.Fault.TheVariants.{Memory, Threads, Output, Closed}
+use Rattle.command_parts.specs.command_faults.declared.fault.Fault.TheVariants.{Memory, Threads, Output, Closed}
 use Rattle.live_commands.specs.Threads.{AllRan, IsStateWritten, IsUnwritten, refused}
 
 -- two nodes, which one edge joins

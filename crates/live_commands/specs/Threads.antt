@@ -12,9 +12,9 @@ use Rattle.command_parts.specs.world.StateText.{state_text}
 use Rattle.thread_net.specs.declared.run.Woven.{Woven}
 use Rattle.thread_net.specs.declared.run.RunFault.{RunFault}
 use Rattle.thread_net.specs.declared.run.RunFault.TheVariants.{Memory as MemoryRefused, Spawn}
-use Rattle.command_parts.specs.declared.fault.Fault.{Fault}
-use Rattle.command_parts.specs.declared.fault.Fault.TheVariants.{Memory, Threads, EventsUnwritable}
-use Rattle.command_parts.specs.Output.{IsUntaken}
+use Rattle.command_parts.specs.command_faults.declared.fault.Fault.{Fault}
+use Rattle.command_parts.specs.command_faults.declared.fault.Fault.TheVariants.{Memory, Threads, EventsUnwritable}
+use Rattle.command_parts.specs.command_faults.Output.{IsUntaken}
 use Rattle.thread_net.specs.ThreadRun.{IsThreadRun}
 
 -- each node did `turns` turns, starting from fresh nodes and empty links

@@ -8,8 +8,8 @@ ghost use Rattle.command_parts.specs.world.judge.configuration.ConfigurationView
 ghost use Rattle.command_parts.specs.EventText.{GrowsByText};
 ghost use Rattle.live_commands.specs.Threads.{AllRan, IsStateWritten, IsUnwritten, refused};
 ghost use Rattle.std.specs.Process.{exit_status};
-ghost use Rattle.command_parts.specs.declared.fault.Fault.TheVariants.{EventsUnwritable, Memory};
-ghost use Rattle.command_parts.specs.declared.fault.Fault.TheVariants.{Output};
+ghost use Rattle.command_parts.specs.command_faults.declared.fault.Fault.TheVariants.{EventsUnwritable, Memory};
+ghost use Rattle.command_parts.specs.command_faults.declared.fault.Fault.TheVariants.{Output};
 
 mod progress;
 mod together;

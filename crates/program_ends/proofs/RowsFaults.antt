@@ -1,7 +1,7 @@
 -- Small examples of the line and the status by which the program ends, and some that look like them and are none.
 use Rattle.std.proofs.Common.{◌≡◌, ◌≢◌, codes, refl, arith}
-use Rattle.command_parts.specs.declared.fault.Fault.TheVariants.{Closed, EventsLong, Memory, NoNode, Output}
-use Rattle.command_parts.specs.declared.path_fault.PathFault.TheVariants.{Fault}
+use Rattle.command_faults.specs.declared.fault.Fault.TheVariants.{Closed, EventsLong, Memory, NoNode, Output}
+use Rattle.command_faults.specs.declared.path_fault.PathFault.TheVariants.{Fault}
 use Rattle.program_ends.specs.Ends.{end_status}
 use Rattle.program_ends.specs.FaultLine.{fault_line, path_fault_line}
 

@@ -1,9 +1,9 @@
 -- The line that says why the program ends with status 1.
 use Rattle.std.specs.Prelude.{ℕ, List, ◌++◌, codes}
-use Rattle.command_parts.specs.declared.fault.Fault.{Fault}
-use Rattle.command_parts.specs.declared.path_fault.PathFault.{PathFault}
-use Rattle.command_parts.specs.FaultText.{fault_text}
-use Rattle.command_parts.specs.PathFaultText.{path_fault_text}
+use Rattle.command_faults.specs.declared.fault.Fault.{Fault}
+use Rattle.command_faults.specs.declared.path_fault.PathFault.{PathFault}
+use Rattle.command_faults.specs.FaultText.{fault_text}
+use Rattle.command_faults.specs.PathFaultText.{path_fault_text}
 
 -- the program's name, and then the fault
 abbrev pub fault_line : Fault → List ℕ

@@ -4,7 +4,7 @@ ghost use Rattle.std.specs.Process.{exit_status};
 ghost use Rattle.std.specs.declared.io.ErrorKind.TheVariants.{OutOfMemory};
 
 use crate::ends::{LINE_REFUSED, fails, fault_status};
-use command_parts::Fault;
+use command_faults::Fault;
 use std::alloc::AllocError;
 use std::io::ErrorKind;
 use std::process::ExitCode;

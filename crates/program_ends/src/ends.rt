@@ -4,12 +4,12 @@ ghost use Rattle.std.specs.Process.{exit_status};
 ghost use Rattle.clap.specs.Values.{kind_of};
 ghost use Rattle.clap.specs.declared.error.kind.ErrorKind.TheVariants.{DisplayHelp, DisplayVersion};
 ghost use Rattle.clap.specs.declared.error.kind.ErrorKind.TheVariants.{OutOfMemory};
-ghost use Rattle.command_parts.specs.Output.{output_fault};
+ghost use Rattle.command_faults.specs.Output.{output_fault};
 ghost use Rattle.program_ends.specs.Ends.{end_status};
 
 use crate::fault_line::FaultLine;
 use clap::error::ErrorKind;
-use command_parts::{Fault, printed};
+use command_faults::{Fault, printed};
 use fault_hints::one_line;
 use std::alloc::AllocError;
 use std::io;

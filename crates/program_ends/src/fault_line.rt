@@ -1,5 +1,5 @@
 //! The line that reports a fault.
-use command_parts::Fault;
+use command_faults::Fault;
 use std::fmt;
 
 /// A fault, which prints as its line on standard error: the program's name, what was refused, and

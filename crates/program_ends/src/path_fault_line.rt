@@ -1,5 +1,5 @@
 //! The line that reports a fault of a command that changes a file.
-use command_parts::PathFault;
+use command_faults::PathFault;
 use std::fmt;
 
 /// A fault of a command that changes a file, which prints as its line on standard error.

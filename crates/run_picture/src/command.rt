@@ -10,7 +10,7 @@ use crate::layout::{draw, draw_layered};
 use byte_streams::Source;
 use command_parts::{
     Fault, ReadSource, Returns, STANDARD_INPUT, events_status, printed, read_network, return_hint,
-    say_hint,
+    say_hint, simulation_fault,
 };
 use run_recording::{Recording, Window, record, record_layers};
 use std::alloc::{AllocError, Global};
@@ -59,10 +59,11 @@ impl Draws for Wanted {
     fn drawn<S: Source>(self, alloc: Global, net: &Net, source: &mut S) -> Result<Drawn, Fault> {
         let columns = usize::from(self.columns.max(1));
         let recording = if self.layers {
-            record_layers(alloc, net, source, columns, self.window)?
+            record_layers(alloc, net, source, columns, self.window)
         } else {
-            record(alloc, net, source, columns, self.window)?
+            record(alloc, net, source, columns, self.window)
         };
+        let recording = recording.map_err(simulation_fault)?;
         match picture(alloc, net, &recording) {
             Ok(text) => Ok(Drawn {
                 text,

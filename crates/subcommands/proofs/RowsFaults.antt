@@ -1,40 +1,9 @@
 -- Faults with which commands may end, and some with which they may not.
 use Rattle.std.proofs.Common.{◌≢◌, ℕ, List, refl, arith, inl, inr}
 use Rattle.std.specs.Borrow.{Bor}
-use Rattle.topology.specs.declared.fault.NetFault.TheVariants.{TooSmall, BadRoot}
-use Rattle.network_file.specs.declared.fault.NetworkFault.TheVariants.{Refused, Unreadable}
-use Rattle.command_parts.specs.declared.fault.Fault.TheVariants.{Network, NoNode, Memory, Output, Closed, EventsUnwritable}
-use Rattle.command_parts.specs.declared.path_fault.PathFault.TheVariants.{Fault, Unwritable}
-use Rattle.subcommands.specs.Faults.{IsUnprinted, IsUnplotted, IsUnsaved, IsUnwritten}
-use Rattle.subcommands.specs.Named.{IsUnnamed}
-use Rattle.subcommands.proofs.RowsFiles.{wanted}
-
--- a line of one node is too small, and one of two is not
-unnamed-small : IsUnnamed (record wanted { nodes = 1 }) (Network (Refused TooSmall))
-unnamed-small = refl
-
-unnamed_not-two : ¬ IsUnnamed wanted (Network (Refused TooSmall))
-unnamed_not-two e = grind (arith, e)
-
--- of two faults the first is answered: the root 5 is none of its nodes, either
-unnamed_not-second : ¬ IsUnnamed (record wanted { nodes = 1; root = 5 }) (Network (Refused BadRoot))
-unnamed_not-second e = grind (arith, e)
-
--- no file is read
-unnamed_not-file : ¬ IsUnnamed wanted (Network Unreadable)
-unnamed_not-file never = never
-
-unnamed_not-node : ¬ IsUnnamed wanted NoNode
-unnamed_not-node never = never
-
-unprinted-memory : IsUnprinted Memory
-unprinted-memory = tt
-
-unprinted-closed : IsUnprinted Closed
-unprinted-closed = tt
-
-unprinted_not-node : ¬ IsUnprinted NoNode
-unprinted_not-node never = never
+use Rattle.command_parts.specs.command_faults.declared.fault.Fault.TheVariants.{NoNode, Output, EventsUnwritable}
+use Rattle.command_parts.specs.command_faults.declared.path_fault.PathFault.TheVariants.{Fault, Unwritable}
+use Rattle.subcommands.specs.Faults.{IsUnplotted, IsUnsaved, IsUnwritten}
 
 module _ (path other : Bor (List ℕ)) where
   unplotted-path : IsUnplotted path (Unwritable path)

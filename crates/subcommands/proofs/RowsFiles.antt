@@ -1,20 +1,11 @@
 -- Files and objects that commands print, written out by hand, and some that are none.
-use Rattle.std.proofs.Common.{◌≡◌, ◌≢◌, ◌++◌, ℕ, zero, suc, Bool, true, false, List, [], ◌∷◌, Result, Ok, Err, Some, None, codes, length, take, drop, ap, refl, arith}
+use Rattle.std.proofs.Common.{◌≡◌, ◌≢◌, ◌++◌, ℕ, zero, suc, Bool, true, false, List, [], ◌∷◌, Some, None, codes, length, take, drop, ap, refl, arith}
 use Rattle.std.specs.Fmt.{digits}
 use Rattle.std.specs.Ordering.{nat_cmp}
 use Rattle.std.specs.List.Sorted.{IsSorted}
 use Rattle.rand_pcg.specs.Lcg.{Lcg}
 use Rattle.serde_json.specs.Data as json
 use Rattle.serde_json.specs.Written.{IsInOrder}
-use Rattle.topology.specs.Accept.{IsAccepted}
-use Rattle.topology.specs.Reading.{read_text}
-use Rattle.topology.specs.Refusal.{Values, values_of}
-use Rattle.topology.specs.declared.fault.NetFault.{NetFault}
-use Rattle.topology.specs.declared.fault.NetFault.TheVariants.{NotToml}
-use Rattle.topology.proofs.Rows.{two-accepted}
-use Rattle.network_kinds.specs.Made.{values_for}
-use Rattle.network_kinds.specs.declared.kind.Kind.TheVariants.{Line}
-use Rattle.recovery_times.specs.Times.{usual}
 use Rattle.command_parts.specs.schedules.damage_tool.Draws.{draw, draw_junk}
 use Rattle.command_parts.specs.world.declared.simulation.Summary.{Summary as Simulated}
 use Rattle.experiments.specs.declared.measured_run.Recovery.{Recovery}
@@ -22,58 +13,12 @@ use Rattle.experiments.specs.declared.measured_run.Scheduler.TheVariants as sche
 use Rattle.experiments.specs.declared.summary.Summary.{Summary}
 use Rattle.experiments.specs.Summary.{IsSummaryOf}
 use Rattle.subcommands.specs.declared.measure.Plan.{Plan}
-use Rattle.subcommands.specs.declared.network.Wanted.{Wanted}
-use Rattle.subcommands.specs.Bound.{bound_text, timed_text}
-use Rattle.subcommands.specs.BoundData.{bound_data, count}
+use Rattle.network_commands.specs.BoundData.{count}
 use Rattle.subcommands.specs.Damaged.{junk_text, scrambled_file, seeded}
 use Rattle.subcommands.specs.Hints.{loan_hint}
 use Rattle.subcommands.specs.Measured.{HaveServed, IsMeasured, IsPlanMeasured}
 use Rattle.subcommands.specs.MeasuredData.{IsMeasuredJson, measured_data}
-use Rattle.subcommands.specs.Named.{IsTextOf}
 use Rattle.subcommands.proofs.RowsTexts.{two_nodes}
-
--- ---- `bound`
-
--- 35 sweeps of 12.5 ms, and 8 * 1 * 2 of them for one who waits alone
-prints-times : timed_text two_nodes false (Some usual)
-    ≡ bound_text two_nodes ++ codes "window 12.5 ms\nrecovers within 438 ms\nlends within 200 ms\n"
-unfolding digits
-prints-times = refl
-
-prints_not-times : timed_text two_nodes false None ≡ bound_text two_nodes
-unfolding digits
-prints_not-times = refl
-
--- the same as an object, whose members stand in the order of their names
-bound-object : bound_data two_nodes true None
-    ≡ json.object (json.member (codes "capacity") (count 1) (json.member (codes "counter") (count 5)
-    (json.member (codes "distances") (json.array (json.item (count 0) (json.item (count 1) json.no_items)))
-    (json.member (codes "edges") (count 1) (json.member (codes "nodes") (count 2)
-    (json.member (codes "parents") (json.array (json.item json.null (json.item (count 0) json.no_items))) (json.member (codes "ring") (count 7)
-    (json.member (codes "sharp") (count 35) (json.member (codes "sweeps") (count 69) json.no_members)))))))))
-bound-object = refl
-
--- with times, and without the sharp bound
-bound-times : bound_data two_nodes false (Some usual)
-    ≡ json.object (json.member (codes "capacity") (count 1) (json.member (codes "counter") (count 5)
-    (json.member (codes "distances") (json.array (json.item (count 0) (json.item (count 1) json.no_items)))
-    (json.member (codes "edges") (count 1) (json.member (codes "lends_within_ms") (count 200) (json.member (codes "nodes") (count 2)
-    (json.member (codes "parents") (json.array (json.item json.null (json.item (count 0) json.no_items)))
-    (json.member (codes "recovers_within_ms") (count 438) (json.member (codes "ring") (count 7)
-    (json.member (codes "sweeps") (count 69) (json.member (codes "window_us") (count 12500) json.no_members)))))))))))
-bound-times = refl
-
--- how many members there are
-abbrev members_in : json.Members → ℕ
-members_in json.no_members = 0
-members_in (json.member k d ms) = suc (members_in ms)
-
-abbrev size_of : json.Data → ℕ
-size_of (json.object ms) = members_in ms
-size_of _ = 0
-
-bound_not-sharp : bound_data two_nodes false None ≢ bound_data two_nodes true None
-bound_not-sharp e = let sizes : 8 ≡ 9 = ap size_of e in omega (arith, sizes)
 
 -- ---- `scramble` and `junk`
 
@@ -195,31 +140,6 @@ plan-measured = record {
 -- a run more than the plan has is none of it
 plan_not-more : (served : Bool) (text : List ℕ) (m : IsPlanMeasured two_nodes no_runs text served) → m.runs ≢ run ∷ []
 plan_not-more served text m one = let lengths : 1 ≡ 0 = rw one at m.are_runs.all in omega (arith, lengths)
-
--- ---- `network`
-
-abbrev pub wanted : Wanted
-wanted = record { kind = Line; nodes = 2; root = 0; capacity = 1; lease = 0 }
-
-accepted : IsAccepted (values_for Line 2 0 1 0) two_nodes
-accepted = record { same = refl; no_fault = refl; network = two-accepted }
-
-module _ (text : List ℕ) where
-  text-of_two : read_text text ≡ Ok (values_for Line 2 0 1 0) → IsTextOf wanted text
-  text-of_two read = (two_nodes, accepted, (values_for Line 2 0 1 0, read, accepted))
-
-  -- what is no TOML is the file of no network
-  text_not-toml : read_text text ≡ Err NotToml → ¬ IsTextOf wanted text
-  text_not-toml read is = let e : ◌≡◌ {A = Result Values NetFault} (Err NotToml) (Ok is.2.0) = rw read at is.2.1 in absurd cc
-
-  -- nor is the file of a network with another lease
-  text_not-lease : read_text text ≡ Ok (values_for Line 2 0 1 5) → ¬ IsTextOf wanted text
-  text_not-lease read is =
-      let e : ◌≡◌ {A = Result Values NetFault} (Ok (values_for Line 2 0 1 5)) (Ok is.2.0) = rw read at is.2.1 in
-      let five : values_for Line 2 0 1 5 ≡ is.2.0 = cc in
-      let same : values_of is.0 ≡ is.2.0 = is.2.2.same in
-      let zero : values_of is.0 ≡ values_for Line 2 0 1 0 = is.1.same in
-      let leases : ◌≡◌ {A = ℕ} 5 0 = cc in omega (arith, leases)
 
 -- ---- what `simulate` says of a loan
 

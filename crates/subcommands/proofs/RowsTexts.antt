@@ -1,4 +1,4 @@
--- Small examples of the texts of `bound` and `measure` and of cut files, with some that fail.
+-- Small examples of the texts of `measure` and of cut files, with some that fail.
 use Rattle.std.proofs.Common.{◌≡◌, ◌≢◌, ◌∙◌, sym, ℕ, ◌++◌, true, false, IsTrue, [], ◌∷◌, Some, None, codes, decimal, refl, arith}
 use Rattle.std.proofs.lemmas.Fmt.{decimal_digit}
 use Rattle.std.proofs.lemmas.List.Elements.{All-head, All-tail}
@@ -10,10 +10,9 @@ use Rattle.experiments.specs.declared.measured_run.Recovery.{Recovery}
 use Rattle.experiments.specs.declared.measured_run.Scheduler.TheVariants as scheduler
 use Rattle.experiments.specs.declared.plan.Order.TheVariants as order
 use Rattle.experiments.specs.declared.plan.PlanFault.TheVariants as plan
-use Rattle.command_parts.specs.declared.fault.Fault.TheVariants as fault
+use Rattle.command_parts.specs.command_faults.declared.fault.Fault.TheVariants as fault
 use Rattle.subcommands.specs.declared.schedule.Turns.TheVariants as turns
 use Rattle.subcommands.specs.declared.measure.Plan.{Plan}
-use Rattle.subcommands.specs.Bound.{bound_text, nodes_line, parent_word, shown_text}
 use Rattle.subcommands.specs.Cut.{IsCutTo}
 use Rattle.subcommands.specs.Damaged.{junk_text}
 use Rattle.subcommands.specs.Measured.{AreRunsOf, has_served, HaveServed, run_line, run_lines, served_sweeps, summary_line}
@@ -44,27 +43,6 @@ seven-is = decimal_digit 7 (omega arith)
 
 eight-is : decimal 8 ≡ codes "8"
 eight-is = decimal_digit 8 (omega arith)
-
--- ---- `bound`
-
--- for two nodes the counter's modulus is 2 * 1 + 3, the ring's 6 * (2 - 1) + 1, and the bound 69
-prints-bound : bound_text two_nodes
-    ≡ codes "nodes 2\nedges 1\ncapacity 1\ncounter 5\nring 7\ndistances 0 1\nparents none 0\nsweeps " ++ (decimal 69 ++ codes "\n")
-prints-bound = rw (zero-is, one-is, two-is, five-is, seven-is)
-
--- the sharper bound has its own line, if it is asked for
-prints-sharp : shown_text two_nodes true
-    ≡ bound_text two_nodes ++ (codes "sharp " ++ (decimal 35 ++ codes "\n"))
-prints-sharp = refl
-
-prints_not-sharp : shown_text two_nodes false ≡ bound_text two_nodes
-prints_not-sharp = refl
-
-parent_not-none : parent_word (Some 0) ≢ codes "none"
-parent_not-none e = grind (arith, zero-is, e)
-
-prints-nodes : nodes_line (codes "parents") 2 (λ v. decimal v) ≡ codes "parents 0 1\n"
-prints-nodes = rw (zero-is, one-is)
 
 -- ---- `measure`
 

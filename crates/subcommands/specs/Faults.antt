@@ -1,20 +1,13 @@
 -- Which faults a command may end with, by what it does.
 use Rattle.std.specs.Prelude.{◌≡◌, ◌⊎◌, ℕ, List}
 use Rattle.std.specs.Borrow.{Bor}
-use Rattle.command_parts.specs.declared.fault.Fault.{Fault}
-use Rattle.command_parts.specs.declared.fault.Fault.TheVariants.{Network, NoNode, Memory, Output, Closed, EventsUnwritable}
-use Rattle.command_parts.specs.declared.path_fault.PathFault.{PathFault}
-use Rattle.command_parts.specs.declared.path_fault.PathFault.TheVariants.{Fault as Said, Unwritable}
+use Rattle.command_parts.specs.command_faults.declared.fault.Fault.{Fault}
+use Rattle.command_parts.specs.command_faults.declared.fault.Fault.TheVariants.{Network, NoNode, Memory, Output, Closed, EventsUnwritable}
+use Rattle.command_parts.specs.command_faults.declared.path_fault.PathFault.{PathFault}
+use Rattle.command_parts.specs.command_faults.declared.path_fault.PathFault.TheVariants.{Fault as Said, Unwritable}
+use Rattle.network_commands.specs.Faults.{IsUnprinted}
 
--- a file gives no network, memory ran out, or standard output failed or has no reader
-abbrev pub IsUnprinted : Fault → Type 0
-IsUnprinted (Network fault) = Unit {0}
-IsUnprinted Memory = Unit {0}
-IsUnprinted Output = Unit {0}
-IsUnprinted Closed = Unit {0}
-IsUnprinted fault = ⊥
-
--- one of these, or the file of this path cannot be written
+-- a network was not read or a text not printed, or the file of this path cannot be written
 abbrev pub IsUnplotted : Bor (List ℕ) → PathFault → Type 0
 IsUnplotted path (Said fault) = IsUnprinted fault
 IsUnplotted path (Unwritable unwritten) = unwritten ≡ path

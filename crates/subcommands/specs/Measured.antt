@@ -6,7 +6,7 @@ use Rattle.experiments.specs.declared.measured_run.Recovery.{Recovery}
 use Rattle.experiments.specs.declared.summary.Summary.{Summary}
 use Rattle.experiments.specs.Shown.{IsRunOf}
 use Rattle.experiments.specs.Summary.{IsSummaryOf}
-use Rattle.subcommands.specs.Bound.{number_line}
+use Rattle.network_commands.specs.Bound.{number_line}
 use Rattle.subcommands.specs.declared.measure.Plan.{Plan}
 
 -- a run had as many sweeps as the bound says, and served by then

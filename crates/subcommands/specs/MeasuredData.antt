@@ -10,7 +10,7 @@ use Rattle.experiments.specs.declared.measured_run.Recovery.{Recovery}
 use Rattle.experiments.specs.declared.summary.Summary.{Summary}
 use Rattle.experiments.specs.Shown.{IsRunOf}
 use Rattle.experiments.specs.Summary.{IsSummaryOf}
-use Rattle.subcommands.specs.BoundData.{count, or_null}
+use Rattle.network_commands.specs.BoundData.{count, or_null}
 use Rattle.subcommands.specs.Measured.{AreRunsOf, has_served, HaveServed, served_sweeps}
 use Rattle.subcommands.specs.declared.measure.Plan.{Plan}
 

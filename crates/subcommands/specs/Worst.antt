@@ -4,7 +4,7 @@ use Rattle.topology.specs.Network.{Network, bound_of}
 use Rattle.topology.specs.Eccentricity.{sharp_of}
 use Rattle.experiments.specs.Delays.{IsReplayed}
 use Rattle.experiments.specs.declared.delay.Delay.{Delay}
-use Rattle.subcommands.specs.Bound.{number_line}
+use Rattle.network_commands.specs.Bound.{number_line}
 use Rattle.subcommands.specs.declared.worst.Extent.{Extent}
 use Rattle.subcommands.specs.declared.worst.Extent.TheVariants.{Searches, Minutes}
 use Rattle.subcommands.specs.declared.worst.Found.{Found}

@@ -1,7 +1,7 @@
 //! `cut PATH LENGTH`: a file as an interrupted write may leave it.
 ghost use Rattle.std.specs.Prelude.{◌≡◌, ℕ, List, IfOk, IfErr, length, take};
 ghost use Rattle.std.specs.Process.{exit_status};
-ghost use Rattle.command_parts.specs.declared.path_fault.PathFault.TheVariants.{Unwritable};
+ghost use Rattle.command_parts.specs.command_faults.declared.path_fault.PathFault.TheVariants.{Unwritable};
 ghost use Rattle.subcommands.specs.Cut.{IsCutTo};
 
 use command_parts::PathFault;

@@ -3,9 +3,9 @@ ghost use Rattle.std.specs.Prelude.{◌≡◌, ◌+◌, ◌≤◌, ◌⊎◌, If
 ghost use Rattle.byte_streams.specs.Streams.{Rose, Takes};
 ghost use Rattle.command_parts.specs.schedules.damage_tool.Draws.{draw_junk};
 ghost use Rattle.subcommands.specs.Damaged.{junk_text, seeded};
-ghost use Rattle.command_parts.specs.Output.{IsUntaken};
+ghost use Rattle.command_parts.specs.command_faults.Output.{IsUntaken};
 ghost use Rattle.std.specs.Process.{exit_status};
-ghost use Rattle.command_parts.specs.declared.fault.Fault.TheVariants.{Memory, Output};
+ghost use Rattle.command_parts.specs.command_faults.declared.fault.Fault.TheVariants.{Memory, Output};
 
 use byte_streams::{Failed, Sink, write_all};
 use command_parts::{Fault, Flush, WriteSink, junk_line};

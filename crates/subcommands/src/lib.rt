@@ -3,10 +3,10 @@
 //! A command is a module here, and its `run` takes the words that it was given. The crates below
 //! work out the answers; here files are read and answers printed. Every failure is one
 //! [`Fault`](command_parts::Fault), or a [`PathFault`](command_parts::PathFault) if a command
-//! changes a file. `draw` is in `run_picture`, `threads` in `live_commands`.
+//! changes a file. `bound` and `network` are in `network_commands`,
+//! `draw` is in `run_picture`, `threads` in `live_commands`.
 //!
 //! ```
-//! let status = bound::run(rt, "two-nodes.toml", false, None)?;         // prints eight lines
 //! // prints what the events lead to, and what has settled then; "-" is standard input
 //! let status = simulate::run(rt, "two-nodes.toml", "events.txt", true)?;
 //! // writes a state file of node 1, of seed 7; cuts it; prints ten lines of junk
@@ -23,8 +23,6 @@
 //! lines of all that it had read.
 #![tactic(auto)]
 
-pub mod bound;
-pub mod bound_json;
 pub mod cut;
 pub mod junk;
 pub mod layers_text;
@@ -32,12 +30,11 @@ pub mod measure;
 pub mod measure_csv;
 pub mod measure_json;
 pub mod measure_plot;
-pub mod network;
 pub mod schedule;
 pub mod scramble;
 mod side_by_side;
 pub mod simulate;
 pub mod worst;
 
-pub use command_parts::{Fault, PathFault};
+pub use command_parts::{Fault, PathFault, simulation_fault};
 pub use experiments::{Chances, Scheduler};

@@ -5,15 +5,15 @@ ghost use Rattle.std.specs.Process.{exit_status};
 ghost use Rattle.subcommands.specs.Measured.{has_served, run_line, served_sweeps, summary_line};
 ghost use Rattle.subcommands.specs.Measured.{shown_line, run_lines, totals, IsMeasured};
 ghost use Rattle.subcommands.specs.Measured.{IsPlanMeasured, HaveServed};
-ghost use Rattle.command_parts.specs.Output.{IsUntaken};
-ghost use Rattle.subcommands.specs.Faults.{IsUnprinted};
+ghost use Rattle.command_parts.specs.command_faults.Output.{IsUntaken};
+ghost use Rattle.network_commands.specs.Faults.{IsUnprinted};
 
-use crate::bound::push_number;
 use crate::measure_csv::plan_csv;
 use crate::measure_json::plan_json;
 use crate::side_by_side::measured;
 use command_parts::{Fault, printed, read_network};
 use experiments::{Recovery, Scheduler, Summary, summary_of};
+use network_commands::bound::push_number;
 use std::alloc::{AllocError, Global};
 use std::fmt::Write;
 use std::process::ExitCode;

@@ -3,7 +3,7 @@ ghost use Rattle.std.specs.Prelude.{◌≡◌, IfOk, OnOk, [], map, string_bytes
 ghost use Rattle.serde_json.specs.Data.{array, object};
 ghost use Rattle.serde_json.specs.View.{view, items_of, members_view};
 ghost use Rattle.subcommands.specs.MeasuredData.{run_data, runs_data, summary_members, measured_members};
-ghost use Rattle.subcommands.specs.BoundData.{or_null};
+ghost use Rattle.network_commands.specs.BoundData.{or_null};
 ghost use Rattle.subcommands.specs.MeasuredData.{sweeps_data, measured_data, IsMeasuredJson};
 ghost use Rattle.subcommands.specs.MeasuredData.{IsPlanMeasuredJson};
 

@@ -8,8 +8,8 @@ ghost use Rattle.subcommands.specs.PlanFault.{fault_of};
 ghost use Rattle.command_parts.specs.EventText.{GrowsByText};
 ghost use Rattle.subcommands.specs.Damaged.{seeded};
 ghost use Rattle.subcommands.specs.Turns.{order_of};
-ghost use Rattle.subcommands.specs.Faults.{IsUnprinted};
-ghost use Rattle.command_parts.specs.declared.fault.Fault.TheVariants.{Memory, Output};
+ghost use Rattle.network_commands.specs.Faults.{IsUnprinted};
+ghost use Rattle.command_parts.specs.command_faults.declared.fault.Fault.TheVariants.{Memory, Output};
 
 use command_parts::{EventText, Fault, read_network};
 use experiments::{Chances, Order, PlanFault, give_plan};

@@ -4,7 +4,7 @@ ghost use Rattle.std.specs.Process.{exit_status};
 ghost use Rattle.node_state_file.specs.Stores.{Saves};
 ghost use Rattle.subcommands.specs.Damaged.{scrambled_file};
 ghost use Rattle.subcommands.specs.Faults.{IsUnsaved};
-ghost use Rattle.command_parts.specs.declared.fault.Fault.TheVariants.{NoNode, Memory};
+ghost use Rattle.command_parts.specs.command_faults.declared.fault.Fault.TheVariants.{NoNode, Memory};
 
 use command_parts::{Fault, PathFault, read_network, scramble_node};
 use node_core::NodeState;

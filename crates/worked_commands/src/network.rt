@@ -1,8 +1,8 @@
 //! Network files by kind, for every number of nodes.
+use network_commands::network::{Wanted, named_text};
 use network_kinds::{Kind, least_nodes, most_nodes};
 use std::alloc::Global;
 use std::test::Fail;
-use subcommands::network::{Wanted, named_text};
 use test_parts::as_expected;
 use topology::Net;
 

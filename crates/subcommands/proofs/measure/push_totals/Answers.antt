@@ -1,7 +1,7 @@
 use Rattle.std.proofs.Common.{◌≡◌, ◌∙◌, ◌++◌, ap, subst, OnOk, codes, string_bytes}
 use Rattle.topology.specs.Network.{bound_of}
 use Rattle.topology.specs.Eccentricity.{sharp_of}
-use Rattle.subcommands.specs.Bound.{number_line}
+use Rattle.network_commands.specs.Bound.{number_line}
 use Rattle.subcommands.specs.Measured.{summary_line}
 use Rattle.subcommands.proofs.FourParts.{four-parts}
 use Rattle.subcommands.proofs.measure.push_totals.Goals as goal

@@ -1,0 +1,2 @@
+mod RowsFaults
+mod RowsOutput

@@ -1,0 +1,61 @@
+//! Why a command fails.
+use network_file::NetworkFault;
+use std::fmt;
+
+/// Why a command ends with status 1, or quietly if nobody reads on. Printed, it is the fault's line
+/// without `tokentree: `.
+#[derive(Clone, Copy, Debug, PartialEq, Eq, Drop)]
+pub enum Fault {
+    /// The network file gives no network.
+    Network(NetworkFault),
+    /// The network has no node of the id that was given.
+    NoNode,
+    /// The events file cannot be opened, or a read of the events failed.
+    EventsUnreadable,
+    /// The events text is too long.
+    EventsLong,
+    /// Memory ran out in the command's own work.
+    Memory,
+    /// Standard output failed.
+    Output,
+    /// The reader of standard output is gone.
+    Closed,
+    /// The file for the events cannot be written.
+    EventsUnwritable,
+    /// A thread could not be started.
+    Threads,
+}
+
+impl fmt::Display for Fault {
+    ghost use Rattle.std.specs.Prelude.{Some};
+    ghost use Rattle.command_faults.specs.FaultText.{fault_text};
+
+    ghost output = { λ fault. Some (fault_text fault) };
+
+    fn fmt<W: fmt::Write>(&self, f: &mut fmt::Formatter<W>) -> fmt::Result {
+        match *self {
+            Fault::Network(fault) => f.write(fault),
+            Fault::NoNode => f.write_str("id NoNode"),
+            Fault::EventsUnreadable => f.write_str("events Unreadable"),
+            Fault::EventsLong => f.write_str("events Long"),
+            Fault::Memory => f.write_str("memory Refused"),
+            Fault::Output => f.write_str("output Refused"),
+            Fault::Closed => f.write_str("output Closed"),
+            Fault::EventsUnwritable => f.write_str("events Unwritable"),
+            Fault::Threads => f.write_str("threads Refused"),
+        }
+    }
+}
+
+impl std::error::Error for Fault {}
+
+impl From<NetworkFault> for Fault {
+    ghost use Rattle.std.specs.Prelude.{◌≡◌};
+    ghost use Rattle.command_faults.specs.declared.fault.Fault.TheVariants.{Network};
+
+    ghost from_gives = { λ refused fault. fault ≡ Network refused };
+
+    fn from(refused: NetworkFault) -> Fault {
+        Fault::Network(refused)
+    }
+}

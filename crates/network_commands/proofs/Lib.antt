@@ -1,0 +1,4 @@
+pub mod Naming
+pub mod Spaced
+pub mod Listed
+mod Rows

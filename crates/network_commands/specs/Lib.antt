@@ -1,0 +1,4 @@
+pub mod Bound
+pub mod BoundData
+pub mod Faults
+pub mod Named
