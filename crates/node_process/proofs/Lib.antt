@@ -1,4 +1,3 @@
-pub mod Words
 pub mod Noted
 pub mod Rows
 pub mod RowsNoted

@@ -1,8 +1,6 @@
-pub mod Children
+pub use Rattle.process_parts.specs as process_parts
 pub mod Texts
-pub mod Start
 pub mod Ends
-pub mod Rights
 pub mod Places
 pub mod Tapes
 pub mod Noted

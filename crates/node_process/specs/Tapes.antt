@@ -5,7 +5,7 @@ use Rattle.node_recorder.specs.flight_recorder.Recorder.{at_start, other}
 use Rattle.node_recorder.specs.flight_recorder.Resume.{IsLeft, Resumes}
 use Rattle.node_recorder.specs.flight_recorder.declared.recorder.Side.{Side}
 use Rattle.node_recorder.specs.flight_recorder.declared.recorder.Side.TheVariants.{First, Second}
-use Rattle.node_process.specs.declared.tape.RecordSize.{RecordSize}
+use Rattle.process_parts.specs.declared.record_size.RecordSize.{RecordSize}
 
 -- the most bytes of a file; it has room for two pages
 abbrev pub file_bytes : RecordSize → ℕ

@@ -1,14 +1,13 @@
 //! The network's text, which a node that keeps a record keeps beside it.
 ghost use Rattle.std.specs.Prelude.{◌≡◌, IfOk, IsTrue, string_bytes};
-ghost use Rattle.network_file.specs.NetworkFile.{IsNetworkOf};
+ghost use Rattle.process_parts.specs.network_file.NetworkFile.{IsNetworkOf};
 ghost use Rattle.topology.specs.Network.{Network};
 ghost use Rattle.topology.specs.Change.{is_same_frame};
 ghost use Rattle.node_process.specs.Kept.{draft_name};
 
-use crate::folder::{new_file, remove};
 use crate::node::NodeWords;
-use network_file::network_of;
 use node_recorder::network_name;
+use process_parts::{network_of, new_file, remove};
 use std::alloc::{AllocError, Global};
 use std::fs::File;
 use std::io::{ErrorKind, Write};

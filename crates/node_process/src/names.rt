@@ -1,10 +1,8 @@
 //! The names of a running node's sockets: a name that leads elsewhere is taken back.
 ghost use Rattle.std.specs.Prelude.{◌≡◌, ◌↔◌, true, false, IfOk, IsErr, IsTrue};
 
-use crate::folder::{Place, bind_again, sight_at};
 use network_news::FileNews;
-use node_keeping::{Complaint, FileId, FileSight, Lost};
-use node_texts::NodePaths;
+use process_parts::{Complaint, FileId, FileSight, Lost, NodePaths, Place, bind_again, sight_at};
 use std::net::Net as Sockets;
 use std::rt::Files;
 use std::{fmt, io};

@@ -1,34 +1,29 @@
 //! `node FILE ID DIR`: a node of a network as a process.
 ghost use Rattle.std.specs.Prelude.{◌≡◌, ◌↔◌, ◌<◌, ◌≤◌, ◌⊎◌, true, false, Some, None, IfOk, IfErr, IsTrue};
 ghost use Rattle.topology.specs.Change.{is_same_frame};
-ghost use Rattle.node_keeping.specs.AfterSave.{looks_for_stop};
-ghost use Rattle.node_keeping.specs.declared.saved.StopSight.TheVariants.{Absent};
-ghost use Rattle.node_process.specs.Start.{may_end};
+ghost use Rattle.process_parts.specs.node_keeping.AfterSave.{looks_for_stop};
+ghost use Rattle.process_parts.specs.node_keeping.declared.saved.StopSight.TheVariants.{Absent};
+ghost use Rattle.process_parts.specs.Start.{may_end};
 ghost use Rattle.node_process.specs.Ends.{end_fault, ends_by};
-ghost use Rattle.node_process.specs.declared.fault.NodeFault.TheVariants.{NoNode, Memory, System};
-ghost use Rattle.node_process.specs.declared.start.Stage.TheVariants.{Begun, Checked, Held};
-ghost use Rattle.node_process.specs.declared.start.Stage.TheVariants.{Listening, Ready};
+ghost use Rattle.process_parts.specs.declared.fault.NodeFault.TheVariants.{NoNode, Memory, System};
+ghost use Rattle.process_parts.specs.declared.start.Stage.TheVariants.{Begun, Checked, Held};
+ghost use Rattle.process_parts.specs.declared.start.Stage.TheVariants.{Listening, Ready};
 
-use crate::fault::{NodeFault, fault_of};
-use crate::folder::{
-    Place, addresses_of, check_names, hold_place, make_folder, make_sockets, remove, set_mode,
-};
 use crate::names::{Name, Names};
 use crate::observer::Observer;
-use crate::rights::Rights;
-use crate::start::Stage;
-use crate::tape::RecordSize;
 use crate::window::Window;
 use held_signals::state_now;
 use look_window::{COMERS, is_let_in, show};
-use network_file::{NetworkFault, read_network};
 use network_news::{FileNews, found_in, news_line};
-use node_keeping::{AfterSave, Sights, StopSight, after_save, looks_for_stop};
 use node_log::Level;
 use node_loop::NodeRun;
 use node_state_file::{FileStore, start};
-use node_texts::{CapacityLine, NodePaths, Note, NoteLine, SOCKET_FRAMES};
 use pace::Manner;
+use process_parts::{
+    AfterSave, Listeners, NetworkFault, NodeFault, NodePaths, Note, NoteLine, Place, RecordSize,
+    Rights, Sights, Stage, StopSight, addresses_of, after_save, check_names, fault_of, hold_place,
+    looks_for_stop, make_folder, make_sockets, read_network, remove, set_mode, warn_of_capacity,
+};
 use std::alloc::Global;
 use std::fs;
 use std::fs::File;
@@ -37,7 +32,7 @@ use std::net::Net as Sockets;
 use std::os::unix::net::SocketAddr;
 use std::rt::{Clock, Env, Files};
 use topology::Net;
-use unix_doors::{Listeners, Stopwatch, UnixDoors, tell_ready};
+use unix_doors::{Stopwatch, UnixDoors, tell_ready};
 
 /// What the command line says.
 #[derive(Clone, Copy)]
@@ -456,12 +451,5 @@ fn say<R: Print + AllocGlobal>(rt: &R, words: &NodeWords<'_>, note: Note) {
     let line = NoteLine { named, note };
     if let Ok(text) = format!(in rt.alloc(); "{line}\n") {
         let _ = rt.print(text.as_str());
-    }
-}
-
-/// Warns if links hold fewer frames than a socket may.
-pub fn warn_of_capacity<R: Eprint>(rt: &R, capacity: u16) {
-    if capacity < SOCKET_FRAMES {
-        let _ = rt.eprintln(CapacityLine(capacity));
     }
 }

@@ -1,7 +1,6 @@
 //! What watches a node while it runs.
 ghost use Rattle.std.specs.Prelude.{◌≡◌, None, IfOk};
 
-use crate::fault::NodeFault;
 use crate::journal::Journal;
 use crate::node::NodeWords;
 use crate::tape::Tape;
@@ -9,6 +8,7 @@ use crate::window::Window;
 use node_log::Event;
 use node_loop::{Doors, NodeRun, Notes};
 use node_state_file::Store;
+use process_parts::NodeFault;
 use std::fs::File;
 use std::rt::{Clock, Env, Files};
 use unix_doors::Stopwatch;

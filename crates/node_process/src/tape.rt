@@ -15,8 +15,6 @@ ghost use Rattle.node_process.specs.Noted.{RecordsTurn};
 ghost use Rattle.node_process.specs.Tapes.{file_bytes, of_side, side_to_begin};
 ghost use Rattle.node_process.specs.Tapes.{AreFirstPages, ArePagesAfter};
 
-use crate::fault::NodeFault;
-use crate::folder::{file_up_to, new_file};
 use crate::kept_network::{NotKept, keep_network};
 use crate::node::NodeWords;
 use node_loop::{Doors, NodeRun, Notes};
@@ -24,6 +22,7 @@ use node_recorder::{
     Deed, LEAST_SIZE, NodeRecorder, Recorder, Side, is_quiet, network_mark, record_name,
 };
 use node_state_file::Store;
+use process_parts::{NodeFault, RecordSize, file_up_to, new_file};
 use std::alloc::{AllocError, Global};
 use std::fmt::Display;
 use std::fs::{self, File};
@@ -32,16 +31,6 @@ use std::rt::{Clock, Files};
 use std::time::{SystemTime, UNIX_EPOCH};
 use topology::Net;
 use turn_watch::LinkSight;
-
-/// The most bytes of each of the two files of a record.
-#[derive(Clone, Copy)]
-pub struct RecordSize {
-    /// 65536 or more; less counts as 65536.
-    pub bytes: u64,
-}
-
-/// The size of a file of a record if none is chosen: 8 MiB.
-pub const USUAL_SIZE: RecordSize = RecordSize { bytes: 8_388_608 };
 
 /// The most bytes of a file that a start goes on with: 16 MiB. Longer ones take too long to read.
 const MOST_READ: u64 = 16_777_216;

@@ -16,7 +16,7 @@ ghost use Rattle.look_window.specs.NodeLook.{node_look};
 use look_window::{ProcessSaid, counted_machine, line_of_node};
 use node_loop::{Doors, NodeRun, Turned};
 use node_state_file::Store;
-use node_texts::ProcessPart;
+use process_parts::ProcessPart;
 use std::alloc::{AllocError, Global};
 use std::fs;
 use std::path::AsPath;

@@ -2,7 +2,7 @@
 ghost use Rattle.std.specs.Prelude.{◌≡◌, Some, None, IfOk, IfErr, if◌then◌else◌, is_ok, codes};
 ghost use Rattle.std.specs.Process.{exit_status};
 ghost use Rattle.clap.specs.Matches.{found_of, first_value, one_text};
-ghost use Rattle.node_process.specs.declared.rights.Rights.TheVariants.{Usual, GroupLocks};
+ghost use Rattle.node_process.specs.process_parts.declared.rights.Rights.TheVariants.{Usual, GroupLocks};
 ghost use Rattle.service_line.specs.Manner.{IsMannerOf, IsMannerRefused};
 ghost use Rattle.service_line.specs.Manner.{IsLimitOf, IsLimitRefused};
 

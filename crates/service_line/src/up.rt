@@ -7,9 +7,9 @@ use crate::program::{NETWORK_FILE, Runtime};
 use crate::refusal::Refusal;
 use clap::{ArgMatches, Command};
 use command_grammar::{Grammar, Parameter, with_command, word};
-use node_process::{OwnProgram, up};
 use std::alloc::{AllocError, Global};
 use std::process::ExitCode;
+use up_process::OwnProgram;
 
 /// What `up` takes.
 const UP: Grammar<'static> = Grammar {
@@ -75,7 +75,7 @@ pub fn run<R: Runtime>(rt: &R, given: &ArgMatches) -> Result<ExitCode, Refusal> 
     let (manner, turn) = (manner(given)?, late_after(given)?);
     let (log, size) = (log_level(given)?, record_size(given)?);
     let done = match OwnProgram::new(rt, file, dir, manner, turn, rights(given), log, size) {
-        Ok(program) => up::run(rt, &program, file, dir),
+        Ok(program) => up_process::run(rt, &program, file, dir),
         Err(fault) => Err(fault),
     };
     Ok(ended(rt, file, dir, 0, done))

@@ -1,24 +1,6 @@
--- Small examples of what standard input has, and of clients that are too many, and ones that fail.
-use Rattle.std.proofs.Common.{◌≡◌, ◌≢◌, Ok, refl, arith}
-use Rattle.std.specs.declared.io.ErrorKind.TheVariants.{Interrupted, Uncategorized}
-use Rattle.unix_doors.specs.declared.input.InputSight.TheVariants.{Open, Ended, Unreadable}
-use Rattle.unix_doors.specs.InputSights.{input_sight, sight_of_kind}
+-- Small examples of clients that are too many, and one that fails.
+use Rattle.std.proofs.Common.{◌≡◌, refl}
 use Rattle.unix_doors.specs.Seats.{closed_after}
-
-shows-end : input_sight (Ok 0) ≡ Ended
-shows-end = refl
-
-shows-open : input_sight (Ok 3) ≡ Open
-shows-open = refl
-
-shows-interrupted : sight_of_kind Interrupted ≡ Open
-shows-interrupted = refl
-
-shows-unreadable : sight_of_kind Uncategorized ≡ Unreadable
-shows-unreadable = refl
-
-shows_not-end : sight_of_kind Uncategorized ≢ Ended
-shows_not-end = grind arith
 
 closes-129th : closed_after 128 0 ≡ 1
 closes-129th = refl

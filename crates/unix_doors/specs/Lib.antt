@@ -1,2 +1,1 @@
-pub mod InputSights
 pub mod Seats

@@ -2,7 +2,6 @@
 ghost use Rattle.std.specs.Prelude.{◌≡◌, true, false, None, IfOk, OnOk, IsErr, IsSome};
 ghost use Rattle.node_loop.specs.Doors.{Opens};
 
-use crate::input::{InputSight, read_input, watch_input};
 use crate::pipe::{UnixPipe, hold_few, is_passing};
 use crate::seats::{ClientSight, Seats};
 use mio::net::{UnixListener, UnixStream};
@@ -13,6 +12,7 @@ use std::io;
 use std::net::Net;
 use std::os::unix::net::SocketAddr;
 use std::time::Duration;
+use unix_ends::{InputSight, Listeners, read_input, watch_input};
 
 /// The socket for neighbours, in a poll.
 const LINKS: Token = Token(0);
@@ -31,17 +31,6 @@ const LOOKS: Token = Token(4);
 
 /// How many events one wait takes. What it leaves, the next wait takes.
 const EVENTS: usize = 64;
-
-/// The sockets of a node, which listen.
-#[derive(Drop)]
-pub struct Listeners {
-    /// For neighbours.
-    pub links: UnixListener,
-    /// For clients.
-    pub clients: UnixListener,
-    /// For whoever looks.
-    pub looks: UnixListener,
-}
 
 /// Doors over three listening Unix sockets, and the addresses of all nodes. A wait ends as soon as
 /// anything comes.

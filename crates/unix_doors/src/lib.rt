@@ -16,14 +16,12 @@
 
 mod clock;
 mod doors;
-mod input;
 mod notify;
 mod pipe;
 mod seats;
 
 pub use clock::Stopwatch;
-pub use doors::{Listeners, UnixDoors};
-pub use input::{InputSight, read_input, watch_input};
+pub use doors::UnixDoors;
 pub use notify::tell_ready;
 pub use pipe::UnixPipe;
 pub use seats::ClientSight;

@@ -1,0 +1,41 @@
+//! What the processes of a network share, those of its nodes and the one that keeps these running: why
+//! they do not run, the folder and a place in it, in which order they start, and who may use what they
+//! make.
+//!
+//! ```
+//! let mut stage = Stage::Checked;
+//! make_folder(rt, "run", Rights::Usual, &mut stage)?;              // `Stage::Entered`
+//! let place = hold_place(rt, "run/lock-1", &mut stage)?;           // `Stage::Held`, while `place` lives
+//! let refusal = Refusal { file: "ring.toml", dir: "run", id: 1, fault: NodeFault::Running };
+//! ```
+//!
+//! Contracts know nothing of the system's answers. So functions that call it promise in which order a
+//! start goes, and which fault ends it.
+//!
+//! The trap: whoever can open the sockets can take the lock. The folder is made so that only its
+//! owner can enter it.
+#![tactic(auto)]
+
+mod capacity;
+mod fault;
+mod folder;
+mod record_size;
+mod rights;
+mod start;
+
+pub use capacity::warn_of_capacity;
+pub use fault::{NodeFault, Refusal, fault_of};
+pub use folder::{
+    Listener, NodeSockets, Place, addresses_of, bind_again, check_names, file_up_to, hold_place,
+    make_folder, make_sockets, new_file, remove, set_mode, sight_at,
+};
+pub use network_file::{NetworkFault, network_of, read_network};
+pub use node_keeping::{
+    AfterSave, Complaint, Deed, FileId, FileSight, Keeper, Lost, Seen, Sights, StopSight, UpCourse,
+    UpSights, after_save, looks_for_stop,
+};
+pub use node_texts::{End, EndLine, NodePaths, Note, NoteLine, ProcessPart};
+pub use record_size::{RecordSize, USUAL_SIZE};
+pub use rights::Rights;
+pub use start::Stage;
+pub use unix_ends::{InputSight, Listeners, read_input, watch_input};

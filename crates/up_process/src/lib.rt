@@ -1,0 +1,20 @@
+//! The process that keeps all nodes of a network running, each as a process of its own.
+//!
+//! ```
+//! let program = OwnProgram::new(rt, "ring.toml", "run", manner, turn, rights, log, size)?;
+//! run(rt, &program, "ring.toml", "run")?;              // until it is asked to end
+//! ```
+//!
+//! `node_keeping` decides what it does with a node that ended. Contracts know nothing of the system's
+//! answers, so the functions that call it promise little: in which order a start goes, which fault ends
+//! it, and which words a child is given.
+//!
+//! The trap: however it ends, its nodes end after it, by the end of their input.
+#![tactic(auto)]
+
+mod asks;
+mod left;
+mod up;
+
+pub use left::LeftLine;
+pub use up::{NodeProgram, OwnProgram, run};

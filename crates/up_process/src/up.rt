@@ -1,0 +1,605 @@
+//! `up FILE DIR`: runs all nodes of a network as processes, until it is asked to end.
+ghost use Rattle.std.specs.Prelude.{◌≡◌, ◌≢◌, ◌⊎◌, ◌++◌, ◌∷◌, [], true, None, Some};
+ghost use Rattle.std.specs.Prelude.{OnOk, IfOk, IfErr};
+ghost use Rattle.std.specs.Prelude.{codes, decimal, length};
+ghost use Rattle.std.specs.List.{list_any};
+ghost use Rattle.std.specs.Process.{command_args};
+ghost use Rattle.process_parts.specs.node_keeping.Steps.{new_keeper, stage_after, deed_at, is_kept};
+ghost use Rattle.process_parts.specs.node_keeping.declared.keeper.Stage.TheVariants.{Runs, Waits, Starts};
+ghost use Rattle.process_parts.specs.node_keeping.declared.keeper.Seen.{Seen};
+ghost use Rattle.process_parts.specs.node_keeping.declared.keeper.Seen.TheVariants.{Nothing};
+ghost use Rattle.process_parts.specs.node_keeping.declared.keeper.Deed.TheVariants.{Start};
+ghost use Rattle.process_parts.specs.node_texts.PremisesText.{millis_text};
+ghost use Rattle.up_process.specs.Children.{child_options, rights_options, log_options, record_options};
+ghost use Rattle.up_process.specs.Children.{child_words, end_of};
+ghost use Rattle.process_parts.specs.Start.{may_end};
+ghost use Rattle.process_parts.specs.declared.fault.NodeFault.TheVariants.{Lock, Running};
+ghost use Rattle.process_parts.specs.declared.fault.NodeFault.TheVariants.{UpLock, UpRunning, Memory};
+ghost use Rattle.process_parts.specs.declared.fault.NodeFault.TheVariants.{System};
+ghost use Rattle.process_parts.specs.declared.start.Stage.TheVariants.{Begun, Checked, Entered};
+
+use crate::asks::Asks;
+use crate::left::{GoneLine, LeftLine};
+use node_log::Level;
+use pace::Manner;
+use process_parts::{
+    Deed, End, EndLine, Keeper, NodeFault, Place, RecordSize, Rights, Seen, Stage, UpCourse,
+    check_names, fault_of, hold_place, make_folder, read_network, warn_of_capacity,
+};
+use std::alloc::{AllocError, Global};
+use std::fmt::Display;
+use std::fs::File;
+use std::io::Input;
+use std::net::Net as Sockets;
+use std::os::unix::process::ExitStatusExt;
+use std::path::{Path, PathBuf};
+use std::process::{Child, Command, ExitStatus, OpenProcess, Processes, Stdio};
+use std::rt::{Clock, Env, Files};
+use std::{env, io};
+use topology::Net;
+
+/// A program that starts another one with signals held back.
+const ENV: &str = "/usr/bin/env";
+
+/// Its option for that, for the signals that a terminal or a service manager sends to all
+/// processes.
+const HOLD_SIGNALS_BACK: &str = "--block-signal=HUP,INT,QUIT,TERM";
+
+/// How the processes of nodes are started.
+pub trait NodeProgram {
+    /// The command that runs node `id`. It prints its lines with its name in front, and ends when
+    /// its standard input ends.
+    ///
+    /// # Errors
+    /// If memory runs out.
+    fn command(&self, alloc: Global, id: u16) -> io::Result<Command>;
+
+    /// Who may use the folder and the nodes' sockets.
+    fn rights(&self) -> Rights;
+}
+
+/// This very program, with the command `node`.
+#[derive(Drop)]
+pub struct OwnProgram<'a> {
+    program: PathBuf,
+    /// Whether signals are held back from the nodes.
+    holds_signals_back: bool,
+    file: &'a str,
+    dir: &'a str,
+    /// How quiet or how fast each node is.
+    manner: Manner,
+    /// After how many microseconds a turn is late.
+    turn: u64,
+    /// Who may use the folder and the nodes' sockets.
+    rights: Rights,
+    /// The lowest level of the nodes' logs, if they have any.
+    log: Option<Level>,
+    /// The size of the files of the nodes' records, if they keep any.
+    record_size: Option<RecordSize>,
+}
+
+impl<'a> OwnProgram<'a> {
+    /// This program, for the nodes of the network of FILE in DIR.
+    ///
+    /// # Errors
+    /// If the system does not say which program this is.
+    pub fn new<R: Env + Files + Processes + AllocGlobal>(
+        rt: &R,
+        file: &'a str,
+        dir: &'a str,
+        manner: Manner,
+        turn: u64,
+        rights: Rights,
+        log: Option<Level>,
+        record_size: Option<RecordSize>,
+    ) -> Result<OwnProgram<'a>, NodeFault>
+        ensures words { IfOk result (λ own. (own.file ≡ file.entry) × (own.dir ≡ dir.entry)
+            × (own.manner ≡ manner) × (own.turn ≡ turn) × (own.rights ≡ rights) × (own.log ≡ log)
+            × (own.record_size ≡ record_size)) }
+        ensures fault { IfErr result (λ fault. fault ≡ System) }
+    {
+        match env::current_exe(rt) {
+            Ok(program) => Ok(OwnProgram {
+                program,
+                holds_signals_back: can_hold_back(rt).unwrap_or(false),
+                file,
+                dir,
+                manner,
+                turn,
+                rights,
+                log,
+                record_size,
+            }),
+            Err(_) => Err(NodeFault::System),
+        }
+    }
+}
+
+impl NodeProgram for OwnProgram<'_> {
+    fn command(&self, alloc: Global, id: u16) -> io::Result<Command> {
+        let mut command = bare_command(alloc, &self.program, self.holds_signals_back)?;
+        let options = (
+            self.manner,
+            self.turn,
+            self.rights,
+            self.log,
+            self.record_size,
+        );
+        add_words(alloc, &mut command, options, self.file, id, self.dir)?;
+        Ok(command)
+    }
+
+    fn rights(&self) -> Rights {
+        self.rights
+    }
+}
+
+/// Whether the system's `env` can hold signals back from what it starts: GNU's can since 8.31.
+fn can_hold_back<R: Processes + AllocGlobal>(rt: &R) -> io::Result<bool> {
+    let mut command = held_back(rt.alloc(), Path::new("true"))?;
+    command.stdout(Stdio::null()).stderr(Stdio::null());
+    Ok(command.status(rt)?.success())
+}
+
+/// A command that starts this program, with signals held back or not.
+fn bare_command(alloc: Global, program: &PathBuf, holds_signals_back: bool) -> io::Result<Command> {
+    if holds_signals_back {
+        held_back(alloc, program.as_path())
+    } else {
+        Ok(Command::new(alloc, program.as_path())?)
+    }
+}
+
+/// A command that starts a program with signals held back.
+fn held_back(alloc: Global, program: Path<'_>) -> io::Result<Command> {
+    let mut command = Command::new(alloc, ENV)?;
+    add_held_back(&mut command, program)?;
+    Ok(command)
+}
+
+/// Adds the words that start a program with signals held back.
+fn add_held_back(command: &mut Command, program: Path<'_>) -> io::Result<()> {
+    command.arg(HOLD_SIGNALS_BACK)?;
+    command.arg(program)?;
+    Ok(())
+}
+
+/// Adds the words that make this program node `id` of the network of FILE in DIR, as a child.
+fn add_words(
+    alloc: Global,
+    command: &mut Command,
+    options: (Manner, u64, Rights, Option<Level>, Option<RecordSize>),
+    file: &str,
+    id: u16,
+    dir: &str,
+) -> io::Result<()>
+    ensures { OnOk result (command_args command.new
+        ≡ command_args command.old
+        ++ child_words options.0 options.1 options.2 options.3 options.4 file.now id dir.now) }
+{
+    let (manner, turn, rights, log, record_size) = options;
+    add_options(alloc, command, manner, turn)?;
+    add_rights(command, rights)?;
+    add_log(alloc, command, log)?;
+    add_record(alloc, command, record_size)?;
+    add_place(alloc, command, file, id, dir)
+}
+
+/// Adds the options that make this program a child node in this manner, with late turns after
+/// `turn` microseconds.
+fn add_options(alloc: Global, command: &mut Command, manner: Manner, turn: u64) -> io::Result<()>
+    ensures { OnOk result (command_args command.new
+        ≡ command_args command.old ++ child_options manner turn) }
+{
+    add_two(command, "node", "--child")?;
+    add_manner(alloc, command, manner)?;
+    add_turn(alloc, command, turn)
+}
+
+/// Adds whether the group may take the lock.
+fn add_rights(command: &mut Command, rights: Rights) -> io::Result<()>
+    ensures { OnOk result (command_args command.new
+        ≡ command_args command.old ++ rights_options rights) }
+{
+    if rights == Rights::GroupLocks {
+        command.arg("--group-locks")?;
+    }
+    Ok(())
+}
+
+/// Adds the level of the log.
+fn add_log(alloc: Global, command: &mut Command, log: Option<Level>) -> io::Result<()>
+    ensures { OnOk result (command_args command.new
+        ≡ command_args command.old ++ log_options log) }
+{
+    if let Some(level) = log {
+        add_option(alloc, command, "--log", u64::from(level.priority()))?;
+    }
+    Ok(())
+}
+
+/// Adds the record that the node keeps.
+fn add_record(
+    alloc: Global,
+    command: &mut Command,
+    record_size: Option<RecordSize>,
+) -> io::Result<()>
+    ensures { OnOk result (command_args command.new
+        ≡ command_args command.old ++ record_options record_size) }
+{
+    if let Some(size) = record_size {
+        command.arg("--record")?;
+        add_option(alloc, command, "--record-size", size.bytes)?;
+    }
+    Ok(())
+}
+
+/// Adds how quiet or how fast the node is.
+fn add_manner(alloc: Global, command: &mut Command, manner: Manner) -> io::Result<()>
+    ensures { OnOk result (command_args command.new ≡ command_args command.old
+        ++ codes "--hold" ∷ decimal manner.hold
+        ∷ codes "--repeat" ∷ decimal manner.repeat ∷ []) }
+{
+    add_option(alloc, command, "--hold", manner.hold)?;
+    add_option(alloc, command, "--repeat", manner.repeat)
+}
+
+/// Adds when a turn is late: microseconds in, milliseconds out.
+fn add_turn(alloc: Global, command: &mut Command, turn: u64) -> io::Result<()>
+    ensures { OnOk result (command_args command.new ≡ command_args command.old
+        ++ codes "--turn" ∷ millis_text turn ∷ []) }
+{
+    let (whole, tenths) = (turn / 1000, turn / 100 % 10);
+    let (hundredths, thousandths) = (turn / 10 % 10, turn % 10);
+    let millis = format!(in alloc; "{whole}.{tenths}{hundredths}{thousandths}")?;
+    add_two(command, "--turn", millis.as_str())
+}
+
+/// Adds an option and its number.
+fn add_option(alloc: Global, command: &mut Command, name: &str, number: u64) -> io::Result<()>
+    ensures { OnOk result (command_args command.new
+        ≡ command_args command.old ++ name.now ∷ decimal number ∷ []) }
+{
+    let number = format!(in alloc; "{number}")?;
+    add_two(command, name, number.as_str())
+}
+
+/// Adds the network, the node and the folder. After `--` no name is an option.
+fn add_place(alloc: Global, command: &mut Command, file: &str, id: u16, dir: &str) -> io::Result<()>
+    ensures { OnOk result (command_args command.new ≡ command_args command.old
+        ++ codes "--" ∷ file.now ∷ decimal id ∷ dir.now ∷ []) }
+{
+    add_two(command, "--", file)?;
+    let id = format!(in alloc; "{id}")?;
+    add_two(command, id.as_str(), dir)
+}
+
+/// Adds two words.
+fn add_two(command: &mut Command, first: &str, second: &str) -> io::Result<()>
+    ensures { OnOk result (command_args command.new
+        ≡ command_args command.old ++ first.now ∷ second.now ∷ []) }
+{
+    command.arg(first)?.arg(second)?;
+    Ok(())
+}
+
+/// A node that is kept running.
+#[derive(Drop)]
+struct Kept<P: OpenProcess + Drop> {
+    id: u16,
+    keeper: Keeper,
+    /// Its process, from its start until `up` sees that it has ended.
+    child: Option<Child<P>>,
+}
+
+impl<P: OpenProcess + Drop> Kept<P> {
+    /// A node that is started at the first look.
+    fn new(id: u16) -> Kept<P>
+        ensures { (result.id ≡ id) × (result.keeper ≡ new_keeper) × (result.child ≡ None) }
+    {
+        Kept {
+            id,
+            keeper: Keeper::new(),
+            child: None,
+        }
+    }
+
+    /// What a look at its process shows.
+    fn sight(&mut self) -> Seen
+        ensures none { self.old.child ≡ None → result ≡ Nothing }
+        ensures stays { (self.new.id ≡ self.old.id) × (self.new.keeper ≡ self.old.keeper) }
+    {
+        match &mut self.child {
+            Some(child) => sight_of(child),
+            None => Seen::Nothing,
+        }
+    }
+
+    /// Makes its process end, by its input.
+    fn close_input(&mut self)
+        ensures { (self.new.id ≡ self.old.id) × (self.new.keeper ≡ self.old.keeper) }
+    {
+        if let Some(child) = &mut self.child {
+            drop(child.stdin.take());
+        }
+    }
+
+    /// Kills its process, and says how it ended.
+    fn kill(&mut self) -> End
+        ensures { (self.new.id ≡ self.old.id) × (self.new.keeper ≡ self.old.keeper) }
+    {
+        match &mut self.child {
+            Some(child) => kill(child),
+            None => End::Unknown,
+        }
+    }
+}
+
+/// What a look at a process shows.
+fn sight_of<P: OpenProcess + Drop>(child: &mut Child<P>) -> Seen {
+    match child.try_wait() {
+        Ok(Some(status)) => Seen::Ended(end_of(status)),
+        // Nothing is known of it, so it is asked again.
+        Ok(None) | Err(_) => Seen::Nothing,
+    }
+}
+
+/// Kills a process, and says how it ended.
+fn kill<P: OpenProcess + Drop>(child: &mut Child<P>) -> End {
+    let _ = child.kill();
+    match child.wait() {
+        Ok(status) => end_of(status),
+        Err(_) => End::Unknown,
+    }
+}
+
+/// Keeps all nodes of the network of FILE running in DIR until it is asked to end: by a signal, if
+/// its start held signals back, or by the end of its standard input, if that is a terminal or a
+/// pipe. Its nodes then save their states and end, each with a line. If it is asked again, it
+/// kills them.
+///
+/// # Errors
+/// Why it does not begin, or that no node stays up. Once it has begun, it ends only after all
+/// processes that it started.
+pub fn run<R, C: NodeProgram>(rt: &R, program: &C, file: &str, dir: &str) -> Result<(), NodeFault>
+where
+    R: Files<File = File> + Sockets + Clock + Input + Print + Eprint + Processes + AllocGlobal,
+{
+    let mut stage = Stage::Begun;
+    let net = check_network(rt, file, dir, &mut stage)?;
+    make_folder(rt, dir, program.rights(), &mut stage)?;
+    // Held until it ends.
+    let _place = hold_up_place(rt, dir, &mut stage)?;
+    run_in_place(rt, program, &net)
+}
+
+/// Takes the place of `up` in a folder.
+///
+/// # Errors
+/// `UpRunning` if another `up` holds it, `UpLock` if its file cannot be opened or locked, or `Memory`.
+fn hold_up_place<R: Files<File = File> + AllocGlobal>(
+    rt: &R,
+    dir: &str,
+    stage: &mut Stage,
+) -> Result<Place, NodeFault>
+    requires { stage.old ≡ Entered }
+    ensures { IfErr result (λ fault. (fault ≡ UpRunning) ⊎ ((fault ≡ UpLock) ⊎ (fault ≡ Memory))) }
+{
+    let lock = format!(in rt.alloc(); "{dir}/lock-up")?;
+    hold_place(rt, lock.as_str(), stage).map_err(fault_of_up)
+}
+
+/// Reads the network. Refuses an invalid file and a folder whose name is too long.
+///
+/// # Errors
+/// Which of these it is; then nothing is made.
+fn check_network<R: Files + AllocGlobal>(
+    rt: &R,
+    file: &str,
+    dir: &str,
+    stage: &mut Stage,
+) -> Result<Net, NodeFault>
+    requires { stage.old ≡ Begun }
+    ensures ok { IfOk result (λ _. stage.new ≡ Checked) }
+    ensures err { IfErr result (λ fault. (may_end Begun fault ≡ true) × (stage.new ≡ Begun)) }
+{
+    let net = match read_network(rt, file) {
+        Ok(net) => net,
+        Err(fault) => return Err(NodeFault::Network(fault)),
+    };
+    check_names(rt.alloc(), dir, net.nodes())?;
+    *stage = Stage::Checked;
+    Ok(net)
+}
+
+/// Keeps all nodes of a network running in the folder whose place is held.
+fn run_in_place<R, C: NodeProgram>(rt: &R, program: &C, net: &Net) -> Result<(), NodeFault>
+where
+    R: Files + Sockets + Clock + Input + Print + Eprint + Processes + AllocGlobal,
+{
+    let mut asks = Asks::new(rt).map_err(|error| fault_of(error.kind()))?;
+    warn_of_capacity(rt, net.capacity());
+    let ended = keep_all(rt, program, &mut asks, net.nodes());
+    asks.close();
+    ended
+}
+
+/// Keeps this many nodes running.
+///
+/// # Errors
+/// If no node stays up, or memory runs out.
+fn keep_all<R, C: NodeProgram>(
+    rt: &R,
+    program: &C,
+    asks: &mut Asks<R::Started>,
+    nodes: u16,
+) -> Result<(), NodeFault>
+where
+    R: Files + Clock + Input + Print + Processes + AllocGlobal,
+{
+    let mut kept = all_new(rt.alloc(), nodes)?;
+    if keep_running(rt, program, asks, &mut kept) {
+        Ok(())
+    } else {
+        Err(NodeFault::NoneStays)
+    }
+}
+
+/// All nodes of a network of `nodes` nodes, none of them started.
+fn all_new<P: OpenProcess + Drop>(alloc: Global, nodes: u16) -> Result<Vec<Kept<P>>, AllocError>
+    ensures { IfOk result (λ kept. length kept.items ≡ nodes) }
+{
+    let mut kept = Vec::with_capacity(alloc, usize::from(nodes))?;
+    for id in 0..nodes {
+        kept.push(Kept::new(id))?;
+    }
+    Ok(kept)
+}
+
+/// Whether any node is still kept.
+fn any_is_kept<P: OpenProcess + Drop>(kept: &[Kept<P>]) -> bool
+    ensures { result ≡ list_any (λ one. is_kept one.keeper.stage) kept.now }
+{
+    kept.iter().any(|one| one.keeper.is_kept())
+}
+
+/// Looks at each node again and again, until no node is kept. Returns whether that was asked for.
+fn keep_running<R, C: NodeProgram>(
+    rt: &R,
+    program: &C,
+    asks: &mut Asks<R::Started>,
+    kept: &mut Vec<Kept<R::Started>>,
+) -> bool
+where
+    R: Files + Clock + Input + Print + Processes + AllocGlobal,
+{
+    let mut course = UpCourse::new();
+    let mut word = None;
+    for _ in 0..u64::MAX {
+        for one in kept.iter_mut() {
+            note_of_one(rt, program, one, word);
+        }
+        if !any_is_kept(kept) {
+            break;
+        }
+        word = course.step(asks.sights(rt, course.is_ending()));
+    }
+    course.is_ending()
+}
+
+/// Takes note of what was seen of `up` itself; if nothing was, of what a look at the node shows.
+fn note_of_one<R, C: NodeProgram>(
+    rt: &R,
+    program: &C,
+    kept: &mut Kept<R::Started>,
+    word: Option<Seen>,
+)
+where
+    R: Print + Processes + AllocGlobal,
+    ensures id { kept.new.id ≡ kept.old.id }
+    // What was seen of `up` itself comes to the keeper.
+    ensures taken { (seen : Seen) → word ≡ Some seen
+        → deed_at seen kept.old.keeper.failures kept.old.keeper.stage ≢ Start
+        → kept.new.keeper.stage
+        ≡ stage_after seen kept.old.keeper.failures kept.old.keeper.stage }
+{
+    let seen = match word {
+        Some(seen) => seen,
+        None => kept.sight(),
+    };
+    take_note(rt, program, kept, seen);
+}
+
+/// The fault of `up` if it fails to take its place in a folder as a node does.
+fn fault_of_up(fault: NodeFault) -> NodeFault
+    ensures lock { fault ≡ Lock → result ≡ UpLock }
+    ensures running { fault ≡ Running → result ≡ UpRunning }
+{
+    match fault {
+        NodeFault::Lock => NodeFault::UpLock,
+        NodeFault::Running => NodeFault::UpRunning,
+        other => other,
+    }
+}
+
+/// Does what must be done with a node of which this was seen.
+fn take_note<R, C: NodeProgram>(rt: &R, program: &C, kept: &mut Kept<R::Started>, seen: Seen)
+where
+    R: Print + Processes + AllocGlobal,
+    ensures id { kept.new.id ≡ kept.old.id }
+    // The keeper decides; and a start shows at once whether it succeeded.
+    ensures noted { deed_at seen kept.old.keeper.failures kept.old.keeper.stage ≢ Start
+        → kept.new.keeper.stage ≡ stage_after seen kept.old.keeper.failures kept.old.keeper.stage }
+    ensures started { deed_at seen kept.old.keeper.failures kept.old.keeper.stage ≡ Start
+        → (kept.new.keeper.stage ≡ Runs 0) ⊎ (kept.new.keeper.stage ≡ Waits 10) }
+{
+    let id = kept.id;
+    match kept.keeper.step(seen) {
+        Deed::Rest => {}
+        Deed::Start => try_start(rt, program, kept),
+        Deed::SayAgain(end) => say(rt, kept, &EndLine { id, end }),
+        Deed::SayLeft(end) => say(rt, kept, &LeftLine { id, end }),
+        Deed::SayGone(end) => say(rt, kept, &GoneLine { id, end }),
+        Deed::CloseInput => kept.close_input(),
+        Deed::Kill => {
+            let end = kept.kill();
+            say(rt, kept, &GoneLine { id, end });
+        }
+    }
+}
+
+/// Starts the process of a node, and says so if it cannot be started.
+fn try_start<R, C: NodeProgram>(rt: &R, program: &C, kept: &mut Kept<R::Started>)
+where
+    R: Print + Processes + AllocGlobal,
+    requires { kept.old.keeper.stage ≡ Starts }
+    ensures id { kept.new.id ≡ kept.old.id }
+    ensures started { (kept.new.keeper.stage ≡ Runs 0) ⊎ (kept.new.keeper.stage ≡ Waits 10) }
+{
+    match start(rt, program, kept.id) {
+        Ok(child) => {
+            kept.child = Some(child);
+            kept.keeper.step(Seen::Started);
+        }
+        Err(_) => {
+            let (id, end) = (kept.id, End::Unstarted);
+            kept.keeper.step(Seen::Ended(end));
+            say(rt, kept, &EndLine { id, end });
+        }
+    }
+}
+
+/// Starts the process of a node. However this process ends, the node's input ends then, and so the
+/// node.
+fn start<R, C: NodeProgram>(rt: &R, program: &C, id: u16) -> io::Result<Child<R::Started>>
+where
+    R: Processes + AllocGlobal,
+{
+    let mut command = program.command(rt.alloc(), id)?;
+    command.stdin(Stdio::piped());
+    command.spawn(rt)
+}
+
+/// How a process ended.
+fn end_of(status: ExitStatus) -> End
+    ensures { result ≡ end_of status }
+{
+    match (status.code(), status.signal()) {
+        (Some(code), _) => End::Status(code.unsigned_abs()),
+        (None, Some(signal)) => End::Signal(signal.unsigned_abs()),
+        (None, None) => End::Unknown,
+    }
+}
+
+/// Says how the process of a node ended, in one write.
+fn say<R, P: OpenProcess + Drop, D: Display>(rt: &R, kept: &mut Kept<P>, line: &D)
+where
+    R: Print + AllocGlobal,
+    ensures stays { (kept.new.id ≡ kept.old.id) × (kept.new.keeper ≡ kept.old.keeper) }
+    ensures gone { kept.new.child ≡ None }
+{
+    kept.child = None;
+    if let Ok(text) = format!(in rt.alloc(); "{line}\n") {
+        let _ = rt.print(text.as_str());
+    }
+}
