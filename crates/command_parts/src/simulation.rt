@@ -54,10 +54,10 @@ pub fn simulate_between<S: Source, W: Flush>(
 {
     let simulated = simulate_to(alloc, net, source, sink);
     let flushed = sink.flush();
-    let simulated = simulated.map_err(simulation_fault)?;
-    match flushed {
-        Ok(()) => Ok(simulated),
-        Err(_) => Err(Fault::Output),
+    match (simulated, flushed) {
+        (Ok(simulated), Ok(())) => Ok(simulated),
+        (Ok(_), Err(_)) => Err(Fault::Output),
+        (Err(fault), _) => Err(simulation_fault(fault)),
     }
 }
 
