@@ -22,9 +22,6 @@ const PLACES: [&str; 3] = [
 /// The most turns in which distances may settle.
 const TURNS: u32 = 1_000;
 
-/// The fault of a node's start.
-type Life = Option<StartFault>;
-
 /// Asks a node through this client how it stands, again and again. Returns whether at last the
 /// answer begins like this.
 fn comes_to(runs: &mut [Run<'_>], client: &Pair, begin: &str) -> bool {
@@ -92,7 +89,7 @@ fn life<'a>(
     stage: &'a Stage,
     runs: &mut Vec<Run<'a>>,
     bytes: &[u8],
-) -> Result<Life, Fail> {
+) -> Result<Option<StartFault>, Fail> {
     let mut fault = None;
     let store = stored(alloc, bytes)?;
     runs.push(started(alloc, stage, row(alloc, 3, 64, 0)?, 2, store, &mut fault)?)?;
@@ -111,7 +108,7 @@ fn both_lives<'a>(
     stage: &'a Stage,
     runs: &mut Vec<Run<'a>>,
     bytes: &[u8],
-) -> Result<(Life, Life), Fail> {
+) -> Result<(Option<StartFault>, Option<StartFault>), Fail> {
     Ok((
         life(alloc, stage, runs, b"")?,
         life(alloc, stage, runs, bytes)?,
@@ -119,7 +116,11 @@ fn both_lives<'a>(
 }
 
 /// The same beside two new nodes, with so many bytes of that state.
-fn lives(alloc: Global, stage: &Stage, kept: usize) -> Result<(Life, Life), Fail> {
+fn lives(
+    alloc: Global,
+    stage: &Stage,
+    kept: usize,
+) -> Result<(Option<StartFault>, Option<StartFault>), Fail> {
     for clients in stage.clients.iter().take(2) {
         clients.knock();
     }
@@ -129,7 +130,15 @@ fn lives(alloc: Global, stage: &Stage, kept: usize) -> Result<(Life, Life), Fail
 }
 
 /// The same with all bytes of the state, and with 33 of 36.
-fn all_lives(alloc: Global) -> Result<((Life, Life), (Life, Life)), Fail> {
+fn all_lives(
+    alloc: Global,
+) -> Result<
+    (
+        (Option<StartFault>, Option<StartFault>),
+        (Option<StartFault>, Option<StartFault>),
+    ),
+    Fail,
+> {
     Ok((
         on_stage(alloc, 3, 4, |stage| lives(alloc, stage, 36))?,
         on_stage(alloc, 3, 4, |stage| lives(alloc, stage, 33))?,
