@@ -1,12 +1,10 @@
 -- Clients that are read, one after the other.
-use Rattle.std.proofs.Common.{◌≡◌, ◌⊎◌, ◌<◌, ◌≤◌, ◌+◌, ℕ, false, List, Option, None, Some, refl, sym, subst, ap, inl, inr, arith}
+use Rattle.std.proofs.Common.{◌≡◌, ◌<◌, ◌+◌, ℕ, List, Option, None, Some, sym, subst, inl, inr, arith}
 use Rattle.slab.specs.Slab.{get, slab_len}
 use Rattle.socket_links.specs.Counts.{Counts}
 use Rattle.socket_links.specs.declared.pipe.ReadAnswer.{ReadAnswer}
-use Rattle.socket_links.specs.declared.pipe.ReadAnswer.TheVariants as read
 use Rattle.node_loop.specs.declared.clients.Client.{Client}
 use Rattle.node_loop.specs.declared.clients.Clients.{Clients}
-use Rattle.node_loop.specs.Clients.{is_connected}
 use Rattle.node_loop.specs.Lives.{AllRead, IsOfLive, IsReadAt, LivesAt, LiveOn, ReadsAt, Stays, Then}
 use Rattle.node_loop.proofs.GoingOut.{none-in_empty}
 use Rattle.node_loop.proofs.Speaking.{below-or-last}

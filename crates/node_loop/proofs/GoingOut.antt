@@ -1,18 +1,18 @@
 -- Answers that go out, one client after the other.
 use Rattle.std.proofs.Common.{◌≡◌, ◌≢◌, ◌⊎◌, ◌<◌, ◌≤◌, ◌+◌, ◌-◌, ◌++◌, ◌∙◌, ℕ, List, [], ◌∷◌, min, take, drop, get_or, Option, None, Some, length, refl, sym, subst, ap, inl, inr, arith}
 use Rattle.std.specs.Prelude.{Bool, false, slice_index_or, slice_set, IsSome, IsTrue}
-use Rattle.std.proofs.lemmas.Bool.{cases_eq, cases_lt, true≢false}
+use Rattle.std.proofs.lemmas.Bool.{cases_lt, true≢false}
 use Rattle.std.proofs.lemmas.List.{drop_all, drop-append-le, get_or_default, get_or_past, get_or-set_same, get_or-set_other, length-drop, length-set, take_all, take-append-le}
 use Rattle.byte_streams.specs.Streams.{Rose}
 use Rattle.circular_buffer.specs.Buffer.{Buffer, buffer}
-use Rattle.slab.specs.Slab.{Slab, get, slab_len, with_value, entries}
+use Rattle.slab.specs.Slab.{Slab, get, slab_len, with_value}
 use Rattle.slab.proofs.SlabLemmas.{Contains-entries, length-entries, Updates-with_value}
 use Rattle.socket_links.specs.Counts.{Counts}
 use Rattle.node_loop.specs.declared.clients.Client.{Client}
 use Rattle.node_loop.specs.declared.clients.Clients.{Clients}
-use Rattle.node_loop.specs.Clients.{answers_of, is_connected}
+use Rattle.node_loop.specs.Clients.{answers_of}
 use Rattle.node_loop.specs.Lives.{AllGoOut, GoesOutAt, OthersStay}
-use Rattle.node_loop.proofs.Lives.{nobody, there}
+use Rattle.node_loop.proofs.Lives.{there}
 use Rattle.node_loop.proofs.Speaking.{below-or-last}
 
 module _ {P : Type 0} (counts : P → Counts) where

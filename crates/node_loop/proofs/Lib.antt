@@ -13,8 +13,10 @@ pub mod BeingRead
 pub mod Accounts
 pub mod Lives
 pub mod Heard
+pub mod Ends
 pub mod Saying
 pub mod Serving
+pub mod Served
 pub mod Rooms
 pub mod Arrivals
 mod Rows
@@ -22,6 +24,7 @@ mod RowsTurns
 mod RowsNoting
 mod RowsRemembering
 mod RowsLives
+mod RowsEnds
 mod RowsPorts
 mod RowsVisitors
 mod RowsSaid

@@ -1,10 +1,9 @@
 -- Clients that live on, one call after the other.
-use Rattle.std.proofs.Common.{◌≡◌, ◌≢◌, ◌⊎◌, ◌<◌, ◌∙◌, ◌&&◌, ◌==◌, not, ℕ, Bool, true, false, List, [], Option, None, Some, refl, sym, subst, ap, inl, inr, arith}
+use Rattle.std.proofs.Common.{◌≡◌, ◌≢◌, ◌∙◌, ◌&&◌, ◌==◌, not, ℕ, true, false, List, [], Option, None, Some, refl, sym, subst, ap, inl, inr, arith}
 use Rattle.std.specs.Prelude.{is_some, IsSome}
 use Rattle.std.proofs.lemmas.Grind.{common_steps}
 use Rattle.std.proofs.lemmas.Bool.{both_ways, cases_Bool, cases_eq}
 use Rattle.std.proofs.lemmas.Bool.Decides.{nat_tests}
-use Rattle.byte_streams.specs.Streams.{Rose}
 use Rattle.slab.specs.Slab.{Slab, get, with_value}
 use Rattle.slab.proofs.SlabLemmas.{Updates-with_value}
 use Rattle.socket_links.specs.Counts.{Counts}
@@ -12,7 +11,6 @@ use Rattle.socket_links.specs.declared.pipe.ReadAnswer.TheVariants as read
 use Rattle.node_loop.specs.declared.clients.Client.{Client}
 use Rattle.node_loop.specs.declared.clients.Clients.{Clients}
 use Rattle.node_loop.specs.Clients.{answers_of, is_connected}
-use Rattle.node_loop.proofs.Speaking.{apart}
 use Rattle.node_loop.specs.Heard.{HasNewReader}
 use Rattle.node_loop.specs.Lives.{Lives, Stays, Gave, Gives_later, Then, LivesAt, LiveOn, ReadsAt, OthersStay, Admits, StillLive, FailsAt}
 
@@ -142,9 +140,9 @@ module _ {P A : Type 0} (gave took : P → Option (List ℕ)) (counts : P → Co
   pub still-join : (a b c : Clients P A) → StillLive gave took counts a b → LiveOn gave took counts b c → StillLive gave took counts a c
   still-join a b c f g t was = join-at gave took counts (get a.table t) (get b.table t) (get c.table t) (f t was) (g t)
 
--- a client whose pipe failed is written back to its place
-pub failed-here : {P : Type 0} (counts : P → Counts) (s : Slab (Client P)) (k : ℕ) (old new : Client P) → Some old ≡ get s k → Rose (counts old.pipe).failed (counts new.pipe).failed
-    → FailsAt counts (get s k) (get (with_value s k new) k)
-failed-here counts s k old new e rose =
+-- a client to which a write failed is written back to its place
+pub failed-here : {P : Type 0} (gave took : P → Option (List ℕ)) (counts : P → Counts) (s : Slab (Client P)) (k : ℕ) (old new : Client P) → Some old ≡ get s k → FailsAt gave took counts (Some old) (Some new)
+    → FailsAt gave took counts (get s k) (get (with_value s k new) k)
+failed-here gave took counts s k old new e fails =
     let changed : get (with_value s k new) k ≡ Some new = (Updates-with_value s k new (subst (λ x. IsSome x) e refl)).changed in
-    subst (λ x. FailsAt counts x (get (with_value s k new) k)) e (subst (λ y. FailsAt counts (Some old) y) (sym changed) rose)
+    subst (λ x. FailsAt gave took counts x (get (with_value s k new) k)) e (subst (λ y. FailsAt gave took counts (Some old) y) (sym changed) fails)

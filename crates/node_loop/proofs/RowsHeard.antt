@@ -14,10 +14,11 @@ use Rattle.node_loop.specs.Answers.{after_line}
 use Rattle.node_loop.specs.Deeds.{Asks, Became, IsLeaveOfGone, IsOfClient, Leaves}
 use Rattle.node_loop.specs.Heard.{HasNewReader, HeardAt, NothingHeard, SameReader}
 use Rattle.node_loop.specs.NotesView.{NotesView}
-use Rattle.node_loop.specs.Said.{HasAnswered, IsHeard, IsHeardAlone, IsLineAlone, Serves}
+use Rattle.node_loop.specs.Said.{HasAnswered, IsHeard, IsHeardAlone, IsLineAlone, IsServed, Serves}
 use Rattle.node_loop.specs.Services.{AreGone, deeds_of_all, Goes, Line, lines_of, Service}
 use Rattle.node_loop.proofs.Heard.{heard-same, unheard-same}
 use Rattle.node_loop.proofs.Saying.{nothing-same}
+use Rattle.node_loop.proofs.Served.{served-none}
 use Rattle.node_loop.proofs.Serving.{alone-none, heard-none, serves-none}
 
 -- what is kept after `l`, the front of a line
@@ -89,11 +90,15 @@ leave_not-there e = absurd cc
 leave_not-ask : IsLeaveOfGone (λ t. false) (Asks 3) → ⊥
 leave_not-ask e = e
 
-line-alone : IsLineAlone 3 Lock 4 []
-line-alone = (λ same. absurd (omega (arith, same)), λ differ. refl)
+line-alone : IsLineAlone 3 Lock [] 4 [] []
+line-alone = (λ same. absurd (omega (arith, same)), λ differ. (refl, refl))
 
-line_not-nothing : IsLineAlone 3 Lock 3 [] → ⊥
-line_not-nothing f = (let e : ◌≡◌ {A = List ClientLine} [] (Lock ∷ []) = f.0 refl in absurd cc)
+line_not-nothing : IsLineAlone 3 Lock [] 3 [] [] → ⊥
+line_not-nothing f = (let e : ◌≡◌ {A = List ClientLine} [] (Lock ∷ []) = (f.0 refl).0 in absurd cc)
+
+-- another answer is none to that line
+line_not-another : IsLineAlone 3 Unknown (codes "unknown\n") 3 (Unknown ∷ []) (codes "released\n") → ⊥
+line_not-another f = (let e : ◌≡◌ {A = List ℕ} (codes "released\n") (codes "unknown\n") = (f.0 refl).1 in absurd cc)
 
 abbrev bytes-of : Option (List ℕ) → List ℕ
 bytes-of None = []
@@ -161,12 +166,12 @@ module _ {P A : Type 0} (gave took : P → Option (List ℕ)) (counts : P → Co
     heard_not-nothing f = (let e : ◌≡◌ {A = List ClientLine} [] (Lock ∷ []) = heard-lock [] f in absurd cc)
 
     -- a node that does nothing has not served it
-    serves_not-nothing : (x y : NodeView) (n m : NotesView) (f : Serves took (IsHeard gave old new) x y n m old new) → f.did.became.deeds ≡ [] → ⊥
+    serves_not-nothing : (x y : NodeView) (n m : NotesView) (f : Serves took (IsServed gave took counts old new) x y n m old new) → f.did.became.deeds ≡ [] → ⊥
     serves_not-nothing x y n m f none =
-        asks-none f.services (state_of x) (sym f.deeds_are ∙ none) (heard-lock (map (λ asked. asked.0) (lines_of 3 f.services (state_of x))) (f.lines_are 3))
+        asks-none f.services (state_of x) (sym f.deeds_are ∙ none) (heard-lock (map (λ asked. asked.0) (lines_of 3 f.services (state_of x))) (f.lines_are 3).0)
 
-  serves-nobody : (x : NodeView) (n : NotesView) → Serves took (IsHeard gave old old) x x n n old old
-  serves-nobody x n = serves-none took (IsHeard gave old old) x n old old heard-none-of (nothing-same took old old refl refl)
+  serves-nobody : (x : NodeView) (n : NotesView) → Serves took (IsServed gave took counts old old) x x n n old old
+  serves-nobody x n = serves-none took (IsServed gave took counts old old) x n old old (served-none gave took counts old old nothing-heard (λ t. refl) refl) (nothing-same took old old refl refl)
 
 -- a client that said `lock` to a node that does nothing was not answered
 answered_not-nothing : {P A : Type 0} (gave took : P → Option (List ℕ)) (counts : P → Counts) (old new : Clients P A) (a b : Client P) {x y : NodeView} (serves : Became IsOfClient x y)

@@ -86,14 +86,19 @@ module _ {P : Type 0} (gave took : P → Option (List ℕ)) (counts : P → Coun
   reads_not-writes : (a b : Client P) → took a.pipe ≡ Some [] → took b.pipe ≡ Some (codes "u") → ¬ ReadsAt gave took counts read.Later [] (Some a) (Some b)
   reads_not-writes a b before after r = grind (arith, before, after, r.1)
 
-module _ {P : Type 0} (counts : P → Counts) (a b : Client P) (before : (counts a.pipe).failed ≡ 0) where
-  fails-once : (counts b.pipe).failed ≡ 1 → FailsAt counts (Some a) (Some b)
-  fails-once after = inl (omega (arith, before, after))
+module _ {P : Type 0} (gave took : P → Option (List ℕ)) (counts : P → Counts) (a b : Client P) where
+  fails-once : gave b.pipe ≡ gave a.pipe → took b.pipe ≡ took a.pipe → counts a.pipe ≡ (record { later = 2; closed = 0; failed = 0 }) → counts b.pipe ≡ (record { later = 2; closed = 0; failed = 1 })
+      → FailsAt gave took counts (Some a) (Some b)
+  fails-once gives takes before after = ([], (takes, rw (before, after) (omega arith, omega arith, omega arith), rw (before, after) (inl (omega arith))), gives)
 
-  fails_not-still : (counts b.pipe).failed ≡ 0 → ¬ FailsAt counts (Some a) (Some b)
-  fails_not-still after f = not-rose (counts a.pipe).failed (counts b.pipe).failed f after
+  fails_not-still : (counts b.pipe).failed ≡ 0 → ¬ FailsAt gave took counts (Some a) (Some b)
+  fails_not-still after (bytes, f, gives) = not-rose (counts a.pipe).failed (counts b.pipe).failed f.2 after
 
-  fails_not-nobody : ¬ FailsAt counts None (Some b)
+  -- a write that takes a byte does not fail
+  fails_not-takes : took a.pipe ≡ Some [] → took b.pipe ≡ Some (codes "u") → ¬ FailsAt gave took counts (Some a) (Some b)
+  fails_not-takes before after (bytes, f, gives) = (let e : ◌≡◌ {A = Option (List ℕ)} (Some (codes "u")) (Some []) = rw (before, after) at f.0 in absurd cc)
+
+  fails_not-nobody : ¬ FailsAt gave took counts None (Some b)
   fails_not-nobody f = f
 
 module _ {P A : Type 0} (gave took : P → Option (List ℕ)) (counts : P → Counts) (old new : Clients P A) (a b : Client P) (t : ℕ) where

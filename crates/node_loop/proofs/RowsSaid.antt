@@ -7,7 +7,6 @@ use Rattle.std.proofs.lemmas.Grind.{common_steps}
 use Rattle.byte_streams.specs.Streams.{Rose}
 use Rattle.slab.specs.Slab.{get}
 use Rattle.lock_desk.specs.Desk.{ask_fault, is_stranger}
-use Rattle.lock_desk.specs.declared.act.DeskAct.{DeskAct}
 use Rattle.lock_desk.specs.declared.act.DeskAct.TheVariants.{Quiet, Lost}
 use Rattle.lock_desk.specs.declared.client_line.ClientLine.{ClientLine}
 use Rattle.lock_desk.specs.declared.client_line.ClientLine.TheVariants.{Lock, Unlock, Status, Unknown}
@@ -31,6 +30,8 @@ use Rattle.node_loop.specs.NotesView.{NotesView}
 use Rattle.node_loop.specs.Said.{answers_to, AttendSays, HasAnswered, IsSaid, ListensTo, NothingSaid, said, SaidAt, TurnSays, WritesOut}
 use Rattle.node_loop.specs.Services.{lines_of}
 use Rattle.node_loop.proofs.BeingRead.{read-gone}
+use Rattle.node_loop.proofs.Ends.{at-silent}
+use Rattle.node_loop.proofs.Served.{ends-same}
 use Rattle.node_loop.proofs.GoingOut.{out-nothing}
 use Rattle.node_loop.proofs.Heard.{unheard-same}
 use Rattle.node_loop.proofs.Lives.{admits-none, stay}
@@ -135,6 +136,7 @@ module _ {P A : Type 0} (gave took : P → Option (List ℕ)) (counts : P → Co
     heard = λ t. ([], unheard-same gave old old refl t);
     said = nothing-still;
     reads = λ t few. read-gone gave took counts (get old.table t) (get old.table t) (alone t);
+    ends = λ t. at-silent gave took counts (get old.table t) (get old.table t) (answers_of old t) (answers_of old t) refl refl;
   }
 
   -- nothing waits for anybody
@@ -147,6 +149,7 @@ module _ {P A : Type 0} (gave took : P → Option (List ℕ)) (counts : P → Co
     hears_nothing = unheard-same gave clients clients refl;
     says_nothing = nothing-same took clients clients refl refl;
     goes_out = λ t. out-nothing counts (get clients.table t) (get clients.table t) (answers_of clients t) (answers_of clients t) (none t);
+    ends = ends-same gave took counts clients clients (λ t. refl);
   }
 
   all-of_none : (kind : Deed → Type 0) (ds : List Deed) → ds ≡ [] → All kind ds

@@ -1,5 +1,5 @@
 -- Clients that are served, one after the other.
-use Rattle.std.proofs.Common.{◌≡◌, ◌≢◌, ◌==◌, ◌∙◌, ℕ, Bool, true, false, if◌then◌else◌, List, [], ◌∷◌, ◌++◌, All, Option, None, Some, map, refl, sym, subst, ap, inl, inr, append-nil, append_assoc}
+use Rattle.std.proofs.Common.{◌≡◌, ◌≢◌, ◌==◌, ◌∙◌, ℕ, Bool, false, if◌then◌else◌, List, [], ◌∷◌, ◌++◌, All, Option, None, Some, map, refl, sym, subst, ap, inl, inr, append-nil, append_assoc}
 use Rattle.std.specs.Prelude.{is_some}
 use Rattle.std.proofs.lemmas.Bool.{cases_eq, eq-eqb, ne_eqb}
 use Rattle.std.proofs.lemmas.List.{map-append}
@@ -15,10 +15,10 @@ use Rattle.node_loop.specs.declared.clients.Client.{Client}
 use Rattle.node_loop.specs.declared.clients.Clients.{Clients}
 use Rattle.node_loop.specs.Answers.{after_line, answer_text}
 use Rattle.node_loop.specs.Clients.{answers_of, is_connected}
-use Rattle.node_loop.specs.Deeds.{Asks, Became, Deed, IsLeaveOfGone, IsOfClient, Leads, Leaves, Sends, Takes, Ticks}
+use Rattle.node_loop.specs.Deeds.{Asks, Deed, IsLeaveOfGone, IsOfClient, Leads, Leaves, Sends, Takes, Ticks}
 use Rattle.node_loop.specs.Heard.{HeardAt, NothingHeard}
-use Rattle.node_loop.specs.Lives.{LiveOn, LivesAt, OthersStay}
-use Rattle.node_loop.specs.Noting.{after_all, deeds_of_line, Did}
+use Rattle.node_loop.specs.Lives.{OthersStay}
+use Rattle.node_loop.specs.Noting.{deeds_of_line, Did}
 use Rattle.node_loop.specs.NotesView.{NotesView}
 use Rattle.node_loop.specs.Said.{answers_to, IsHeard, IsHeardAlone, IsLineAlone, IsSaid, NothingSaid, SaidAt, Serves}
 use Rattle.node_loop.specs.Services.{AreGone, deeds_of_all, Goes, Line, lines_of, Service}
@@ -148,7 +148,7 @@ module _ {P A : Type 0} (took : P → Option (List ℕ)) where
   stays-gone more t old new f none =
       subst (λ (x : Option (Client P)). is_some x ≡ false) (sym (gone-said took more (get old.table t) (get new.table t) (answers_of old t) (answers_of new t) f (nobody (get old.table t) none))) refl
 
-  module _ (R S T : ℕ → List ClientLine → Type 0) (join : (t : ℕ) (xs ys : List ClientLine) → R t xs → S t ys → T t (xs ++ ys)) where
+  module _ (R S T : ℕ → List ClientLine → List ℕ → Type 0) (join : (t : ℕ) (xs ys : List ClientLine) (ps qs : List ℕ) → R t xs ps → S t ys qs → T t (xs ++ ys) (ps ++ qs)) where
     pub serves-join : (x y z : NodeView) (n m o : NotesView) (a b c : Clients P A) → Serves took R x y n m a b → Serves took S y z m o b c → Serves took T x z n o a c
     serves-join x y z n m o a b c f g =
         let between : state_of y ≡ after-services f.services (state_of x) =
@@ -164,8 +164,11 @@ module _ {P A : Type 0} (took : P → Option (List ℕ)) where
           gone = gone-append (is_connected c) f.services g.services
               (gone-later (is_connected b) (is_connected c) (λ t. stays-gone (answers_to (site_in y) t (second t)) t b c (g.said t)) f.services f.gone) g.gone;
           lines_are = λ t.
-              subst (λ lines. T t lines) (sym (ap asked-lines (both t) ∙ map-append (λ (x : ClientLine × LocalState). x.0) (first t) (second t)))
-              (join t (asked-lines (first t)) (asked-lines (second t)) (f.lines_are t) (g.lines_are t));
+              subst (λ lines. T t (asked-lines lines) (answers_to (site_in x) t lines)) (sym (both t))
+              (subst (λ lines. T t lines (answers_to (site_in x) t (first t ++ second t))) (sym (map-append (λ (x : ClientLine × LocalState). x.0) (first t) (second t)))
+              (subst (λ text. T t (asked-lines (first t) ++ asked-lines (second t)) text) (answers-join (site_in x) t (first t) (second t))
+              (join t (asked-lines (first t)) (asked-lines (second t)) (answers_to (site_in x) t (first t)) (answers_to (site_in x) t (second t)) (f.lines_are t)
+              (subst (λ site. S t (asked-lines (second t)) (answers_to site t (second t))) f.did.became.site (g.lines_are t)))));
           said = λ t.
               subst (λ lines. IsSaid took (answers_to (site_in x) t lines) t a c) (sym (both t))
               (subst (λ text. IsSaid took text t a c) (answers-join (site_in x) t (first t) (second t))
@@ -174,7 +177,7 @@ module _ {P A : Type 0} (took : P → Option (List ℕ)) where
         }
 
   -- nothing was done
-  pub serves-none : (R : ℕ → List ClientLine → Type 0) (x : NodeView) (n : NotesView) (a b : Clients P A) → ((t : ℕ) → R t []) → NothingSaid took a b → Serves took R x x n n a b
+  pub serves-none : (R : ℕ → List ClientLine → List ℕ → Type 0) (x : NodeView) (n : NotesView) (a b : Clients P A) → ((t : ℕ) → R t [] []) → NothingSaid took a b → Serves took R x x n n a b
   serves-none R x n a b none nothing = record {
     services = [];
     did = did-none IsOfClient x n;
@@ -185,7 +188,7 @@ module _ {P A : Type 0} (took : P → Option (List ℕ)) where
   }
 
   -- tickets left, and nothing else was done
-  pub serves-goes : (R : ℕ → List ClientLine → Type 0) (x y : NodeView) (n m : NotesView) (a b : Clients P A) → ((t : ℕ) → R t []) → NothingSaid took a b
+  pub serves-goes : (R : ℕ → List ClientLine → List ℕ → Type 0) (x y : NodeView) (n m : NotesView) (a b : Clients P A) → ((t : ℕ) → R t [] []) → NothingSaid took a b
       → Did (IsLeaveOfGone (is_connected b)) x y n m → Serves took R x y n m a b
   serves-goes R x y n m a b none nothing f =
       let ds = f.became.deeds in
@@ -195,13 +198,13 @@ module _ {P A : Type 0} (took : P → Option (List ℕ)) where
         did = are-of-clients (is_connected b) x y n m f;
         deeds_are = sym (goes-deeds (is_connected b) ds f.became.kinds);
         gone = goes-gone (is_connected b) ds f.became.kinds;
-        lines_are = λ t. subst (λ lines. R t (asked-lines lines)) (sym (silent t)) (none t);
+        lines_are = λ t. subst (λ lines. R t (asked-lines lines) (answers_to (site_in x) t lines)) (sym (silent t)) (none t);
         said = λ t. subst (λ lines. IsSaid took (answers_to (site_in x) t lines) t a b) (sym (silent t)) (nothing t);
       }
 
   -- a line was served, and then tickets left
   pub serves-line : (k : ℕ) (line : ClientLine) (x y z : NodeView) (n m o : NotesView) (a b : Clients P A) (d : Did IsOfClient x y n m) → d.became.deeds ≡ deeds_of_line k line
-      → Did (IsLeaveOfGone (is_connected b)) y z m o → SaidTo took (answer_text (site_in x) k line (state_of x)) k a b → Serves took (IsLineAlone k line) x z n o a b
+      → Did (IsLeaveOfGone (is_connected b)) y z m o → SaidTo took (answer_text (site_in x) k line (state_of x)) k a b → Serves took (IsLineAlone k line (answer_text (site_in x) k line (state_of x))) x z n o a b
   unfolding goes
   serves-line k line x y z n m o a b d is f said =
       let s = state_of x in
@@ -219,8 +222,11 @@ module _ {P A : Type 0} (took : P → Option (List ℕ)) where
         deeds_are = ap (λ es. es ++ ds) is ∙ ap (λ es. deeds_of_line k line ++ es) (sym (goes-deeds (is_connected b) ds f.became.kinds));
         gone = goes-gone (is_connected b) ds f.became.kinds;
         lines_are = λ t. (
-          λ same. ap asked-lines (here t same),
-          λ differ. ap asked-lines (other t differ),
+          λ same. (
+            ap asked-lines (here t same),
+            ap (λ lines. answers_to (site_in x) t lines) (here t same) ∙ (append-nil (answer_text (site_in x) t line s) ∙ ap (λ u. answer_text (site_in x) u line s) same),
+          ),
+          λ differ. (ap asked-lines (other t differ), ap (λ lines. answers_to (site_in x) t lines) (other t differ)),
         );
         said = λ t.
             elim (cases_eq t k) [
@@ -242,14 +248,14 @@ module _ {P A : Type 0} (gave : P → Option (List ℕ)) where
 
   -- a reader took a byte, and the line that this ended was served meanwhile, or it ended none
   pub heard-line : (k byte : ℕ) (line : ClientLine) (a b c : Clients P A) → HeardAt gave [] (byte ∷ []) (line ∷ []) (get a.table k) (get b.table k) → OthersStay k a b → NothingHeard gave b c
-      → (t : ℕ) (xs : List ClientLine) → IsLineAlone k line t xs → IsHeardAlone gave a c k (byte ∷ []) t xs
-  heard-line k byte line a b c heard others unheard t xs f = (
+      → (text : List ℕ) (t : ℕ) (xs : List ClientLine) (ps : List ℕ) → IsLineAlone k line text t xs ps → IsHeardAlone gave a c k (byte ∷ []) t xs
+  heard-line k byte line a b c heard others unheard text t xs ps f = (
     λ same.
-        subst (λ lines. HeardAt gave [] (byte ∷ []) lines (get a.table t) (get c.table t)) (sym (f.0 same))
+        subst (λ lines. HeardAt gave [] (byte ∷ []) lines (get a.table t) (get c.table t)) (sym (f.0 same).0)
         (subst (λ u. HeardAt gave [] (byte ∷ []) (line ∷ []) (get a.table u) (get c.table u)) (sym same)
         (heard-join gave [] [] (byte ∷ []) [] (line ∷ []) [] (get a.table k) (get b.table k) (get c.table k) heard (unheard k))),
     λ differ.
-        subst (λ lines. HeardAt gave [] [] lines (get a.table t) (get c.table t)) (sym (f.1 differ))
+        subst (λ lines. HeardAt gave [] [] lines (get a.table t) (get c.table t)) (sym (f.1 differ).0)
         (heard-join gave [] [] [] [] [] [] (get a.table t) (get b.table t) (get c.table t) (others-unheard gave k a b others t differ) (unheard t)),
   )
 

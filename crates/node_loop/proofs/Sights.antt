@@ -1,6 +1,6 @@
 -- What is seen at each port, one after the other. Neighbours are nodes, and there are at most 64 of
 -- these.
-use Rattle.std.proofs.Common.{◌≡◌, ◌≢◌, ◌<◌, ◌≤◌, ◌+◌, ℕ, Bool, true, false, not, ◌&&◌, List, [], ◌∷◌, ◌++◌, ◌⊎◌, Some, is_some, Contains, get_or, length, take, slice_get, slice_set, refl, inl, inr, sym, subst, arith, ◌∙◌}
+use Rattle.std.proofs.Common.{◌≡◌, ◌≢◌, ◌<◌, ◌≤◌, ◌+◌, ℕ, Bool, true, false, not, ◌&&◌, List, [], ◌∷◌, ◌++◌, Some, is_some, Contains, get_or, length, take, slice_get, slice_set, refl, inl, inr, sym, subst, arith, ◌∙◌}
 use Rattle.std.specs.Prelude.{slice_index_or}
 use Rattle.std.proofs.Math.ListN.{replicate}
 use Rattle.std.specs.Cmp.{both_ways}

@@ -5,6 +5,7 @@ pub mod Answers
 pub mod Clients
 pub mod Heard
 pub mod Lives
+pub mod Ends
 pub mod Arrivals
 pub mod Moments
 pub mod Hearing

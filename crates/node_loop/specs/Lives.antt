@@ -75,11 +75,15 @@ module _ {P : Type 0} (gave took : P → Option (List ℕ)) (counts : P → Coun
   IsReadAt None (Some new) = ⊥
   IsReadAt (Some old) (Some new) = LivesThroughRead old.pipe new.pipe
 
--- there is a client, and its pipe failed: that count rose
-abbrev pub FailsAt : {P : Type 0} → (P → Counts) → Option (Client P) → Option (Client P) → Type 0
-FailsAt counts None new = ⊥
-FailsAt counts (Some old) None = ⊥
-FailsAt counts (Some old) (Some new) = Rose (counts old.pipe).failed (counts new.pipe).failed
+module _ {P : Type 0} (gave took : P → Option (List ℕ)) (counts : P → Counts) where
+  -- there is a client, and a write to its pipe failed
+  abbrev pub FailsAt : Option (Client P) → Option (Client P) → Type 0
+  FailsAt None new = ⊥
+  FailsAt (Some old) None = ⊥
+  FailsAt (Some old) (Some new) =
+      (bytes : List ℕ)
+      × Writes write.Failed bytes (took old.pipe) (took new.pipe) (counts old.pipe) (counts new.pipe)
+      × (gave new.pipe ≡ gave old.pipe)
 
 -- What waited for a client has begun to go out: nothing waited; or some of it went out; or the pipe would
 -- not take it now, and said Later. Of a client that is closed nothing is claimed.

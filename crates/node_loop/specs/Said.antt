@@ -13,6 +13,7 @@ use Rattle.node_loop.specs.declared.clients.Clients.{Clients}
 use Rattle.node_loop.specs.Answers.{answer_text}
 use Rattle.node_loop.specs.Clients.{answers_of, is_connected, IsReported}
 use Rattle.node_loop.specs.Deeds.{Became, IsLeaveOfGone, IsOfClient}
+use Rattle.node_loop.specs.Ends.{EndsAt, EndsByWrite, EndsWithin}
 use Rattle.node_loop.specs.Heard.{HeardAt, NothingHeard}
 use Rattle.node_loop.specs.Lives.{Admits, AllGoOut, AllRead, LiveOn}
 use Rattle.node_loop.specs.Moments.{Moment}
@@ -60,28 +61,49 @@ module _ {P A : Type 0} (gave : P → Option (List ℕ)) (old new : Clients P A)
   IsHeard t lines =
       (bytes : List ℕ) × HeardAt gave bytes bytes lines (get old.table t) (get new.table t)
 
--- the client had this line, and no other client had one
-abbrev pub IsLineAlone : ℕ → ClientLine → ℕ → List ClientLine → Type 0
-IsLineAlone ticket line t lines = (t ≡ ticket → lines ≡ line ∷ []) × (t ≢ ticket → lines ≡ [])
+-- the client had this line and this answer, and no other client had one
+abbrev pub IsLineAlone : ℕ → ClientLine → List ℕ → ℕ → List ClientLine → List ℕ → Type 0
+IsLineAlone ticket line answer t lines answers =
+    (t ≡ ticket → (lines ≡ line ∷ []) × (answers ≡ answer))
+    × (t ≢ ticket → (lines ≡ []) × (answers ≡ []))
+
+module _ {P A : Type 0} (gave took : P → Option (List ℕ)) (counts : P → Counts) (old new : Clients P A) where
+  -- the client was heard and had these lines, with these answers; and if it was closed, that has a cause
+  abbrev pub IsServed : ℕ → List ClientLine → List ℕ → Type 0
+  IsServed t lines answers =
+      IsHeard gave old new t lines
+      × EndsAt gave took counts (get old.table t) (answers_of old t) (get new.table t) (answers_of new t)
+      lines answers
+
+  -- the same of these bytes of one client, and of no others
+  abbrev pub IsServedAlone : ℕ → List ℕ → ℕ → List ClientLine → List ℕ → Type 0
+  IsServedAlone ticket read t lines answers =
+      IsHeardAlone gave old new ticket read t lines
+      × (t ≡ ticket → EndsWithin gave took counts read (get old.table t) (answers_of old t)
+      (get new.table t) (answers_of new t) lines answers)
+      × (t ≢ ticket → EndsWithin gave took counts [] (get old.table t) (answers_of old t)
+      (get new.table t) (answers_of new t) lines answers)
 
 module _ {P A : Type 0} (took : P → Option (List ℕ)) where
   -- By some services a node became what it is; just their deeds were noted, and only tickets of clients that
-  -- are gone left. Each client had these lines, and the answers to them, and nothing else, were said to it.
-  pub record Serves (lines : ℕ → List ClientLine → Type 0) (before after : NodeView)
+  -- are gone left. Each client had such lines and answers, and those answers, and nothing else, were said to it.
+  pub record Serves (served : ℕ → List ClientLine → List ℕ → Type 0) (before after : NodeView)
       (noted notes : NotesView) (old new : Clients P A) : Type 0 where
     pub services : List Service
     pub did : Did IsOfClient before after noted notes
     pub deeds_are : did.became.deeds ≡ deeds_of_all services
     pub gone : AreGone (is_connected new) services
     pub lines_are : (t : ℕ)
-        → lines t (map (λ asked. asked.0) (lines_of t services (state_of before)))
+        → served t (map (λ asked. asked.0) (lines_of t services (state_of before)))
+        (answers_to (site_in before) t (lines_of t services (state_of before)))
     pub said : (t : ℕ)
         → IsSaid took (answers_to (site_in before) t (lines_of t services (state_of before)))
         t old new
 
 module _ {P A : Type 0} (gave took : P → Option (List ℕ)) (counts : P → Counts) where
   -- Clients came, or none did; and then each was read, and served by these deeds of the node: its lines are
-  -- those that the bytes from its pipe ended, and the answers to them, and nothing else, were said to it.
+  -- those that the bytes from its pipe ended, and the answers to them, and nothing else, were said to it. One
+  -- that was closed has a cause: a read said that it is gone, or there was no room for an answer.
   pub record HasAnswered {before after : NodeView} (deeds : Became IsOfClient before after)
       (old new : Clients P A) : Type 0 where
     pub came : Clients P A
@@ -95,6 +117,10 @@ module _ {P A : Type 0} (gave took : P → Option (List ℕ)) (counts : P → Co
         → IsSaid took (answers_to (site_in before) t (lines_of t services (state_of before)))
         t came new
     pub reads : AllRead gave took counts came new
+    pub ends : (t : ℕ)
+        → EndsAt gave took counts (get came.table t) (answers_of came t) (get new.table t) (answers_of new t)
+        (map (λ asked. asked.0) (lines_of t services (state_of before)))
+        (answers_to (site_in before) t (lines_of t services (state_of before)))
 
   -- the first part of a turn, in which clients were answered
   pub record ListensTo (old new : Moment P) (noted notes : NotesView) (before after : Clients P A)
@@ -103,12 +129,13 @@ module _ {P A : Type 0} (gave took : P → Option (List ℕ)) (counts : P → Co
     pub answers : HasAnswered did.listens.serves before after
 
   -- Answers were written to clients: nothing was heard from anybody, and nothing more said. What waited for
-  -- a client has begun to go out, as far as its pipe took it.
+  -- a client has begun to go out, as far as its pipe took it. Who was closed had a write that failed.
   pub record WritesOut (old new : Clients P A) : Type 0 where
     pub lives : LiveOn gave took counts old new
     pub hears_nothing : NothingHeard gave old new
     pub says_nothing : NothingSaid took old new
     pub goes_out : AllGoOut counts old new
+    pub ends : (t : ℕ) → EndsByWrite gave took counts (get old.table t) (get new.table t)
 
   -- What is done between two turns: clients were answered, and then answers were written. Then only
   -- tickets of clients left that are gone.

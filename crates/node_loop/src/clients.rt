@@ -1,7 +1,7 @@
 //! The clients that are connected to a node.
 ghost use Rattle.std.specs.Prelude.{◌≡◌, ◌≢◌, ◌<◌, ◌≤◌, ◌&&◌, ◌==◌, ◌++◌, ◌∷◌, ℕ, not, true, false};
 ghost use Rattle.std.specs.Option.{option_to_list};
-ghost use Rattle.std.specs.Prelude.{IsTrue, []};
+ghost use Rattle.std.specs.Prelude.{IsTrue, None, []};
 ghost use Rattle.std.specs.Prelude.{IfOk, IfSome, OnSome, IsSome, length, slice_index_or};
 ghost use Rattle.circular_buffer.specs.Buffer.{buffer};
 ghost use Rattle.slab.specs.Slab.{get, slab_len};
@@ -38,6 +38,7 @@ pub(crate) struct Clients<P, A: Allocator + Copy = Global> {
     ghost answers_are: { length answers.items ≡ 128 },
     ghost rooms: { (t : ℕ) → t < 128
         → (slice_index_or answers.items t (buffer [] 0)).capacity ≡ 256 },
+    ghost tickets: { (t : ℕ) → 128 ≤ t → get table t ≡ None },
 }
 
 impl<P: Pipe, A: Allocator + Copy> Clients<P, A> {
@@ -140,6 +141,7 @@ impl<P: Pipe, A: Allocator + Copy> Clients<P, A> {
         ensures heard { HeardAt P.gave [] (byte ∷ []) (option_to_list result)
             (get self.old.table ticket) (get self.new.table ticket) }
         ensures others { OthersStay ticket self.old self.new }
+        ensures answers { self.new.answers ≡ self.old.answers }
         // Only a connected client has lines.
         ensures there { OnSome result (is_connected self.old ticket ≡ true) }
     {
@@ -177,7 +179,7 @@ impl<P: Pipe, A: Allocator + Copy> Clients<P, A> {
         ensures lives { IsTrue result → LivesAt P.gave P.took P.counts
             (get self.old.table ticket) (get self.new.table ticket) }
         ensures failed { result ≡ false
-            → FailsAt P.counts (get self.old.table ticket) (get self.new.table ticket) }
+            → FailsAt P.gave P.took P.counts (get self.old.table ticket) (get self.new.table ticket) }
         ensures others_stay { OthersStay ticket self.old self.new }
         ensures others { (t : ℕ) → t ≢ ticket → answers_of self.new t ≡ answers_of self.old t }
         ensures heard { NothingHeard P.gave self.old self.new }

@@ -138,7 +138,8 @@ impl<D: Doors, S: Store + Drop, A: Allocator + Copy> NodeRun<D, S, A> {
         // that its pipe gave, and then `granted` or `lost` if the tick began or ended its loan. Nothing
         // else was sent, and no byte is lost: its pipe took it, or it waits. None waits at the end without
         // a write: its pipe took some, or takes none now.
-        // Only tickets of clients that are gone leave without a line.
+        // Only tickets of clients that are gone leave without a line. A client that is no longer connected
+        // closed, or failed a read or a write, or had no room for an answer.
         ensures says { TurnSays D.P.gave D.P.took D.P.counts result.ticked now
             (moment_of self.old.node self.old.ports.items self.old.pace self.old.let_go)
             (moment_of self.new.node self.new.ports.items self.new.pace self.new.let_go)
@@ -202,7 +203,8 @@ impl<D: Doors, S: Store + Drop, A: Allocator + Copy> NodeRun<D, S, A> {
         ensures lives { StillLive D.P.gave D.P.took D.P.counts self.old.clients self.new.clients }
         // A client that stays connected was read, and sent the answers to the lines that ended in the bytes
         // that its pipe gave, and nothing else. No answer waits at the end without a write: the client's
-        // pipe took some, or takes none now. Only tickets of clients that are gone leave without a line.
+        // pipe took some, or takes none now. Only tickets of clients that are gone leave without a line. A
+        // client that is no longer connected closed, or failed a read or a write, or had no room for an answer.
         ensures says { AttendSays D.P.gave D.P.took D.P.counts now
             (moment_of self.old.node self.old.ports.items self.old.pace self.old.let_go)
             (moment_of self.new.node self.new.ports.items self.new.pace self.new.let_go)

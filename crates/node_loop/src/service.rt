@@ -9,7 +9,9 @@ ghost use Rattle.node_loop.specs.Deeds.{IsLeaveOfGone, Leaves};
 ghost use Rattle.node_loop.specs.Lives.{AllGoOut, AllRead, IsReadAt, LiveOn, OthersStay};
 ghost use Rattle.node_loop.specs.Noting.{after_all, Did, DidAct};
 ghost use Rattle.node_loop.specs.Heard.{NothingHeard};
-ghost use Rattle.node_loop.specs.Said.{IsHeard, IsHeardAlone, IsLineAlone, NothingSaid, Serves};
+ghost use Rattle.node_loop.specs.Said.{IsLineAlone, IsServed, IsServedAlone, NothingSaid, Serves};
+ghost use Rattle.node_loop.specs.Answers.{answer_text};
+ghost use Rattle.node_loop.specs.Ends.{EndsByWrite};
 
 use crate::answer::{ANSWER, answer};
 use crate::clients::{Clients, PIECE, PLACES};
@@ -80,7 +82,8 @@ pub(crate) fn serve_all<P: Pipe, A: Allocator + Copy>(
 ) -> bool
     // A client whose read says that it is gone is no longer connected.
     ensures lives { LiveOn P.gave P.took P.counts clients.old clients.new }
-    ensures serves { Serves P.took (IsHeard P.gave clients.old clients.new)
+    // A client that is no longer connected is gone by what a read said, or had no room for an answer.
+    ensures serves { Serves P.took (IsServed P.gave P.took P.counts clients.old clients.new)
         node.old node.new notes.old notes.new clients.old clients.new }
     // Each client that is still there was read.
     ensures reads { AllRead P.gave P.took P.counts clients.old clients.new }
@@ -106,7 +109,7 @@ fn serve<P: Pipe, A: Allocator + Copy>(
     ticket: u16,
 ) -> bool
     ensures lives { LiveOn P.gave P.took P.counts clients.old clients.new }
-    ensures serves { Serves P.took (IsHeard P.gave clients.old clients.new)
+    ensures serves { Serves P.took (IsServed P.gave P.took P.counts clients.old clients.new)
         node.old node.new notes.old notes.new clients.old clients.new }
     // It was read, if it is still there.
     ensures reads { IsReadAt P.gave P.took P.counts (get clients.old.table ticket)
@@ -140,8 +143,9 @@ fn serve_bytes<P: Pipe, A: Allocator + Copy>(
     bytes: &[u8],
 )
     ensures lives { LiveOn P.gave P.took P.counts clients.old clients.new }
-    // The client is served by its lines, and no other is.
-    ensures serves { Serves P.took (IsHeardAlone P.gave clients.old clients.new ticket bytes.now)
+    // The client is served by its lines, and no other is. It is closed only for lack of room.
+    ensures serves { Serves P.took
+        (IsServedAlone P.gave P.took P.counts clients.old clients.new ticket bytes.now)
         node.old node.new notes.old notes.new clients.old clients.new }
 {
     for byte in bytes {
@@ -161,8 +165,11 @@ fn serve_line<P: Pipe, A: Allocator + Copy>(
 )
     ensures lives { LiveOn P.gave P.took P.counts clients.old clients.new }
     // The client is answered, and no other is.
-    ensures serves { Serves P.took (IsLineAlone ticket line)
+    ensures serves { Serves P.took
+        (IsLineAlone ticket line (answer_text (site_in node.old) ticket line (state_of node.old)))
         node.old node.new notes.old notes.new clients.old clients.new }
+    ensures reported { Reports (answer_text (site_in node.old) ticket line (state_of node.old))
+        ticket clients.old clients.new }
     ensures heard { NothingHeard P.gave clients.old clients.new }
 {
     let mut text = [0; ANSWER];
@@ -268,6 +275,9 @@ pub(crate) fn write_all<P: Pipe, A: Allocator + Copy>(
     ensures nothing { NothingSaid P.took clients.old clients.new }
     ensures heard { NothingHeard P.gave clients.old clients.new }
     ensures out { AllGoOut P.counts clients.old clients.new }
+    // A client that is no longer connected had a write that failed.
+    ensures ends { (t : ℕ) → EndsByWrite P.gave P.took P.counts
+        (get clients.old.table t) (get clients.new.table t) }
 {
     if clients.is_empty() {
         return;

@@ -5,6 +5,7 @@ ghost use Rattle.std.specs.Prelude.{◌≢◌, ℕ};
 ghost use Rattle.data_link.specs.Port.{frame_of};
 ghost use Rattle.pace.specs.Plans.{port_of};
 ghost use Rattle.node_core.specs.View.{site_in, state_of};
+ghost use Rattle.slab.specs.Slab.{get};
 ghost use Rattle.node_loop.specs.Moments.{AtBoth};
 ghost use Rattle.node_loop.specs.Speaking.{SpeaksTo, sent_if};
 
@@ -25,6 +26,7 @@ impl<D: Doors, S: Store + Drop, A: Allocator + Copy> NodeRun<D, S, A> {
     ghost use Rattle.node_loop.specs.Clients.{AreConnected, is_connected, IsReported};
     ghost use Rattle.node_loop.specs.Deeds.{IsLeaveOfGone};
     ghost use Rattle.node_loop.specs.Noting.{after_all, sends_if, DidAct, DidSpeak};
+    ghost use Rattle.node_loop.specs.Ends.{EndsByWrite};
     ghost use Rattle.node_loop.specs.Heard.{NothingHeard};
     ghost use Rattle.node_loop.specs.Lives.{AllGoOut, LiveOn};
     ghost use Rattle.node_loop.specs.Remembering.{Remembers};
@@ -68,6 +70,8 @@ impl<D: Doors, S: Store + Drop, A: Allocator + Copy> NodeRun<D, S, A> {
         ensures nothing { NothingSaid D.P.took self.old.clients self.new.clients }
         ensures heard { NothingHeard D.P.gave self.old.clients self.new.clients }
         ensures out { AllGoOut D.P.counts self.old.clients self.new.clients }
+        ensures ends { (t : ℕ) → EndsByWrite D.P.gave D.P.took D.P.counts
+            (get self.old.clients.table t) (get self.new.clients.table t) }
         ensures rest { (self.new.net ≡ self.old.net) × (self.new.turns ≡ self.old.turns)
             × (self.new.store ≡ self.old.store) }
     {

@@ -1,20 +1,21 @@
 use Rattle.std.proofs.Common.{◌∙◌, arith, refl, sym}
 use Rattle.std.proofs.lemmas.Bool.{eqb-true}
 use Rattle.slab.specs.Slab.{get}
-use Rattle.node_loop.specs.Said.{IsHeard}
+use Rattle.node_loop.specs.Said.{IsServed}
 use Rattle.node_loop.proofs.BeingRead.{all-of_none, read-gone, read-next, read-start}
 use Rattle.node_loop.proofs.Heard.{unheard-same}
 use Rattle.node_loop.proofs.Lives.{stay, live-join, nobody}
 use Rattle.node_loop.proofs.Saying.{nothing-same}
-use Rattle.node_loop.proofs.Serving.{heard-both, heard-none, serves-join, serves-none}
+use Rattle.node_loop.proofs.Served.{served-both, served-none}
+use Rattle.node_loop.proofs.Serving.{serves-join, serves-none}
 use Rattle.node_loop.proofs.service.serve_all.Goals.{then-contains, else-contains}
 use Rattle.node_loop.proofs.service.serve_all.Goals as goal
 
 pub loop-ticket-init : goal.loop-ticket-init
 loop-ticket-init g c =
     let clients = c.args.clients.now in (
-      serves-none g.P.Pipe.took (IsHeard g.P.Pipe.gave clients clients) c.args.node.now c.args.notes.now clients clients
-          (heard-none g.P.Pipe.gave clients clients (unheard-same g.P.Pipe.gave clients clients refl)) (nothing-same g.P.Pipe.took clients clients refl refl),
+      serves-none g.P.Pipe.took (IsServed g.P.Pipe.gave g.P.Pipe.took g.P.Pipe.counts clients clients) c.args.node.now c.args.notes.now clients clients
+          (served-none g.P.Pipe.gave g.P.Pipe.took g.P.Pipe.counts clients clients (unheard-same g.P.Pipe.gave clients clients refl) (λ t. refl) refl) (nothing-same g.P.Pipe.took clients clients refl refl),
       stay g.P.Pipe.gave g.P.Pipe.took g.P.Pipe.counts clients clients refl,
       read-start g.P.Pipe.gave g.P.Pipe.took g.P.Pipe.counts clients,
     )
@@ -28,7 +29,8 @@ loop-ticket-preserved g c =
       | then-contains w ↦
           let new = w.serve-has_more.new.clients in
           rw (w.node-is, w.notes-is, w.clients-is) (
-            serves-join g.P.Pipe.took (IsHeard g.P.Pipe.gave old mid) (IsHeard g.P.Pipe.gave mid new) (IsHeard g.P.Pipe.gave old new) (heard-both g.P.Pipe.gave old mid new)
+            serves-join g.P.Pipe.took (IsServed g.P.Pipe.gave g.P.Pipe.took g.P.Pipe.counts old mid) (IsServed g.P.Pipe.gave g.P.Pipe.took g.P.Pipe.counts mid new) (IsServed g.P.Pipe.gave g.P.Pipe.took g.P.Pipe.counts old new)
+                (served-both g.P.Pipe.gave g.P.Pipe.took g.P.Pipe.counts old mid new c.loop-ticket.invariant.1)
                 c.args.node.now c.loop-ticket.node w.serve-has_more.new.node c.args.notes.now c.loop-ticket.notes w.serve-has_more.new.notes old mid new
                 c.loop-ticket.invariant.0 w.serve-has_more.ensures.serves,
             live-join g.P.Pipe.gave g.P.Pipe.took g.P.Pipe.counts old mid new c.loop-ticket.invariant.1 w.serve-has_more.ensures.lives,
@@ -46,8 +48,8 @@ loop-ticket-preserved g c =
 pub returns-then-is_empty-clause-serves : goal.returns-then-is_empty-clause-serves
 returns-then-is_empty-clause-serves g c =
     let clients = c.args.clients.now in
-    serves-none g.P.Pipe.took (IsHeard g.P.Pipe.gave clients clients) c.args.node.now c.args.notes.now clients clients
-    (heard-none g.P.Pipe.gave clients clients (unheard-same g.P.Pipe.gave clients clients refl)) (nothing-same g.P.Pipe.took clients clients refl refl)
+    serves-none g.P.Pipe.took (IsServed g.P.Pipe.gave g.P.Pipe.took g.P.Pipe.counts clients clients) c.args.node.now c.args.notes.now clients clients
+    (served-none g.P.Pipe.gave g.P.Pipe.took g.P.Pipe.counts clients clients (unheard-same g.P.Pipe.gave clients clients refl) (λ t. refl) refl) (nothing-same g.P.Pipe.took clients clients refl refl)
 
 pub returns-then-is_empty-clause-reads : goal.returns-then-is_empty-clause-reads
 returns-then-is_empty-clause-reads g c = all-of_none g.P.Pipe.gave g.P.Pipe.took g.P.Pipe.counts c.args.clients.now (eqb-true _ 0 (sym c.is_empty.ensures ∙ c.if-is_empty.true))

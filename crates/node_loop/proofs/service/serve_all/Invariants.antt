@@ -1,9 +1,9 @@
 use Rattle.node_loop.specs.Lives.{LiveOn}
-use Rattle.node_loop.specs.Said.{IsHeard, Serves}
+use Rattle.node_loop.specs.Said.{IsServed, Serves}
 use Rattle.node_loop.proofs.BeingRead.{ReadBelow}
 use Rattle.node_loop.proofs.service.serve_all.Given as goal
 
 abbrev pub invariant-loop-ticket : goal.invariant-loop-ticket
 invariant-loop-ticket g l =
-    Serves g.P.Pipe.took (IsHeard g.P.Pipe.gave l.fn.clients l.clients) l.fn.node l.node l.fn.notes l.notes l.fn.clients l.clients
+    Serves g.P.Pipe.took (IsServed g.P.Pipe.gave g.P.Pipe.took g.P.Pipe.counts l.fn.clients l.clients) l.fn.node l.node l.fn.notes l.notes l.fn.clients l.clients
     × LiveOn g.P.Pipe.gave g.P.Pipe.took g.P.Pipe.counts l.fn.clients l.clients × ReadBelow g.P.Pipe.gave g.P.Pipe.took g.P.Pipe.counts l.ticket l.fn.clients l.clients

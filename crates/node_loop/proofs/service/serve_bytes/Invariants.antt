@@ -1,9 +1,9 @@
 use Rattle.std.proofs.Common.{take}
 use Rattle.node_loop.specs.Lives.{LiveOn}
-use Rattle.node_loop.specs.Said.{IsHeardAlone, Serves}
+use Rattle.node_loop.specs.Said.{IsServedAlone, Serves}
 use Rattle.node_loop.proofs.service.serve_bytes.Given as goal
 
 abbrev pub invariant-loop-byte : goal.invariant-loop-byte
 invariant-loop-byte g l =
-    Serves g.P.Pipe.took (IsHeardAlone g.P.Pipe.gave l.fn.clients l.clients l.fn.ticket (take l.byte-index l.bytes)) l.fn.node l.node l.fn.notes l.notes l.fn.clients l.clients
+    Serves g.P.Pipe.took (IsServedAlone g.P.Pipe.gave g.P.Pipe.took g.P.Pipe.counts l.fn.clients l.clients l.fn.ticket (take l.byte-index l.bytes)) l.fn.node l.node l.fn.notes l.notes l.fn.clients l.clients
     × LiveOn g.P.Pipe.gave g.P.Pipe.took g.P.Pipe.counts l.fn.clients l.clients

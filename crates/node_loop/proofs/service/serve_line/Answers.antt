@@ -1,11 +1,11 @@
 use Rattle.std.specs.Prelude.{IsTrue}
-use Rattle.std.proofs.Common.{◌≡◌, ◌∙◌, ℕ, [], take, ap, arith, refl, rules, subst, sym}
+use Rattle.std.proofs.Common.{◌≡◌, ◌∙◌, ℕ, [], take, ap, append-nil, arith, inl, refl, rules, subst, sym}
 use Rattle.lock_desk.specs.Desk.{is_number}
 use Rattle.lock_desk.specs.declared.client_line.ClientLine.{ClientLine}
 use Rattle.lock_desk.specs.declared.client_line.ClientLine.TheVariants.{Lock, Unlock, Status, Unknown}
 use Rattle.node_core.specs.View.{NodeView, site_in, state_of}
 use Rattle.node_loop.specs.Answers.{after_line, answer_text}
-use Rattle.node_loop.specs.Clients.{is_connected}
+use Rattle.node_loop.specs.Clients.{answers_of, is_connected, Reports}
 use Rattle.node_loop.specs.Deeds.{IsLeaveOfGone, IsOfClient, Asks, Leaves}
 use Rattle.node_loop.specs.Noting.{after_all, deeds_of_line, Did}
 use Rattle.node_loop.specs.NotesView.{NotesView}
@@ -54,3 +54,14 @@ returns-else-count-gt0-clause-lives g c = stay g.P.Pipe.gave g.P.Pipe.took g.P.P
 
 pub returns-else-count-gt0-clause-heard : goal.returns-else-count-gt0-clause-heard
 returns-else-count-gt0-clause-heard g c = unheard-same g.P.Pipe.gave c.args.clients.now c.args.clients.now refl
+
+pub returns-then-count-gt0-clause-reported : goal.returns-then-count-gt0-clause-reported
+returns-then-count-gt0-clause-reported g c = subst (λ text. Reports text c.args.ticket c.args.clients.now c.reply.new.clients) c.answer-count.ensures.text c.reply.ensures.reported
+
+pub returns-else-count-gt0-clause-reported : goal.returns-else-count-gt0-clause-reported
+returns-else-count-gt0-clause-reported g c =
+    let clients = c.args.clients.now in
+    let t = c.args.ticket in
+    let none : c.answer-count.result ≡ 0 = (let few = c.if-count-gt0.false in omega (arith, few)) in
+    let silent : [] ≡ answer_text (site_in c.args.node.now) t c.args.line (state_of c.args.node.now) = sym (ap (λ n. take n c.answer-count.new.text) none) ∙ c.answer-count.ensures.text in
+    subst (λ text. Reports text t clients clients) silent (inl (sym (append-nil (answers_of clients t)), refl), λ u o. (refl, refl))

@@ -8,12 +8,21 @@ use Rattle.node_loop.proofs.Lives.{stay, live-one, live-join, live-gone, others-
 use Rattle.node_loop.proofs.GoingOut.{below-all, below-next, below-start, out-gone, out-of_none}
 use Rattle.node_loop.proofs.Heard.{unheard-gone, unheard-join, unheard-same}
 use Rattle.node_loop.proofs.Saying.{answers-same, nothing-gone, nothing-join, nothing-same}
+use Rattle.node_loop.proofs.Served.{ends-failed, ends-join, ends-same}
 use Rattle.node_loop.proofs.Serving.{did-later, stays-gone}
 use Rattle.node_loop.proofs.service.write_all.Goals.{then-not-write, else-not-write}
 use Rattle.node_loop.proofs.service.write_all.Goals as goal
 
 pub loop-ticket-init : goal.loop-ticket-init
-loop-ticket-init g c = (did-none (IsLeaveOfGone (is_connected c.args.clients.now)) c.args.node.now c.args.notes.now, λ were. were, stay g.P.Pipe.gave g.P.Pipe.took g.P.Pipe.counts c.args.clients.now c.args.clients.now refl, nothing-same g.P.Pipe.took c.args.clients.now c.args.clients.now refl refl, below-start g.P.Pipe.counts c.args.clients.now, unheard-same g.P.Pipe.gave c.args.clients.now c.args.clients.now refl)
+loop-ticket-init g c = (
+  did-none (IsLeaveOfGone (is_connected c.args.clients.now)) c.args.node.now c.args.notes.now,
+  λ were. were,
+  stay g.P.Pipe.gave g.P.Pipe.took g.P.Pipe.counts c.args.clients.now c.args.clients.now refl,
+  nothing-same g.P.Pipe.took c.args.clients.now c.args.clients.now refl refl,
+  below-start g.P.Pipe.counts c.args.clients.now,
+  unheard-same g.P.Pipe.gave c.args.clients.now c.args.clients.now refl,
+  ends-same g.P.Pipe.gave g.P.Pipe.took g.P.Pipe.counts c.args.clients.now c.args.clients.now (λ t. refl),
+)
 
 pub loop-ticket-preserved : goal.loop-ticket-preserved
 loop-ticket-preserved g c =
@@ -48,6 +57,10 @@ loop-ticket-preserved g c =
         unheard-join g.P.Pipe.gave old mid w.dismiss.new.clients before.5
             (unheard-gone g.P.Pipe.gave t mid w.dismiss.new.clients (others-join t mid written w.dismiss.new.clients c.write.ensures.others_stay w.dismiss.ensures.others)
             (closed-gone t written w.dismiss.new.clients w.dismiss.ensures.closed)),
+        ends-join g.P.Pipe.gave g.P.Pipe.took g.P.Pipe.counts old mid w.dismiss.new.clients before.2 before.6
+            (ends-failed g.P.Pipe.gave g.P.Pipe.took g.P.Pipe.counts t mid written w.dismiss.new.clients (w.if-not-write.ensures.failed refl)
+            (others-join t mid written w.dismiss.new.clients c.write.ensures.others_stay w.dismiss.ensures.others)
+            (closed-gone t written w.dismiss.new.clients w.dismiss.ensures.closed)),
       )
       | else-not-write w ↦ rw (w.node-is, w.notes-is, w.clients-is) (
         did-later (is_connected mid) (is_connected written) (λ u. stays-gone g.P.Pipe.took [] u mid written (w.if-not-write.ensures.nothing refl u))
@@ -57,6 +70,7 @@ loop-ticket-preserved g c =
         nothing-join g.P.Pipe.took old mid written before.3 (w.if-not-write.ensures.nothing refl),
         below-next g.P.Pipe.counts t old mid written before.4 c.write.ensures.others_stay c.write.ensures.others (w.if-not-write.ensures.out refl),
         unheard-join g.P.Pipe.gave old mid written before.5 c.write.ensures.heard,
+        ends-join g.P.Pipe.gave g.P.Pipe.took g.P.Pipe.counts old mid written before.2 before.6 (ends-same g.P.Pipe.gave g.P.Pipe.took g.P.Pipe.counts mid written c.write.ensures.same),
       )
     ]
 
@@ -71,3 +85,6 @@ returns-clause-out g c = below-all g.P.Pipe.counts c.loop-ticket.ticket c.args.c
 
 pub returns-then-is_empty-clause-heard : goal.returns-then-is_empty-clause-heard
 returns-then-is_empty-clause-heard g c = unheard-same g.P.Pipe.gave c.args.clients.now c.args.clients.now refl
+
+pub returns-then-is_empty-clause-ends : goal.returns-then-is_empty-clause-ends
+returns-then-is_empty-clause-ends g c = ends-same g.P.Pipe.gave g.P.Pipe.took g.P.Pipe.counts c.args.clients.now c.args.clients.now (λ t. refl)

@@ -5,6 +5,7 @@ use Rattle.node_loop.specs.Lives.{LiveOn}
 use Rattle.node_loop.specs.Noting.{Did}
 use Rattle.node_loop.specs.Said.{NothingSaid}
 use Rattle.node_loop.proofs.GoingOut.{GoOutBelow}
+use Rattle.node_loop.proofs.Served.{AllEndByWrite}
 use Rattle.node_loop.proofs.service.write_all.Given as goal
 
 abbrev pub invariant-loop-ticket : goal.invariant-loop-ticket
@@ -12,3 +13,4 @@ invariant-loop-ticket g l =
     Did (IsLeaveOfGone (is_connected l.clients)) l.fn.node l.node l.fn.notes l.notes × (AreConnected l.fn.clients l.fn.node → AreConnected l.clients l.node)
     × LiveOn g.P.Pipe.gave g.P.Pipe.took g.P.Pipe.counts l.fn.clients l.clients × NothingSaid g.P.Pipe.took l.fn.clients l.clients
     × GoOutBelow g.P.Pipe.counts l.ticket l.fn.clients l.clients × NothingHeard g.P.Pipe.gave l.fn.clients l.clients
+    × AllEndByWrite g.P.Pipe.gave g.P.Pipe.took g.P.Pipe.counts l.fn.clients l.clients

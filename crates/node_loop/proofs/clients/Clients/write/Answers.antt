@@ -40,7 +40,7 @@ returns-in-Failed-clause-failed g c _ =
     let client = c.in-Some.client.now in
     let wrote : Writes write.Failed [] (g.P.Pipe.took client.pipe) (g.P.Pipe.took c.try_write.new.self) (g.P.Pipe.counts client.pipe) (g.P.Pipe.counts c.try_write.new.self) =
     rw c.in-Failed.is at c.try_write.ensures.writes in
-    failed-here g.P.Pipe.counts c.args.self.now.table c.args.ticket client (record { pipe = c.try_write.new.self; reader = client.reader }) c.in-Some.ensures.value wrote.2
+    failed-here g.P.Pipe.gave g.P.Pipe.took g.P.Pipe.counts c.args.self.now.table c.args.ticket client (record { pipe = c.try_write.new.self; reader = client.reader }) c.in-Some.ensures.value ([], wrote, c.try_write.ensures.gave)
 
 pub returns-then-key-ge-PLACES-clause-out : goal.returns-then-key-ge-PLACES-clause-out
 returns-then-key-ge-PLACES-clause-out g c _ =

@@ -57,7 +57,7 @@ returns-clause-says g c = record {
   acted = c.tick-ticked.new.self.clients;
   answers = c.listen.ensures.listens.answers;
   reported = c.tick-ticked.ensures.reported;
-  writes = record { lives = c.speak.ensures.lives; hears_nothing = c.speak.ensures.heard; says_nothing = c.speak.ensures.nothing; goes_out = c.speak.ensures.out };
+  writes = record { lives = c.speak.ensures.lives; hears_nothing = c.speak.ensures.heard; says_nothing = c.speak.ensures.nothing; goes_out = c.speak.ensures.out; ends = c.speak.ensures.ends };
   gone = c.tick-ticked.ensures.node.kinds;
   gone_at_last = c.speak.ensures.spoken.kinds;
 }

@@ -41,6 +41,6 @@ returns-clause-says g c = record {
   did = returns-clause-noted g c;
   heard = c.listen.new.self.clients;
   answers = c.listen.ensures.listens.answers;
-  writes = record { lives = c.speak.ensures.lives; hears_nothing = c.speak.ensures.heard; says_nothing = c.speak.ensures.nothing; goes_out = c.speak.ensures.out };
+  writes = record { lives = c.speak.ensures.lives; hears_nothing = c.speak.ensures.heard; says_nothing = c.speak.ensures.nothing; goes_out = c.speak.ensures.out; ends = c.speak.ensures.ends };
   gone = c.speak.ensures.spoken.kinds;
 }

@@ -1,9 +1,10 @@
-use Rattle.std.proofs.Common.{◌≡◌, ◌∙◌, ◌++◌, ℕ, List, [], append-nil, refl, subst, sym}
+use Rattle.std.proofs.Common.{◌≡◌, ◌∙◌, ◌++◌, ℕ, List, [], refl, subst, sym}
 use Rattle.lock_desk.specs.declared.client_line.ClientLine.{ClientLine}
 use Rattle.node_loop.specs.Hearing.{AreWired}
 use Rattle.node_loop.specs.Lives.{Admits, AllRead, LiveOn}
 use Rattle.node_loop.specs.Noting.{DidHear, emptied}
-use Rattle.node_loop.specs.Said.{IsHeard, Serves}
+use Rattle.node_loop.specs.Said.{IsServed, Serves}
+use Rattle.node_loop.proofs.Ends.{and-nothing}
 use Rattle.node_loop.proofs.Hearing.{wired-join}
 use Rattle.node_loop.proofs.Lives.{still-live}
 use Rattle.node_loop.proofs.Noting.{grown}
@@ -28,13 +29,16 @@ returns-clause-listens g c =
     let same = c.pull_all.ensures.rest.3 ∙ (c.connect.ensures.rest.3 ∙ c.hear_hellos.ensures.rest.3) in
     let hears = subst (λ x. DidHear g.D.P.Pipe.gave g.D.P.Pipe.took g.D.P.Pipe.counts x heard wired c.pull_all.new.self.ports.items start_notes pulled) before
     (subst (λ n. DidHear g.D.P.Pipe.gave g.D.P.Pipe.took g.D.P.Pipe.counts c.connect.new.self.node heard wired c.pull_all.new.self.ports.items n pulled) c.begin.ensures c.pull_all.ensures.hears) in
-    let first : Serves g.D.P.Pipe.took (IsHeard g.D.P.Pipe.gave admitted answered) heard served pulled c.serve_all.new.notes admitted answered =
-    subst (λ x. Serves g.D.P.Pipe.took (IsHeard g.D.P.Pipe.gave x answered) heard served pulled c.serve_all.new.notes x answered) same c.serve_all.ensures.serves in
-    let none : ℕ → List ClientLine → Type 0 = λ t lines. lines ≡ [] in
-    let serves = serves-join g.D.P.Pipe.took (IsHeard g.D.P.Pipe.gave admitted answered) none (IsHeard g.D.P.Pipe.gave admitted answered)
-    (λ t xs ys f e. subst (λ lines. IsHeard g.D.P.Pipe.gave admitted answered t lines) (sym (append-nil xs) ∙ sym (subst (λ zs. xs ++ zs ≡ xs ++ []) (sym e) refl)) f)
+    let first : Serves g.D.P.Pipe.took (IsServed g.D.P.Pipe.gave g.D.P.Pipe.took g.D.P.Pipe.counts admitted answered) heard served pulled c.serve_all.new.notes admitted answered =
+    subst (λ x. Serves g.D.P.Pipe.took (IsServed g.D.P.Pipe.gave g.D.P.Pipe.took g.D.P.Pipe.counts x answered) heard served pulled c.serve_all.new.notes x answered) same c.serve_all.ensures.serves in
+    let none : ℕ → List ClientLine → List ℕ → Type 0 = λ t lines answers. (lines ≡ []) × (answers ≡ []) in
+    let serves = serves-join g.D.P.Pipe.took (IsServed g.D.P.Pipe.gave g.D.P.Pipe.took g.D.P.Pipe.counts admitted answered) none
+    (IsServed g.D.P.Pipe.gave g.D.P.Pipe.took g.D.P.Pipe.counts admitted answered)
+    (λ t xs ys ps qs f e.
+    subst (λ lines. IsServed g.D.P.Pipe.gave g.D.P.Pipe.took g.D.P.Pipe.counts admitted answered t lines (ps ++ qs)) (sym (and-nothing xs ys e.0))
+    (subst (λ answers. IsServed g.D.P.Pipe.gave g.D.P.Pipe.took g.D.P.Pipe.counts admitted answered t xs answers) (sym (and-nothing ps qs e.1)) f))
     heard served c.leave_absent.new.node pulled c.serve_all.new.notes last admitted answered answered first
-    (serves-goes g.D.P.Pipe.took none served c.leave_absent.new.node c.serve_all.new.notes last answered answered (λ t. refl) (nothing-same g.D.P.Pipe.took answered answered refl refl) c.leave_absent.ensures.node) in
+    (serves-goes g.D.P.Pipe.took none served c.leave_absent.new.node c.serve_all.new.notes last answered answered (λ t. (refl, refl)) (nothing-same g.D.P.Pipe.took answered answered refl refl) c.leave_absent.ensures.node) in
     record {
       did = record {
         listens = record {
@@ -57,7 +61,8 @@ returns-clause-listens g c =
         services = serves.services;
         deeds_are = serves.deeds_are;
         gone = serves.gone;
-        heard = serves.lines_are;
+        heard = λ t. (serves.lines_are t).0;
+        ends = λ t. (serves.lines_are t).1;
         said = serves.said;
         reads = subst (λ x. AllRead g.D.P.Pipe.gave g.D.P.Pipe.took g.D.P.Pipe.counts x answered) same c.serve_all.ensures.reads;
       };

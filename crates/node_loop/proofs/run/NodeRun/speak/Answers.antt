@@ -8,6 +8,7 @@ use Rattle.node_loop.specs.Deeds.{Deed, IsLeaveOfGone}
 use Rattle.node_loop.specs.Noting.{after_all, sends_if, Did}
 use Rattle.node_loop.proofs.Became.{are-leaves}
 use Rattle.node_loop.proofs.Noting.{grown}
+use Rattle.node_loop.proofs.Served.{AllEndByWrite}
 use Rattle.node_loop.proofs.Speaking.{spoken-start, spoken-next, spoken-end}
 use Rattle.node_loop.specs.Said.{NothingSaid}
 use Rattle.node_loop.proofs.run.NodeRun.speak.Goals as goal
@@ -68,3 +69,7 @@ returns-clause-out g c = subst (λ x. AllGoOut g.D.P.Pipe.counts x c.write_all.n
 
 pub returns-clause-heard : goal.returns-clause-heard
 returns-clause-heard g c = subst (λ x. NothingHeard g.D.P.Pipe.gave x c.write_all.new.clients) c.loop-id.invariant.4 c.write_all.ensures.heard
+
+pub returns-clause-ends : goal.returns-clause-ends
+returns-clause-ends g c =
+    subst (λ x. AllEndByWrite g.D.P.Pipe.gave g.D.P.Pipe.took g.D.P.Pipe.counts x c.write_all.new.clients) c.loop-id.invariant.4 c.write_all.ensures.ends
