@@ -4,14 +4,14 @@ ghost use Rattle.slab.specs.Slab.{get};
 ghost use Rattle.lock_desk.specs.Desk.{after_leave, is_ticket};
 ghost use Rattle.node_core.specs.Step.{ticked};
 ghost use Rattle.node_core.specs.View.{site_in, state_of};
+ghost use Rattle.node_loop.specs.Answers.{answer_text};
 ghost use Rattle.node_loop.specs.Clients.{AreConnected, is_connected, IsReported, Reports};
 ghost use Rattle.node_loop.specs.Deeds.{IsLeaveOfGone, Leaves};
+ghost use Rattle.node_loop.specs.Ends.{EndsByWrite};
 ghost use Rattle.node_loop.specs.Lives.{AllGoOut, AllRead, IsReadAt, LiveOn, OthersStay};
 ghost use Rattle.node_loop.specs.Noting.{after_all, Did, DidAct};
 ghost use Rattle.node_loop.specs.Heard.{NothingHeard};
 ghost use Rattle.node_loop.specs.Said.{IsLineAlone, IsServed, IsServedAlone, NothingSaid, Serves};
-ghost use Rattle.node_loop.specs.Answers.{answer_text};
-ghost use Rattle.node_loop.specs.Ends.{EndsByWrite};
 
 use crate::answer::{ANSWER, answer};
 use crate::clients::{Clients, PIECE, PLACES};
