@@ -58,12 +58,29 @@ fn bound_arg<'a>(
     let id = arg.get_id();
     for (needy, other) in grammar.needs {
         if *needy == id {
-            arg = arg.requires_arg(other)?;
+            arg = beside(arg.requires_arg(other)?, other, grammar)?;
         }
     }
     for (excluded, other) in grammar.excludes {
         if *excluded == id {
             arg = arg.conflicts_with(other)?;
+        }
+    }
+    Ok(arg)
+}
+
+/// A parameter that needs this other one: what excludes that excludes this one, too. For the parser asks
+/// for no parameter that is excluded.
+fn beside<'a>(
+    mut arg: Arg<'a>,
+    needed: &'a str,
+    grammar: &Grammar<'a>,
+) -> Result<Arg<'a>, AllocError> {
+    for (excluded, other) in grammar.excludes {
+        if *excluded == needed {
+            arg = arg.conflicts_with(other)?;
+        } else if *other == needed {
+            arg = arg.conflicts_with(excluded)?;
         }
     }
     Ok(arg)

@@ -38,15 +38,7 @@ const DRAW: Grammar<'static> = Grammar {
         ),
     ],
     needs: &[("seconds", "film"), ("page", "film")],
-    // The parser does not ask for an option that is excluded, so what excludes a film excludes its options.
-    excludes: &[
-        ("film", "columns"),
-        ("film", "layers"),
-        ("seconds", "columns"),
-        ("seconds", "layers"),
-        ("page", "columns"),
-        ("page", "layers"),
-    ],
+    excludes: &[("film", "columns"), ("film", "layers")],
     choice: None,
 };
 

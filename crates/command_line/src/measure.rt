@@ -56,11 +56,6 @@ const MEASURE: Grammar<'static> = Grammar {
         ("schedule", "random"),
         ("csv", "table"),
         ("csv", "json"),
-        // The parser does not ask for an option that is excluded.
-        ("share", "rounds"),
-        ("share", "random"),
-        ("plot", "table"),
-        ("plot", "json"),
     ],
     choice: None,
 };

@@ -53,10 +53,6 @@ const STATUS: Grammar<'static> = Grammar {
         ("premises", "links"),
         ("links", "json"),
         ("links", "watch"),
-        // The parser does not ask for an option that is excluded.
-        ("every", "check"),
-        ("every", "premises"),
-        ("every", "links"),
     ],
     choice: None,
 };
