@@ -17,7 +17,7 @@ impl Draws for Film {
         } else {
             film_text(alloc, net, source, self.0)
         };
-        let film = film.map_err(simulation_fault)?;
+        let film = film.map_err(|fault| simulation_fault(fault))?;
         Ok(Drawn {
             text: film.text,
             refused: film.refused,

@@ -63,7 +63,7 @@ impl Draws for Wanted {
         } else {
             record(alloc, net, source, columns, self.window)
         };
-        let recording = recording.map_err(simulation_fault)?;
+        let recording = recording.map_err(|fault| simulation_fault(fault))?;
         match picture(alloc, net, &recording) {
             Ok(text) => Ok(Drawn {
                 text,
