@@ -1,23 +1,21 @@
-//! All commands of `tokentree`.
+//! What each command line does.
 use crate::{cut, draw, gather, junk, measure, schedule, scramble, simulate, threads, worst};
 use clap::{ArgMatches, Command};
-use command_grammar::Program;
-use service_line::program::{ABOUT, Runtime, VERSION};
+use command_grammar::{Program, parser};
+use service_line::program::{ABOUT, NAME, Runtime, VERSION};
 use service_line::refusal::Refusal;
-use service_line::{Commands, Service, bound, lock, network, node, status, stop, up};
+use service_line::{bound, ends, is_of_service, lock, matches_of, network, node, status, stop, up};
 use std::alloc::{AllocError, Global};
 use std::convert::AsStr;
 use std::process::ExitCode;
 
-/// Does what the words say, after the first, the program's name, and returns the exit status.
-/// Shows progress if standard error is a terminal.
-pub fn run_words<R: Runtime, S: AsStr>(rt: &R, words: &[S], on_terminal: bool) -> ExitCode {
-    service_line::run_words(All, rt, words, on_terminal)
-}
-
-/// All commands.
-#[derive(Clone, Copy)]
-struct All;
+/// The program `tokentree`.
+const TOKENTREE: Program<'static> = Program {
+    name: NAME,
+    about: ABOUT,
+    help: HELP,
+    version: VERSION,
+};
 
 /// What follows the commands in its help.
 const HELP: &str = "\
@@ -35,43 +33,42 @@ Statuses: 0 done; 1 a file, memory or standard output failed, and a line on
 standard error says which; 2 invalid arguments; 3 simulate is done, and refused
 some lines of its events.";
 
-impl Commands for All {
-    fn program(self) -> Program<'static> {
-        Program {
-            name: "tokentree",
-            about: ABOUT,
-            help: HELP,
-            version: VERSION,
-        }
+/// Does what the words say, after the first, the program's name, and returns the exit status.
+/// Shows progress if standard error is a terminal.
+pub fn run_words<R: Runtime, S: AsStr>(rt: &R, words: &[S], on_terminal: bool) -> ExitCode {
+    if is_of_service(words) {
+        return service_line::run_words(rt, words);
     }
+    let matches = match matches_of(rt, words, program_parser(rt.alloc())) {
+        Ok(matches) => matches,
+        Err(status) => return status,
+    };
+    let done = act(rt, &matches, on_terminal);
+    ends(rt, done, &matches, false)
+}
 
-    fn add_to<'a>(self, parser: Command<'a>, alloc: Global) -> Result<Command<'a>, AllocError> {
-        let parser = with_lock(parser, alloc)?;
-        with_experiments(with_nodes(parser, alloc)?, alloc)
+/// Does what the words of a command say, and returns the exit status.
+fn act<R: Runtime>(rt: &R, matches: &ArgMatches, on_terminal: bool) -> Result<ExitCode, Refusal> {
+    let (name, given) = matches.subcommand().ok_or(Refusal::NoCommand)?;
+    match name {
+        "simulate" => simulate::run(rt, given),
+        "schedule" => schedule::run(rt, given),
+        "measure" => measure::run(rt, given, on_terminal),
+        "worst" => worst::run(rt, given, on_terminal),
+        "threads" => threads::run(rt, given, on_terminal),
+        "draw" => draw::run(rt, given, on_terminal),
+        "gather" => gather::run(rt, given),
+        "scramble" => scramble::run(rt, given),
+        "cut" => cut::run(rt, given),
+        "junk" => junk::run(rt, given),
+        _ => Err(Refusal::NoCommand),
     }
+}
 
-    fn act<R: Runtime>(
-        self,
-        rt: &R,
-        name: &str,
-        given: &ArgMatches,
-        on_terminal: bool,
-        is_dashed: bool,
-    ) -> Result<ExitCode, Refusal> {
-        match name {
-            "simulate" => simulate::run(rt, given),
-            "schedule" => schedule::run(rt, given),
-            "measure" => measure::run(rt, given, on_terminal),
-            "worst" => worst::run(rt, given, on_terminal),
-            "threads" => threads::run(rt, given, on_terminal),
-            "draw" => draw::run(rt, given, on_terminal),
-            "gather" => gather::run(rt, given),
-            "scramble" => scramble::run(rt, given),
-            "cut" => cut::run(rt, given),
-            "junk" => junk::run(rt, given),
-            _ => Service.act(rt, name, given, on_terminal, is_dashed),
-        }
-    }
+/// The parser of all command lines.
+fn program_parser<'a>(alloc: Global) -> Result<Command<'a>, AllocError> {
+    let parser = with_lock(parser(alloc, &TOKENTREE), alloc)?;
+    with_experiments(with_nodes(parser, alloc)?, alloc)
 }
 
 /// Adds the commands for a network's numbers and runs, and those for the lock.

@@ -25,6 +25,22 @@ asks_for_version (program ∷ word ∷ []) = bytes_eq word (codes "version") || 
 asks_for_version (program ∷ command ∷ word ∷ []) = bytes_eq word (codes "--version")
 asks_for_version _ = false
 
+-- one of the commands that serve a lock
+abbrev pub serves : List ℕ → Bool
+serves name =
+    bytes_eq name (codes "bound") || bytes_eq name (codes "network") || bytes_eq name (codes "lock")
+    || bytes_eq name (codes "status") || bytes_eq name (codes "node") || bytes_eq name (codes "up")
+    || bytes_eq name (codes "stop")
+
+-- the word after the program's name is such a command
+abbrev pub names_service : List (List ℕ) → Bool
+names_service (program ∷ command ∷ words) = serves command
+names_service _ = false
+
+-- or the words ask for the version
+abbrev pub is_of_service : List (List ℕ) → Bool
+is_of_service words = asks_for_version words || names_service words
+
 -- the message if the words of `network` describe no network
 abbrev pub kind_fault_text : KindFault → List ℕ
 kind_fault_text Unknown = codes "KIND is none of line, ring, star, complete, tree, grid and random"

@@ -1,10 +1,10 @@
 //! The command lines of `tokentree` that serve a lock: what `bound`, `network`, `lock`, `status`,
 //! `node`, `up` and `stop` take, their help, and what they do with their words. Each has a file here.
-//! What a program does with a line of any command stands here, too.
+//! What the lines of all commands share stands here, too.
 //!
 //! ```
-//! let status = run_words(Service, rt, &["tokentree", "bound", "two-nodes.toml"], false); // status 0
-//! let status = run_words(Service, rt, &["tokentree", "bound"], false);                   // status 2
+//! let status = run_words(rt, &["tokentree", "bound", "two-nodes.toml"]); // prints, status 0
+//! let status = run_words(rt, &["tokentree", "bound"]);                   // status 2
 //! ```
 //!
 //! The work of a command is in `network_commands`, `lock_command`, `status_command`, `node_stopping` or
@@ -22,11 +22,9 @@ pub mod node;
 mod node_words;
 pub mod program;
 pub mod refusal;
-mod service;
 pub mod status;
 pub mod stop;
 pub mod up;
 
-pub use commands::{Commands, run_words};
+pub use commands::{ends, is_of_service, matches_of, run_words};
 pub use program_ends::{fill_standard_streams, own_words};
-pub use service::Service;

@@ -47,6 +47,9 @@ pub const EVENTS_TEXT: &str = "The events text, or - for standard input";
 /// The help of the folder in the commands that use the lock.
 pub const SOCKETS_FOLDER: &str = "The folder of the nodes' sockets";
 
+/// The name of the program.
+pub const NAME: &str = "tokentree";
+
 /// What the program is, in a line.
 pub const ABOUT: &str =
     "A self-stabilising lock for a network of nodes, whatever state they are in";

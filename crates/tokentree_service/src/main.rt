@@ -11,14 +11,13 @@
 //! ```
 #![tactic(auto)]
 
-use service_line::{Service, fill_standard_streams, own_words, run_words};
-use std::io::IsTerminal;
+use service_line::{fill_standard_streams, own_words, run_words};
 use std::process::ExitCode;
 
 fn main(rt: HostRuntime) -> ExitCode {
     fill_standard_streams(&rt);
     match own_words(&rt) {
-        Ok(words) => run_words(Service, &rt, words.as_slice(), rt.stderr().is_terminal()),
+        Ok(words) => run_words(&rt, words.as_slice()),
         Err(status) => status,
     }
 }
