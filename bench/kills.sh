@@ -99,7 +99,12 @@ def words_of(process):
 
 
 def guard_of(first):
-    return next((c for c in children(first.pid) if any(word.startswith(b"--guard") for word in words_of(c))), None)
+    """The guard of a lock, once it is that: it begins as an env that holds signals back."""
+    return next((c for c in children(first.pid) if is_guard(words_of(c))), None)
+
+
+def is_guard(words):
+    return any(word.startswith(b"--guard") for word in words) and not words[0].endswith(b"/env")
 
 
 def command_of(first):
