@@ -1,9 +1,9 @@
 //! The words of `cut`.
 use clap::{ArgMatches, Command};
 use command_grammar::{Grammar, Number, Parameter, given_number, with_command, word};
-use node_stopping::warn_of_runner;
 use service_line::program::Runtime;
 use service_line::refusal::{Refusal, ended};
+use service_line::stop::warn_of_runner;
 use std::alloc::{AllocError, Global};
 use std::process::ExitCode;
 use subcommands::cut;

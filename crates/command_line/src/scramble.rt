@@ -2,9 +2,9 @@
 use clap::{ArgMatches, Command};
 use command_grammar::{Grammar, Number, Parameter, given_number, with_command, word};
 use fault_hints::explain_id;
-use node_stopping::warn_of_runner;
 use service_line::program::{NETWORK_FILE, Runtime};
 use service_line::refusal::{Refusal, ended};
+use service_line::stop::warn_of_runner;
 use std::alloc::{AllocError, Global};
 use std::process::ExitCode;
 use subcommands::{Fault, PathFault, scramble};

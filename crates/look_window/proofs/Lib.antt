@@ -1,3 +1,5 @@
+pub mod NodeLines
 pub mod Saying
 pub mod Counting
 mod RowsCounted
+mod RowsStatus

@@ -5,7 +5,7 @@ use Rattle.node_core.specs.Site.{Site}
 use Rattle.node_core.specs.State.{LocalState}
 use Rattle.node_texts.specs.declared.look_parts.ProcessPart.{ProcessPart}
 use Rattle.node_texts.specs.LookText.{links_text, link_parts, loan_part, rest_text, rounds_text, status_part, turn_part}
-use Rattle.node_texts.specs.NodeStatus.{NodesWriteTheirLines, line_of}
+use Rattle.look_window.specs.NodeStatus.{NodesWriteTheirLines, line_of}
 use Rattle.look_window.specs.Laws.{LooksSayTheStatus}
 
 -- what stands after the status line's values

@@ -1,3 +1,4 @@
+pub mod NodeStatus
 pub mod NodeLook
 pub mod Counted
 pub mod Lookers

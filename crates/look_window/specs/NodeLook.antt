@@ -5,7 +5,7 @@ use Rattle.node_core.specs.Site.{Site}
 use Rattle.node_core.specs.State.{LocalState}
 use Rattle.node_texts.specs.declared.look_parts.ProcessPart.{ProcessPart}
 use Rattle.node_texts.specs.LookText.{look_text, link_parts, loan_part, turn_part}
-use Rattle.node_texts.specs.NodeStatus.{line_of}
+use Rattle.look_window.specs.NodeStatus.{line_of}
 
 -- the text of what its status line says, of what was noted of its links, loans and turns, of its process, and
 -- of how often the token came round

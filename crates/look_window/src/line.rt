@@ -2,9 +2,10 @@
 ghost use Rattle.std.specs.Prelude.{◌≡◌, ◌<◌, IfOk, length, string_bytes};
 ghost use Rattle.node_core.specs.View.{site_in, state_of};
 ghost use Rattle.look_window.specs.NodeLook.{node_look};
+ghost use Rattle.look_window.specs.NodeStatus.{line_of};
 
 use node_core::Node;
-use node_texts::{LoanPart, Look, ProcessPart, TurnPart, link_parts, look_line, status_of};
+use node_texts::{LoanPart, Look, ProcessPart, StatusLine, TurnPart, link_parts, look_line};
 use std::alloc::{AllocError, Allocator, Global};
 use turn_watch::Notes;
 
@@ -44,4 +45,18 @@ pub fn line_of_node<A: Allocator>(
         rounds: notes.rounds().count,
     };
     look_line(alloc, &look)
+}
+
+/// What the status line of a node says.
+fn status_of<A: Allocator>(node: &Node<A>) -> StatusLine
+    ensures { result ≡ line_of (site_in node.now) (state_of node.now) }
+{
+    StatusLine {
+        node: node.id(),
+        distance: node.distance(),
+        parent: node.parent(),
+        token: node.privileged(),
+        lent: node.lent(),
+        waiting: node.waiting() as u16,
+    }
 }

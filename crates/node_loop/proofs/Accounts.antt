@@ -1,6 +1,6 @@
 -- What the account of a turn says: one tick, at each port the frames that came there, and to each
 -- neighbour the frames that were accepted.
-use Rattle.std.proofs.Common.{◌≡◌, ◌+◌, ℕ, List, [], ◌∷◌, ◌++◌, All, Option, arith, append-nil, refl}
+use Rattle.std.proofs.Common.{◌≡◌, ◌+◌, ℕ, List, ◌∷◌, ◌++◌, All, Option, arith, append-nil, refl, []}
 use Rattle.std.proofs.lemmas.List.Elements.{All-head, All-tail}
 use Rattle.socket_links.specs.Counts.{Counts}
 use Rattle.node_core.specs.declared.ticked.Ticked.{Ticked}

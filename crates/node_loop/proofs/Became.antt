@@ -1,5 +1,5 @@
 -- Deeds one after the other.
-use Rattle.std.proofs.Common.{arith, ◌≡◌, ℕ, Bool, List, [], ◌∷◌, ◌++◌, ◌∙◌, All, refl, subst}
+use Rattle.std.proofs.Common.{arith, ◌≡◌, ℕ, Bool, List, ◌∷◌, ◌++◌, ◌∙◌, All, refl, subst, []}
 use Rattle.std.proofs.lemmas.Grind.{common_steps}
 use Rattle.std.proofs.lemmas.List.Elements.{All-append, All-cons, All-head, All-nil, All-tail}
 use Rattle.node_core.specs.Site.{Site}

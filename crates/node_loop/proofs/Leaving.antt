@@ -1,5 +1,5 @@
 -- Who is a stranger once a ticket has left, and once the node has ticked.
-use Rattle.std.proofs.Common.{slice_index, ◌≡◌, ◌&&◌, ◌||◌, ◌==◌, ℕ, ◌<◌, ◌≤◌, ◌-◌, Bool, true, false, not, List, [], ◌∷◌, length, take, Some, refl, arith, zero, suc}
+use Rattle.std.proofs.Common.{slice_index, ◌≡◌, ◌&&◌, ◌||◌, ◌==◌, ℕ, ◌<◌, ◌≤◌, ◌-◌, Bool, true, false, not, List, ◌∷◌, length, take, Some, refl, arith, zero, suc, []}
 use Rattle.std.proofs.lemmas.Grind.{common_steps}
 use Rattle.std.proofs.lemmas.Bool.Decides.{nat_tests}
 use Rattle.lock_desk.specs.Desk.{DeskState, is_in, is_ticket, waits, is_stranger, after_leave, without, desk_fits, desk_ticked}

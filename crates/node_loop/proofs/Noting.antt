@@ -1,6 +1,6 @@
 -- What is noted of deeds one after the other.
-use Rattle.std.specs.Prelude.{is_none}
-use Rattle.std.proofs.Common.{◌≡◌, ℕ, Bool, List, Option, [], ◌∷◌, ◌++◌, ◌+◌, ◌∙◌, ap, refl, sym, subst, append_assoc}
+use Rattle.std.specs.Prelude.{is_none, []}
+use Rattle.std.proofs.Common.{◌≡◌, ℕ, Bool, List, Option, ◌∷◌, ◌++◌, ◌+◌, ◌∙◌, ap, refl, sym, subst, append_assoc}
 use Rattle.topology.specs.declared.frame.Frame.{Frame}
 use Rattle.socket_links.specs.Counts.{Counts}
 use Rattle.lock_desk.specs.Act.{desk_act}
@@ -8,7 +8,7 @@ use Rattle.node_core.specs.Step.{ticked}
 use Rattle.node_core.specs.View.{NodeView, site_in, state_of}
 use Rattle.node_core.specs.declared.ticked.Ticked.{Ticked}
 use Rattle.node_loop.specs.Deeds.{Deed, IsLeaveOfGone, Leads, Ticks}
-use Rattle.node_loop.specs.declared.port.NodePort.{NodePort}
+use Rattle.node_connections.specs.declared.port.NodePort.{NodePort}
 use Rattle.node_loop.specs.NotesView.{NotesView}
 use Rattle.node_loop.specs.Noting.{after_all, after_note, as_entry, Did, DidAct, DidTake}
 use Rattle.node_loop.specs.Moments.{Moment}

@@ -1,6 +1,5 @@
--- Small examples of accounts, plans, connections and clients, and some that look like them and are
--- none.
-use Rattle.std.proofs.Common.{◌≡◌, false, [], ◌∷◌, None, Some, refl, arith, ap, inl, inr, rules}
+-- Small examples of accounts, and of clients that a node knows, and some that look like them and are none.
+use Rattle.std.proofs.Common.{◌≡◌, false, ◌∷◌, None, Some, refl, arith, ap, rules, []}
 use Rattle.std.proofs.lemmas.Grind.{common_steps}
 use Rattle.topology.specs.declared.frame.Frame.{Frame}
 use Rattle.topology.specs.declared.frame.Ranges.{Ranges}
@@ -9,11 +8,10 @@ use Rattle.node_core.specs.Site.{Site}
 use Rattle.node_core.specs.State.{LocalState, default_node}
 use Rattle.node_core.specs.Step.{ticked}
 use Rattle.node_core.specs.View.{NodeView, state_of}
-use Rattle.node_loop.specs.declared.clients.Clients.{Clients}
-use Rattle.node_loop.specs.declared.port.NodePort.{NodePort}
-use Rattle.node_loop.specs.Clients.{AreConnected, is_connected}
+use Rattle.node_connections.specs.declared.clients.Clients.{Clients}
+use Rattle.node_loop.specs.Clients.{AreConnected}
+use Rattle.node_connections.specs.Clients.{is_connected}
 use Rattle.node_loop.specs.Deeds.{Leads, Takes, Asks, Leaves, Ticks, Sends, sent_to, taken_from}
-use Rattle.node_loop.specs.Hearing.{Wires}
 
 abbrev small : Ranges
 small = record { nodes = 2; counter = 5; ring = 7 }
@@ -70,9 +68,3 @@ module _ {P A : Type 0} (clients : Clients P A) (node : NodeView) where
   -- a borrower that is no connected client
   connected_not-absent : (state_of node).desk ≡ record { waiting = []; lent = Some 3; left = 0; served = false } → is_connected clients 3 ≡ false → ¬ AreConnected clients node
   connected_not-absent e absent are = grind (arith, common_steps, e, absent, are 3)
-
-module _ {P : Type 0} where
-  -- a port that had a connection keeps it or has another, and is not closed
-  wires_not-closed : (p : P) (old new : NodePort P) → old.link.pipe ≡ Some p → new.link.pipe ≡ None → ¬ Wires old new
-  wires_not-closed p old new was is (inl same) = grind (arith, same.0, was, is)
-  wires_not-closed p old new was is (inr fresh) = grind (arith, fresh.0, is)

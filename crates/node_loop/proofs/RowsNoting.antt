@@ -1,5 +1,5 @@
 -- Small examples of what is noted.
-use Rattle.std.proofs.Common.{◌≡◌, ◌≢◌, ◌∷◌, [], true, false, refl, arith}
+use Rattle.std.proofs.Common.{◌≡◌, ◌≢◌, ◌∷◌, true, false, refl, arith, []}
 use Rattle.flight_records.specs.declared.entry.Deed.TheVariants as entry
 use Rattle.lock_desk.specs.declared.client_line.ClientLine.TheVariants.{Lock, Status}
 use Rattle.node_loop.specs.Deeds.{Asks, Leaves, Ticks}

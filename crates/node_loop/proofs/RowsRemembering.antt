@@ -1,5 +1,5 @@
 -- What a pace remembers of the frames that its ports were given: small examples.
-use Rattle.std.proofs.Common.{true, [], ◌∷◌, None, Some, refl, inl, inr, arith}
+use Rattle.std.proofs.Common.{true, ◌∷◌, None, Some, refl, inl, inr, arith, []}
 use Rattle.topology.specs.declared.frame.Frame.{Frame}
 use Rattle.pace.specs.Ports.{fresh_port}
 use Rattle.pace.specs.declared.pace.Pace.{Pace}

@@ -1,12 +1,13 @@
--- Small examples of ticks, plans, turns, answers and arrivals, and some that look like them and are
--- none.
-use Rattle.std.proofs.Common.{◌≡◌, ◌≢◌, ℕ, zero, suc, true, false, List, [], ◌∷◌, All, Option, None, Some, codes, refl, ap, ◌∙◌, inl, inr, arith}
+-- Small examples of ticks, plans, turns and answers, and some that look like them and are none.
+use Rattle.std.proofs.Common.{◌≡◌, ℕ, List, Option, None, Some, codes, refl, arith, ◌≢◌, true, false, ◌∷◌, All, ap, ◌∙◌, inl, []}
+use Rattle.lock_desk.specs.declared.fault.AskFault.TheVariants.{Full}
+use Rattle.node_loop.specs.Answers.{lock_answer, after_line, answer_text}
 use Rattle.std.proofs.lemmas.Grind.{common_steps}
 use Rattle.std.proofs.lemmas.List.Elements.{All-nil, All-cons, All-head, All-tail}
 use Rattle.topology.specs.declared.frame.Frame.{Frame}
 use Rattle.topology.specs.declared.frame.Ranges.{Ranges}
 use Rattle.lock_desk.specs.Desk.{DeskState, no_desk}
-use Rattle.lock_desk.specs.declared.act.DeskAct.TheVariants.{Quiet, Granted, Lost}
+use Rattle.lock_desk.specs.declared.act.DeskAct.TheVariants.{Quiet, Granted}
 use Rattle.lock_desk.specs.declared.client_line.ClientLine.TheVariants.{Lock, Unlock, Unknown}
 use Rattle.node_core.specs.Site.{Site}
 use Rattle.node_core.specs.State.{LocalState}
@@ -16,21 +17,9 @@ use Rattle.node_core.specs.View.{NodeView, site_in, state_of}
 use Rattle.node_core.specs.declared.ticked.Ticked.{Ticked}
 use Rattle.pace.specs.declared.pace.Plan.{Plan}
 use Rattle.socket_links.specs.Counts.{Counts}
-use Rattle.socket_links.specs.declared.pipe.ReadAnswer.TheVariants as read
-use Rattle.socket_links.specs.declared.writing.Flow.TheVariants as flow
-use Rattle.node_loop.specs.declared.clients.Clients.{Clients}
-use Rattle.node_loop.specs.declared.doors.Door.TheVariants.{Nobody, Failed}
-use Rattle.node_loop.specs.declared.lobby.Arrival.TheVariants as arrival
-use Rattle.node_loop.specs.declared.port.NodePort.{NodePort}
-use Rattle.node_loop.specs.Answers.{after_line, answer_text}
-use Rattle.node_loop.specs.Arrivals.{IsArrival}
-use Rattle.node_loop.specs.Clients.{answers_of, GivesWithin, is_connected, IsReported, room_of}
-use Rattle.node_loop.specs.Deeds.{Acts, Became, Deed, IsLeave, IsOfClient, IsTake, Leads, ticks_in}
-use Rattle.node_loop.specs.Deeds.{Takes, Asks, Leaves, Ticks, Sends}
-use Rattle.node_loop.specs.Doors.{Opens}
-use Rattle.node_loop.specs.Loose.{AreKept, AreLoose, is_linked}
-use Rattle.node_loop.specs.Moments.{AtBoth, Moment}
-use Rattle.node_loop.specs.Speaking.{is_left, IsPlanOf, outlook_of, sent_if, takes_frames}
+use Rattle.node_loop.specs.Deeds.{Acts, Became, Deed, IsLeave, IsOfClient, IsTake, Leads, ticks_in, Takes, Asks, Leaves, Ticks, Sends}
+use Rattle.node_loop.specs.Moments.{Moment}
+use Rattle.node_loop.specs.Speaking.{IsPlanOf, outlook_of, sent_if}
 use Rattle.node_loop.specs.Turns.{Attends, Turns}
 use Rattle.node_loop.proofs.Accounts.{attend-ticks}
 
@@ -264,6 +253,13 @@ answers-unknown = refl
 answers_not-granted : answer_text site 3 Lock (state_of root) ≢ codes "granted\n"
 answers_not-granted = grind arith
 
+-- a client that may wait gets no answer yet
+lock-waits : lock_answer None ≡ []
+lock-waits = refl
+
+lock_not-full : lock_answer (Some Full) ≡ codes "full\n"
+lock_not-full = refl
+
 lines-ask : (after_line 3 Lock (state_of root)).desk.waiting ≡ 3 ∷ []
 lines-ask = refl
 
@@ -274,92 +270,6 @@ lines-leave = refl
 lines_not-unknown : (after_line 3 Unknown waiting).desk.waiting ≢ []
 unfolding waiting
 lines_not-unknown = grind arith
-
-module _ {P A : Type 0} (old new : Clients P A) where
-  -- the client of a loan that ended hears so, unless there is no room or it is closed
-  reported_not-silent : answers_of old 3 ≡ [] → answers_of new 3 ≡ [] → is_connected new 3 ≡ true → ¬ IsReported (Lost 3) old new
-  reported_not-silent before after there (inl reported, others) = grind (arith, common_steps, before, after, reported.0)
-  reported_not-silent before after there (inr closed, others) = grind (arith, there, closed.1)
-
-  -- nor is it closed if there is room
-  reported_not-closed : room_of old 3 ≡ 256 → is_connected old 3 ≡ true → is_connected new 3 ≡ false → ¬ IsReported (Granted 3) old new
-  reported_not-closed room was closed (inl reported, others) = grind (arith, was, closed, reported.1)
-  reported_not-closed room was closed (inr full, others) = grind (arith, room, full.0 (omega arith))
-
-  -- and no other client hears anything
-  reported_not-other : answers_of old 4 ≡ [] → answers_of new 4 ≡ codes "lost\n" → ¬ IsReported (Lost 3) old new
-  reported_not-other before after (_, others) = grind (arith, before, after, (others 4 (λ e. omega (arith, e))).0)
-
-gives : GivesWithin (read.Got 64) 64
-gives = omega arith
-
-gives_not-more : ¬ GivesWithin (read.Got 65) 64
-gives_not-more g = omega (arith, g)
-
--- ---- visitors
-
--- node 2 of three says who it is; node 3 is none of them
-arrives : IsArrival 3 (codes "H0002") (arrival.Is 2)
-arrives = (refl, omega arith)
-
-arrives_not-fourth : ¬ IsArrival 3 (codes "H0003") (arrival.Is 3)
-arrives_not-fourth a = omega (arith, a.1)
-
-arrives_not-another : ¬ IsArrival 3 (codes "H0002") (arrival.Is 1)
-arrives_not-another a = grind (arith, a.0)
-
-goes_not-known : ¬ IsArrival 3 (codes "H0002") arrival.Goes
-goes_not-known g = g 2 (omega arith) refl
-
-goes-unknown : IsArrival 1 (codes "h0000") arrival.Goes
-goes-unknown zero below e = grind (arith, e)
-goes-unknown (suc id) below e = omega (arith, below)
-
-module _ (P : Type 0) where
-  -- a door says that it failed only if its count of failures rose
-  fails : Opens {P = P} Failed 3 4
-  fails = (omega arith, inl (omega arith))
-
-  fails_not-nobody : ¬ Opens {P = P} Failed 3 3
-  fails_not-nobody o = grind (arith, o.1)
-
-  nobody : Opens {P = P} Nobody 3 3
-  nobody = omega arith
-
-  -- ---- ports
-
-  linked_not-absent : is_linked {P = P} None ≡ false
-  linked_not-absent = refl
-
-  linked : (p : P) (port : NodePort P) → port.link.pipe ≡ Some p → is_linked (Some port) ≡ true
-  linked p port pipe = grind (arith, common_steps, pipe)
-
-  -- a node that is no neighbour has no connection
-  loose : AreLoose {P = P} (0 ∷ []) []
-  loose w other = refl
-
-  loose_not-linked : (p : P) (port : NodePort P) → port.link.pipe ≡ Some p → ¬ AreLoose [] (port ∷ [])
-  loose_not-linked p port pipe are = grind (arith, common_steps, linked p port pipe, are 0 (λ c. omega (arith, c.1)))
-
-  -- a neighbour's port that is gone is not kept
-  kept_not-gone : (port : NodePort P) → ¬ AreKept (0 ∷ []) (port ∷ []) []
-  kept_not-gone port are = grind (arith, are 0 (0, omega arith, refl))
-
-  both_not-one : (R : NodePort P → NodePort P → Type 0) (port : NodePort P) → ¬ AtBoth R (Some port) None
-  both_not-one R port both = both
-
-  -- a frame is taken if there is a pipe, and no line is stuck
-  takes : (p : P) (port : NodePort P) → port.link.pipe ≡ Some p → port.is_stuck ≡ false → takes_frames (Some port) ≡ true
-  takes p port pipe free = grind (arith, common_steps, pipe, free)
-
-  takes_not-stuck : (port : NodePort P) → port.is_stuck ≡ true → takes_frames (Some port) ≡ false
-  takes_not-stuck port stuck = grind (arith, common_steps, stuck)
-
-left : is_left flow.Later ≡ true
-left = refl
-
-left_not-done : is_left flow.Done ≡ false
-left_not-done = refl
 
 -- only a frame that was accepted is sent
 sends-taken : sent_if true some_frame ≡ some_frame ∷ []

@@ -1,32 +1,28 @@
 -- Clients that are served, one after the other.
-use Rattle.std.proofs.Common.{◌≡◌, ◌≢◌, ◌==◌, ◌∙◌, ℕ, Bool, false, if◌then◌else◌, List, [], ◌∷◌, ◌++◌, All, Option, None, Some, map, refl, sym, subst, ap, inl, inr, append-nil, append_assoc}
-use Rattle.std.specs.Prelude.{is_some}
+use Rattle.std.proofs.Common.{◌≡◌, ◌≢◌, ◌==◌, ◌∙◌, ℕ, Bool, false, if◌then◌else◌, List, ◌∷◌, ◌++◌, All, Option, map, refl, sym, subst, ap, inl, inr, append-nil, append_assoc, []}
 use Rattle.std.proofs.lemmas.Bool.{cases_eq, eq-eqb, ne_eqb}
 use Rattle.std.proofs.lemmas.List.{map-append}
 use Rattle.std.proofs.lemmas.List.Elements.{All-cons, All-head, All-nil, All-tail}
-use Rattle.slab.specs.Slab.{get}
 use Rattle.lock_desk.specs.Desk.{after_leave}
 use Rattle.lock_desk.specs.declared.client_line.ClientLine.{ClientLine}
 use Rattle.lock_desk.specs.declared.client_line.ClientLine.TheVariants.{Lock, Unlock, Status, Unknown}
 use Rattle.node_core.specs.Site.{Site}
 use Rattle.node_core.specs.State.{LocalState}
 use Rattle.node_core.specs.View.{NodeView, site_in, state_of}
-use Rattle.node_loop.specs.declared.clients.Client.{Client}
-use Rattle.node_loop.specs.declared.clients.Clients.{Clients}
+use Rattle.node_connections.specs.declared.clients.Clients.{Clients}
 use Rattle.node_loop.specs.Answers.{after_line, answer_text}
-use Rattle.node_loop.specs.Clients.{answers_of, is_connected}
+use Rattle.node_connections.specs.Clients.{is_connected}
 use Rattle.node_loop.specs.Deeds.{Asks, Deed, IsLeaveOfGone, IsOfClient, Leads, Leaves, Sends, Takes, Ticks}
-use Rattle.node_loop.specs.Heard.{HeardAt, NothingHeard}
-use Rattle.node_loop.specs.Lives.{OthersStay}
 use Rattle.node_loop.specs.Noting.{deeds_of_line, Did}
 use Rattle.node_loop.specs.NotesView.{NotesView}
-use Rattle.node_loop.specs.Said.{answers_to, IsHeard, IsHeardAlone, IsLineAlone, IsSaid, NothingSaid, SaidAt, Serves}
+use Rattle.node_loop.specs.Said.{answers_to, Serves}
+use Rattle.node_connections.specs.Said.{IsLineAlone, IsSaid, NothingSaid}
 use Rattle.node_loop.specs.Services.{AreGone, deeds_of_all, Goes, Line, lines_of, Service}
 use Rattle.node_loop.proofs.Became.{gone-leaves, leave-kinds}
-use Rattle.node_loop.proofs.Heard.{heard-join, heard-same, others-unheard}
-use Rattle.node_loop.proofs.Lives.{nobody}
 use Rattle.node_loop.proofs.Noting.{did-joins, did-none}
-use Rattle.node_loop.proofs.Saying.{answers-join, is-said-join, SaidTo}
+use Rattle.node_loop.proofs.Saying.{answers-join}
+use Rattle.node_connections.proofs.Saying.{is-said-join, SaidTo}
+use Rattle.node_connections.proofs.Serving.{stays-gone}
 
 -- ---- tickets that leave
 
@@ -136,18 +132,7 @@ goes-silent t (Sends w f ∷ ds) s = goes-silent t ds s
 abbrev asked-lines : List (ClientLine × LocalState) → List ClientLine
 asked-lines asked = map (λ x. x.0) asked
 
-module _ {P : Type 0} (took : P → Option (List ℕ)) where
-  gone-said : (more : List ℕ) (x y : Option (Client P)) (xs ys : List ℕ) → SaidAt took more x xs y ys → x ≡ None → y ≡ None
-  gone-said more x None xs ys f e = refl
-  gone-said more None (Some c) xs ys f e = elim f [ ]
-  gone-said more (Some b) (Some c) xs ys f e = absurd (let d = e in cc)
-
 module _ {P A : Type 0} (took : P → Option (List ℕ)) where
-  -- who is gone stays so while others are served
-  pub stays-gone : (more : List ℕ) (t : ℕ) (old new : Clients P A) → IsSaid took more t old new → is_connected old t ≡ false → is_connected new t ≡ false
-  stays-gone more t old new f none =
-      subst (λ (x : Option (Client P)). is_some x ≡ false) (sym (gone-said took more (get old.table t) (get new.table t) (answers_of old t) (answers_of new t) f (nobody (get old.table t) none))) refl
-
   module _ (R S T : ℕ → List ClientLine → List ℕ → Type 0) (join : (t : ℕ) (xs ys : List ClientLine) (ps qs : List ℕ) → R t xs ps → S t ys qs → T t (xs ++ ys) (ps ++ qs)) where
     pub serves-join : (x y z : NodeView) (n m o : NotesView) (a b c : Clients P A) → Serves took R x y n m a b → Serves took S y z m o b c → Serves took T x z n o a c
     serves-join x y z n m o a b c f g =
@@ -162,7 +147,7 @@ module _ {P A : Type 0} (took : P → Option (List ℕ)) where
           did = did-joins IsOfClient x y z n m o f.did g.did;
           deeds_are = ap (λ ds. ds ++ g.did.became.deeds) f.deeds_are ∙ (ap (λ ds. deeds_of_all f.services ++ ds) g.deeds_are ∙ sym (deeds-append f.services g.services));
           gone = gone-append (is_connected c) f.services g.services
-              (gone-later (is_connected b) (is_connected c) (λ t. stays-gone (answers_to (site_in y) t (second t)) t b c (g.said t)) f.services f.gone) g.gone;
+              (gone-later (is_connected b) (is_connected c) (λ t. stays-gone took (answers_to (site_in y) t (second t)) t b c (g.said t)) f.services f.gone) g.gone;
           lines_are = λ t.
               subst (λ lines. T t (asked-lines lines) (answers_to (site_in x) t lines)) (sym (both t))
               (subst (λ lines. T t lines (answers_to (site_in x) t (first t ++ second t))) (sym (map-append (λ (x : ClientLine × LocalState). x.0) (first t) (second t)))
@@ -236,60 +221,3 @@ module _ {P A : Type 0} (took : P → Option (List ℕ)) where
               | inr differ ↦ subst (λ lines. IsSaid took (answers_to (site_in x) t lines) t a b) (sym (other t differ)) (said.1 t differ)
             ];
       }
-
--- ---- what is heard meanwhile
-
-module _ {P A : Type 0} (gave : P → Option (List ℕ)) where
-  pub heard-alone-join : (k : ℕ) (r s : List ℕ) (a b c : Clients P A) (t : ℕ) (xs ys : List ClientLine) → IsHeardAlone gave a b k r t xs → IsHeardAlone gave b c k s t ys → IsHeardAlone gave a c k (r ++ s) t (xs ++ ys)
-  heard-alone-join k r s a b c t xs ys f g = (
-    λ same. heard-join gave [] [] r s xs ys (get a.table t) (get b.table t) (get c.table t) (f.0 same) (g.0 same),
-    λ differ. heard-join gave [] [] [] [] xs ys (get a.table t) (get b.table t) (get c.table t) (f.1 differ) (g.1 differ),
-  )
-
-  -- a reader took a byte, and the line that this ended was served meanwhile, or it ended none
-  pub heard-line : (k byte : ℕ) (line : ClientLine) (a b c : Clients P A) → HeardAt gave [] (byte ∷ []) (line ∷ []) (get a.table k) (get b.table k) → OthersStay k a b → NothingHeard gave b c
-      → (text : List ℕ) (t : ℕ) (xs : List ClientLine) (ps : List ℕ) → IsLineAlone k line text t xs ps → IsHeardAlone gave a c k (byte ∷ []) t xs
-  heard-line k byte line a b c heard others unheard text t xs ps f = (
-    λ same.
-        subst (λ lines. HeardAt gave [] (byte ∷ []) lines (get a.table t) (get c.table t)) (sym (f.0 same).0)
-        (subst (λ u. HeardAt gave [] (byte ∷ []) (line ∷ []) (get a.table u) (get c.table u)) (sym same)
-        (heard-join gave [] [] (byte ∷ []) [] (line ∷ []) [] (get a.table k) (get b.table k) (get c.table k) heard (unheard k))),
-    λ differ.
-        subst (λ lines. HeardAt gave [] [] lines (get a.table t) (get c.table t)) (sym (f.1 differ).0)
-        (heard-join gave [] [] [] [] [] [] (get a.table t) (get b.table t) (get c.table t) (others-unheard gave k a b others t differ) (unheard t)),
-  )
-
-  pub heard-byte : (k byte : ℕ) (a b : Clients P A) → HeardAt gave [] (byte ∷ []) [] (get a.table k) (get b.table k) → OthersStay k a b → (t : ℕ) → IsHeardAlone gave a b k (byte ∷ []) t []
-  heard-byte k byte a b heard others t = (
-    λ same. subst (λ u. HeardAt gave [] (byte ∷ []) [] (get a.table u) (get b.table u)) (sym same) heard,
-    λ differ. others-unheard gave k a b others t differ,
-  )
-
-  pub alone-none : (k : ℕ) (clients : Clients P A) (t : ℕ) → IsHeardAlone gave clients clients k [] t []
-  alone-none k clients t = (
-    λ same. heard-same gave (get clients.table t) (get clients.table t) refl,
-    λ differ. heard-same gave (get clients.table t) (get clients.table t) refl,
-  )
-
-  -- a client was read, and then its reader took the bytes that came
-  pub heard-all : (k : ℕ) (bytes : List ℕ) (a b c : Clients P A) → HeardAt gave bytes [] [] (get a.table k) (get b.table k) → OthersStay k a b
-      → (t : ℕ) (xs : List ClientLine) → IsHeardAlone gave b c k bytes t xs → IsHeard gave a c t xs
-  heard-all k bytes a b c heard others t xs f =
-      elim (cases_eq t k) [
-        | inl same ↦ (
-          bytes,
-          subst (λ given. HeardAt gave given bytes xs (get a.table t) (get c.table t)) (append-nil bytes)
-              (heard-join gave bytes [] [] bytes [] xs (get a.table t) (get b.table t) (get c.table t)
-              (subst (λ u. HeardAt gave bytes [] [] (get a.table u) (get b.table u)) (sym same) heard) (f.0 same)),
-        )
-        | inr differ ↦ (
-          [],
-          heard-join gave [] [] [] [] [] xs (get a.table t) (get b.table t) (get c.table t) (others-unheard gave k a b others t differ) (f.1 differ),
-        )
-      ]
-
-  pub heard-both : (a b c : Clients P A) (t : ℕ) (xs ys : List ClientLine) → IsHeard gave a b t xs → IsHeard gave b c t ys → IsHeard gave a c t (xs ++ ys)
-  heard-both a b c t xs ys f g = (f.0 ++ g.0, heard-join gave f.0 g.0 f.0 g.0 xs ys (get a.table t) (get b.table t) (get c.table t) f.1 g.1)
-
-  pub heard-none : (a b : Clients P A) → NothingHeard gave a b → (t : ℕ) → IsHeard gave a b t []
-  heard-none a b f t = ([], f t)

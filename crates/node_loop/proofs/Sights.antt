@@ -1,6 +1,6 @@
 -- What is seen at each port, one after the other. Neighbours are nodes, and there are at most 64 of
 -- these.
-use Rattle.std.proofs.Common.{◌≡◌, ◌≢◌, ◌<◌, ◌≤◌, ◌+◌, ℕ, Bool, true, false, not, ◌&&◌, List, [], ◌∷◌, ◌++◌, Some, is_some, Contains, get_or, length, take, slice_get, slice_set, refl, inl, inr, sym, subst, arith, ◌∙◌}
+use Rattle.std.proofs.Common.{◌≡◌, ◌≢◌, ◌<◌, ◌≤◌, ◌+◌, ℕ, Bool, true, false, not, ◌&&◌, List, ◌∷◌, ◌++◌, Some, is_some, Contains, get_or, length, take, slice_get, slice_set, refl, inl, inr, sym, subst, arith, ◌∙◌, []}
 use Rattle.std.specs.Prelude.{slice_index_or}
 use Rattle.std.proofs.Math.ListN.{replicate}
 use Rattle.std.specs.Cmp.{both_ways}
@@ -16,9 +16,9 @@ use Rattle.node_core.specs.Site.{Site, site_of}
 use Rattle.node_core.specs.Machines.{payload_for}
 use Rattle.node_core.specs.View.{NodeView, site_in, state_of}
 use Rattle.pace.specs.declared.port.PortSight.{PortSight}
-use Rattle.node_loop.specs.declared.port.NodePort.{NodePort}
+use Rattle.node_connections.specs.declared.port.NodePort.{NodePort}
 use Rattle.node_loop.specs.Speaking.{sight_at}
-use Rattle.node_loop.proofs.Speaking.{none-there}
+use Rattle.node_connections.proofs.Places.{none-there}
 
 -- what a port shows is what is seen there
 pub seen-as : {P : Type 0} (node : NodeView) (ports : List (NodePort P)) (id : ℕ) (port : NodePort P) (takes : Bool) (frame : Frame) (present : Payload)

@@ -1,5 +1,5 @@
 -- Speaking to the neighbours, one after the other.
-use Rattle.std.proofs.Common.{◌≡◌, ◌≢◌, ◌⊎◌, ◌<◌, ◌≤◌, ◌+◌, ℕ, Bool, true, false, List, [], ◌++◌, All, Option, Contains, slice_get, slice_index_or, refl, inl, inr, sym, ap, arith, ◌∙◌, subst, append-nil}
+use Rattle.std.proofs.Common.{◌≡◌, ◌≢◌, ◌<◌, ◌≤◌, ◌+◌, ℕ, Bool, true, false, List, ◌++◌, All, Option, Contains, slice_get, slice_index_or, refl, inl, inr, sym, ap, arith, ◌∙◌, subst, append-nil, []}
 use Rattle.std.proofs.lemmas.Grind.{common_steps}
 use Rattle.std.proofs.lemmas.List.Elements.{All-append, All-cons, All-nil}
 use Rattle.std.proofs.lemmas.Bool.{cases_lt}
@@ -11,25 +11,12 @@ use Rattle.socket_links.specs.Counts.{Counts}
 use Rattle.node_core.specs.Site.{Site}
 use Rattle.node_core.specs.State.{LocalState}
 use Rattle.node_loop.specs.Deeds.{Deed, IsSend, Leads, Sends, sent_to}
-use Rattle.node_loop.specs.Moments.{AtBoth, Moment}
+use Rattle.node_connections.specs.Ports.{AtBoth}
+use Rattle.node_loop.specs.Moments.{Moment}
 use Rattle.node_loop.specs.Noting.{sends_if}
 use Rattle.node_loop.specs.Speaking.{Speaks, SpeaksTo, sent_if}
 use Rattle.node_loop.proofs.Became.{leads-join, sent-join}
-
-pub below-or-last : (w i : ℕ) → w < i + 1 → (w < i) ⊎ (w ≡ i)
-below-or-last w i below = grind arith
-
-pub apart : (w i : ℕ) → w < i → w ≡ i → ⊥
-apart w i less same = omega arith
-
-pub past : (w i : ℕ) → i + 1 ≤ w → w ≡ i → ⊥
-past w i from same = omega arith
-
-pub none-below : (w : ℕ) → w < 0 → ⊥
-none-below w below = omega arith
-
-pub none-there : (w : ℕ) → Contains {X = ℕ} [] w → ⊥
-none-there w (i, below, e) = omega (arith, below)
+use Rattle.node_connections.proofs.Places.{apart, below-or-last, none-below, past}
 
 -- a port and what is kept of it stay
 abbrev pub StaysAt : {P : Type 0} → Moment P → Moment P → ℕ → Type 0

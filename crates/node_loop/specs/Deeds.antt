@@ -1,11 +1,10 @@
 -- What a node does by itself: it takes frames, its clients ask and leave, it ticks, and it sends.
-use Rattle.std.specs.Prelude.{◌≡◌, ℕ, ◌+◌, Bool, false, List, [], ◌∷◌, All, ⊤, is_none}
+use Rattle.std.specs.Prelude.{◌≡◌, ℕ, ◌+◌, Bool, false, List, ◌∷◌, All, ⊤, is_none, []}
 use Rattle.lock_desk.specs.Act.{desk_act}
 use Rattle.node_core.specs.Step.{ticked}
 use Rattle.node_core.specs.View.{NodeView, site_in, state_of}
 use Rattle.node_core.specs.declared.ticked.Ticked.{Ticked}
-pub use Rattle.accounts.specs.Deeds.{Deed, after_ask, Leads, taken_from, sent_to}
-pub use Rattle.accounts.specs.Deeds.{Takes, Asks, Leaves, Ticks, Sends}
+pub use Rattle.accounts.specs.Deeds.{Deed, after_ask, Leads, taken_from, sent_to, Takes, Asks, Leaves, Ticks, Sends}
 
 -- how many ticks there are among the deeds
 abbrev pub ticks_in : List Deed → ℕ

@@ -1,19 +1,12 @@
-pub mod Doors
-pub mod Greetings
+pub use Rattle.node_connections.specs as node_connections
 pub mod Deeds
 pub mod Answers
 pub mod Clients
-pub mod Heard
-pub mod Lives
-pub mod Ends
-pub mod Arrivals
 pub mod Moments
 pub mod Hearing
 pub mod Remembering
 pub mod Speaking
 pub mod Turns
-pub mod Loose
-pub mod LinkSights
 pub mod NotesView
 pub mod Noting
 pub mod Services

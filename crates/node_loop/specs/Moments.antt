@@ -1,8 +1,8 @@
 -- How a node that runs stands at a moment.
-use Rattle.std.specs.Prelude.{Bool, List, Option, None, Some, ⊤}
+use Rattle.std.specs.Prelude.{Bool, List}
 use Rattle.node_core.specs.View.{NodeView}
 use Rattle.pace.specs.declared.pace.Pace.{Pace}
-use Rattle.node_loop.specs.declared.port.NodePort.{NodePort}
+use Rattle.node_connections.specs.declared.port.NodePort.{NodePort}
 
 -- its node, its ports by the neighbour's id, its pace, and whether a client has just let the lock go
 pub record Moment (P : Type 0) : Type 0 where
@@ -15,11 +15,3 @@ pub record Moment (P : Type 0) : Type 0 where
 abbrev pub moment_of : {P : Type 0} → NodeView → List (NodePort P) → Pace → Bool → Moment P
 moment_of node ports pace let_go =
     record { node = node; ports = ports; pace = pace; let_go = let_go }
-
--- both places of two lists have a port, and these are so related; or neither has one
-abbrev pub AtBoth : {P : Type 0} → (NodePort P → NodePort P → Type 0) → Option (NodePort P)
-    → Option (NodePort P) → Type 0
-AtBoth R None None = ⊤
-AtBoth R None (Some new) = ⊥
-AtBoth R (Some old) None = ⊥
-AtBoth R (Some old) (Some new) = R old new

@@ -1,5 +1,5 @@
 -- What is noted of the deeds of a turn.
-use Rattle.std.specs.Prelude.{◌≡◌, ℕ, Bool, true, false, nat_lt, if◌then◌else◌, List, [], ◌∷◌, ◌++◌, length, All, Option}
+use Rattle.std.specs.Prelude.{◌≡◌, ℕ, Bool, true, false, nat_lt, if◌then◌else◌, List, ◌∷◌, ◌++◌, length, All, Option, []}
 use Rattle.flight_records.specs.declared.entry.Deed.TheVariants as entry
 use Rattle.flight_records.specs.declared.entry.Deed as entries
 use Rattle.lock_desk.specs.declared.client_line.ClientLine.{ClientLine}
@@ -14,7 +14,7 @@ use Rattle.node_loop.specs.Moments.{Moment}
 use Rattle.node_loop.specs.NotesView.{NotesView}
 use Rattle.node_loop.specs.Speaking.{Speaks}
 use Rattle.node_loop.specs.Turns.{Attends, Turns}
-use Rattle.node_loop.specs.declared.port.NodePort.{NodePort}
+use Rattle.node_connections.specs.declared.port.NodePort.{NodePort}
 
 -- a deed as a record has it
 abbrev pub as_entry : Deed → entries.Deed

@@ -1,5 +1,5 @@
 -- What a node does for its clients: it serves their lines, and tickets leave.
-use Rattle.std.specs.Prelude.{◌≡◌, ℕ, Bool, false, ◌==◌, if◌then◌else◌, List, [], ◌∷◌, ◌++◌, ⊤}
+use Rattle.std.specs.Prelude.{◌≡◌, ℕ, Bool, false, ◌==◌, if◌then◌else◌, List, ◌∷◌, ◌++◌, ⊤, []}
 use Rattle.lock_desk.specs.Desk.{after_leave}
 use Rattle.lock_desk.specs.declared.client_line.ClientLine.{ClientLine}
 use Rattle.node_core.specs.State.{LocalState}

@@ -1,8 +1,8 @@
 //! The loop of a node's process: what one turn does, over doors, connections and a store that may
 //! fail.
 //!
-//! A [`NodeRun`] has a node, its links to neighbours and its clients. Its [`Doors`] bring
-//! connections, and its store keeps its state.
+//! A [`NodeRun`] has a node, its links to neighbours and its clients, which stand in the crate
+//! `node_connections`. Its [`Doors`] bring connections, and its store keeps its state.
 //!
 //! ```
 //! let mut run = NodeRun::new(alloc, net, node, doors, store, Manner::usual())?;
@@ -35,18 +35,13 @@
 #![tactic(auto)]
 
 mod answer;
-mod clients;
-mod doors;
-mod greeting;
-mod lobby;
 mod notes;
-mod port;
 mod run;
 mod service;
 mod sight;
 mod turned;
 
-pub use doors::{Door, Doors};
+pub use node_connections::{Door, Doors};
 pub use notes::Notes;
 pub use run::{NodeRun, Unmade};
 pub use turned::Turned;

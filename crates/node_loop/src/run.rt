@@ -6,8 +6,8 @@ ghost use Rattle.node_core.specs.Site.{site_of};
 ghost use Rattle.node_core.specs.View.{site_in, state_of};
 ghost use Rattle.node_state_file.specs.Files.{file_of};
 ghost use Rattle.node_state_file.specs.Stores.{Saves};
-ghost use Rattle.node_loop.specs.Clients.{is_connected};
-ghost use Rattle.node_loop.specs.Loose.{AreLoose};
+ghost use Rattle.node_connections.specs.Clients.{is_connected};
+ghost use Rattle.node_connections.specs.Loose.{AreLoose};
 
 mod connecting;
 mod keeping;
@@ -16,16 +16,15 @@ mod pacing;
 mod pulling;
 mod speaking;
 
-use crate::clients::Clients;
-use crate::doors::Doors;
-use crate::lobby::Lobby;
 use crate::notes::Notes;
-use crate::port::NodePort;
 use crate::turned::Turned;
+use node_connections::clients::Clients;
+use node_connections::lobby::Lobby;
+use node_connections::port::NodePort;
+use node_connections::{Doors, reserve};
 use node_core::{Node, Ticked};
 use node_state_file::Store;
 use pace::{Manner, Pace};
-use socket_links::Pipe;
 use std::alloc::{AllocError, Allocator, Global};
 use topology::Net;
 
@@ -67,7 +66,7 @@ pub struct NodeRun<D: Doors, S: Store + Drop, A: Allocator + Copy = Global> {
 
 impl<D: Doors, S: Store + Drop, A: Allocator + Copy> NodeRun<D, S, A> {
     ghost use Rattle.node_loop.specs.Clients.{AreConnected};
-    ghost use Rattle.node_loop.specs.Lives.{StillLive};
+    ghost use Rattle.node_connections.specs.Lives.{StillLive};
     ghost use Rattle.node_loop.specs.Noting.{AttendIsNoted, TurnIsNoted};
     ghost use Rattle.node_loop.specs.Said.{AttendSays, TurnSays};
     ghost use Rattle.node_loop.specs.Turns.{Attends, Turns};
@@ -246,20 +245,4 @@ impl<D: Doors, S: Store + Drop, A: Allocator + Copy> NodeRun<D, S, A> {
     {
         &mut self.doors
     }
-}
-
-/// The memory of a node that runs, in a network of a known number of nodes.
-type Reserved<P, A> = (Vec<NodePort<P>, A>, Lobby<P, A>, Clients<P, A>);
-
-/// Reserves the memory of a node that runs in a network of this many nodes.
-fn reserve<P: Pipe, A: Allocator + Copy>(alloc: A, nodes: u16) -> Result<Reserved<P, A>, AllocError>
-    ensures nodes { IfOk result (λ reserved. length reserved.0.items ≡ nodes) }
-    ensures alone { IfOk result (λ reserved. AreLoose [] reserved.0.items
-        × ((t : ℕ) → is_connected reserved.2 t ≡ false)) }
-{
-    let mut ports = Vec::with_capacity(alloc, nodes as usize)?;
-    for _ in 0..nodes {
-        ports.push_reserved(NodePort::new());
-    }
-    Ok((ports, Lobby::new(alloc)?, Clients::new(alloc)?))
 }

@@ -7,8 +7,8 @@ ghost use Rattle.node_core.specs.View.{site_in, state_of};
 ghost use Rattle.pace.specs.Plans.{is_tree, sight_of};
 ghost use Rattle.node_loop.specs.Speaking.{outlook_of, sight_at};
 
-use crate::port::NodePort;
 use euler_ring::{TreeNeighbours, tree_neighbours};
+use node_connections::port::NodePort;
 use node_core::Node;
 use pace::{Outlook, PortSight};
 use socket_links::Pipe;

@@ -7,10 +7,10 @@ use Rattle.std.proofs.lemmas.List.{map-id}
 use Rattle.std.proofs.lemmas.List.Concat.{flat_map-append}
 use Rattle.std.proofs.lemmas.List.FromFn.{map-range_with_len_more}
 use Rattle.node_core.specs.View.{NodeView}
-use Rattle.node_recorder.specs.flight_recorder.flight_records.declared.entry.Deed.{Deed}
-use Rattle.node_recorder.specs.flight_recorder.flight_records.declared.entry.Deed.TheVariants.{Connects, Disconnects}
-use Rattle.node_recorder.specs.Turns.{Records}
-use Rattle.node_recorder.specs.declared.recorder.NodeRecorder.{NodeRecorder}
+use Rattle.record_files.specs.node_recorder.flight_recorder.flight_records.declared.entry.Deed.{Deed}
+use Rattle.record_files.specs.node_recorder.flight_recorder.flight_records.declared.entry.Deed.TheVariants.{Connects, Disconnects}
+use Rattle.record_files.specs.node_recorder.Turns.{Records}
+use Rattle.record_files.specs.node_recorder.declared.recorder.NodeRecorder.{NodeRecorder}
 use Rattle.node_process.specs.Noted.{link_change, link_changes, RecordsEach}
 
 pub apart : (a b : Bool) → not (beq a b) ≡ true → a ≢ b

@@ -1,12 +1,8 @@
 -- Small examples of each definition, with some that fail.
 use Rattle.std.proofs.Common.{◌≡◌, ◌≢◌, true, false, Some, None, [], ◌∷◌, refl, codes, arith}
-use Rattle.std.specs.Fmt.{digits}
-use Rattle.process_parts.specs.node_keeping.declared.saved.AfterSave.TheVariants as save
-use Rattle.process_parts.specs.declared.fault.NodeFault.TheVariants.{Displaced, StopStays}
+use Rattle.record_files.specs.process_parts.node_keeping.declared.saved.AfterSave.TheVariants as save
+use Rattle.record_files.specs.process_parts.declared.fault.NodeFault.TheVariants.{Displaced, StopStays}
 use Rattle.node_process.specs.Ends.{end_fault, ends_by}
-use Rattle.node_recorder.specs.flight_recorder.declared.recorder.Side.TheVariants.{First, Second}
-use Rattle.node_process.specs.Tapes.{file_bytes, side_to_begin}
-use Rattle.node_process.specs.Kept.{draft_name, not_kept_line}
 use Rattle.node_process.specs.Places.{same_id, is_in_place}
 use Rattle.topology.specs.Network.{Network}
 use Rattle.node_process.specs.Texts.{blocked_line}
@@ -31,23 +27,6 @@ goes-on = refl
 
 goes_not-on : ends_by save.StopStays ≡ true
 goes_not-on = refl
-
--- a record begins with the file that was written earlier, or with one that is not there
-begins-first : side_to_begin None None ≡ First
-begins-first = refl
-
-begins-other : side_to_begin (Some 7) None ≡ Second
-begins-other = refl
-
-begins-earlier : side_to_begin (Some 8) (Some 7) ≡ Second
-begins-earlier = refl
-
-begins_not-later : side_to_begin (Some 7) (Some 8) ≢ Second
-begins_not-later = grind arith
-
--- a file has room for two pages
-has-room : file_bytes (record { bytes = 0 }) ≡ 65536
-has-room = refl
 
 -- a line of three nodes
 line : Network
@@ -75,15 +54,3 @@ place_not-node = refl
 
 same_not-none : same_id (Some 1) None ≡ false
 same_not-none = refl
-
--- each node writes the network's text under a name of its own first
-names-draft : draft_name (codes "run") 2 ≡ codes "run/record.toml.2"
-unfolding digits
-names-draft = refl
-
-names_not-draft : draft_name (codes "run") 2 ≢ codes "run/record.toml"
-names_not-draft e = absurd cc
-
-says-not_kept : not_kept_line (codes "run")
-    ≡ codes "tokentree: run/record.toml: the network is not kept, so give it to gather by --network; the node runs on"
-says-not_kept = refl

@@ -1,9 +1,9 @@
 -- The fault with which a node ends.
 use Rattle.std.specs.Prelude.{Bool, true, false, Option, None, Some}
-use Rattle.process_parts.specs.node_keeping.declared.saved.AfterSave.{AfterSave}
-use Rattle.process_parts.specs.node_keeping.declared.saved.AfterSave.TheVariants as save
-use Rattle.process_parts.specs.declared.fault.NodeFault.{NodeFault}
-use Rattle.process_parts.specs.declared.fault.NodeFault.TheVariants.{Displaced, StopStays}
+use Rattle.record_files.specs.process_parts.node_keeping.declared.saved.AfterSave.{AfterSave}
+use Rattle.record_files.specs.process_parts.node_keeping.declared.saved.AfterSave.TheVariants as save
+use Rattle.record_files.specs.process_parts.declared.fault.NodeFault.{NodeFault}
+use Rattle.record_files.specs.process_parts.declared.fault.NodeFault.TheVariants.{Displaced, StopStays}
 
 -- a node that was displaced, or whose stop file stays, ends with a fault; one that was stopped ends
 -- well

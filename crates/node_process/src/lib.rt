@@ -13,18 +13,17 @@
 //! has other neighbours, under the name `record.toml.U` first.
 //!
 //! The crate `node_loop` has the turn of a node, over doors; `unix_doors` has those over Unix
-//! sockets, `process_parts` what else a start makes, and `node_texts` the names of files and the lines
-//! that are printed. `node_keeping` decides what a node does after each 256th turn; `look_window`
-//! decides what lookers are shown. Contracts know nothing of the system's answers, so the functions
-//! that call it promise little: in which order a start goes, which fault ends it, and what a node
-//! notes of a turn.
+//! sockets, `record_files` the files of a record, `process_parts` what else a start makes, and
+//! `node_texts` the names of files and the lines that are printed. `node_keeping` decides what a node
+//! does after each 256th turn; `look_window` decides what lookers are shown. Contracts know nothing of
+//! the system's answers, so the functions that call it promise little: in which order a start goes,
+//! which fault ends it, and what a node notes of a turn.
 //!
 //! The trap: whoever can open the sockets can take the lock. The folder is made so that only its
 //! owner can enter it.
 #![tactic(auto)]
 
 mod journal;
-mod kept_network;
 mod names;
 pub mod node;
 mod observer;
@@ -32,5 +31,5 @@ mod tape;
 mod window;
 
 pub use node::NodeWords;
-pub use process_parts::{NodeFault, RecordSize, Refusal, Rights, USUAL_SIZE};
+pub use record_files::process_parts::{NodeFault, RecordSize, Refusal, Rights, USUAL_SIZE};
 pub use turn_watch::USUAL_LIMIT;

@@ -2,7 +2,9 @@
 ghost use Rattle.std.specs.Prelude.{◌≡◌, ◌↔◌, true, false, IfOk, IsErr, IsTrue};
 
 use network_news::FileNews;
-use process_parts::{Complaint, FileId, FileSight, Lost, NodePaths, Place, bind_again, sight_at};
+use record_files::process_parts::{
+    Complaint, FileId, FileSight, Lost, NodePaths, Place, bind_again, sight_at,
+};
 use std::net::Net as Sockets;
 use std::rt::Files;
 use std::{fmt, io};

@@ -1,13 +1,13 @@
 //! `node FILE ID DIR`: a node of a network as a process.
 ghost use Rattle.std.specs.Prelude.{◌≡◌, ◌↔◌, ◌<◌, ◌≤◌, ◌⊎◌, true, false, Some, None, IfOk, IfErr, IsTrue};
 ghost use Rattle.topology.specs.Change.{is_same_frame};
-ghost use Rattle.process_parts.specs.node_keeping.AfterSave.{looks_for_stop};
-ghost use Rattle.process_parts.specs.node_keeping.declared.saved.StopSight.TheVariants.{Absent};
-ghost use Rattle.process_parts.specs.Start.{may_end};
+ghost use Rattle.record_files.specs.process_parts.node_keeping.AfterSave.{looks_for_stop};
+ghost use Rattle.record_files.specs.process_parts.node_keeping.declared.saved.StopSight.TheVariants.{Absent};
+ghost use Rattle.record_files.specs.process_parts.Start.{may_end};
 ghost use Rattle.node_process.specs.Ends.{end_fault, ends_by};
-ghost use Rattle.process_parts.specs.declared.fault.NodeFault.TheVariants.{NoNode, Memory, System};
-ghost use Rattle.process_parts.specs.declared.start.Stage.TheVariants.{Begun, Checked, Held};
-ghost use Rattle.process_parts.specs.declared.start.Stage.TheVariants.{Listening, Ready};
+ghost use Rattle.record_files.specs.process_parts.declared.fault.NodeFault.TheVariants.{NoNode, Memory, System};
+ghost use Rattle.record_files.specs.process_parts.declared.start.Stage.TheVariants.{Begun, Checked, Held};
+ghost use Rattle.record_files.specs.process_parts.declared.start.Stage.TheVariants.{Listening, Ready};
 
 use crate::names::{Name, Names};
 use crate::observer::Observer;
@@ -19,7 +19,7 @@ use node_log::Level;
 use node_loop::NodeRun;
 use node_state_file::{FileStore, start};
 use pace::Manner;
-use process_parts::{
+use record_files::process_parts::{
     AfterSave, Listeners, NetworkFault, NodeFault, NodePaths, Note, NoteLine, Place, RecordSize,
     Rights, Sights, Stage, StopSight, addresses_of, after_save, check_names, fault_of, hold_place,
     looks_for_stop, make_folder, make_sockets, read_network, remove, set_mode, warn_of_capacity,

@@ -8,7 +8,7 @@ use crate::window::Window;
 use node_log::Event;
 use node_loop::{Doors, NodeRun, Notes};
 use node_state_file::Store;
-use process_parts::NodeFault;
+use record_files::process_parts::NodeFault;
 use std::fs::File;
 use std::rt::{Clock, Env, Files};
 use unix_doors::Stopwatch;

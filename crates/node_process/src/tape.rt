@@ -1,85 +1,40 @@
 //! A node's record, in two files of its folder.
-ghost use Rattle.std.specs.Prelude.{◌≡◌, ◌≢◌, ◌≤◌, ◌⊎◌, ◌||◌, IfOk, IsTrue, true, false, string_bytes};
+ghost use Rattle.std.specs.Prelude.{◌≡◌, ◌≢◌, ◌⊎◌, ◌||◌, IfOk, IsTrue, true, false};
 ghost use Rattle.std.specs.Prelude.{◌∷◌, ◌+◌, ◌<◌, [], ℕ, if◌then◌else◌, length, min, not, slice_index_or};
-ghost use Rattle.node_recorder.specs.flight_recorder.Recorder.{after_failure, after_write, is_due};
-ghost use Rattle.node_recorder.specs.flight_recorder.Names.{record_name};
-ghost use Rattle.node_recorder.specs.flight_recorder.flight_records.declared.entry.Deed.TheVariants.{Connects, Disconnects};
+ghost use Rattle.record_files.specs.node_recorder.flight_recorder.Recorder.{after_failure, after_write, is_due};
+ghost use Rattle.record_files.specs.node_recorder.flight_recorder.flight_records.declared.entry.Deed.TheVariants.{Connects, Disconnects};
 ghost use Rattle.node_core.specs.View.{site_in};
-ghost use Rattle.node_recorder.specs.Backlog.{nothing};
-ghost use Rattle.node_recorder.specs.node_follower.Following.{FitsNetwork};
-ghost use Rattle.node_recorder.specs.Quiet.{is_quiet};
-ghost use Rattle.node_recorder.specs.flight_recorder.declared.recorder.Side.TheVariants.{First, Second};
-ghost use Rattle.node_recorder.specs.Turns.{Records};
+ghost use Rattle.record_files.specs.node_recorder.Backlog.{nothing};
+ghost use Rattle.record_files.specs.node_recorder.node_follower.Following.{FitsNetwork};
+ghost use Rattle.record_files.specs.node_recorder.Quiet.{is_quiet};
+ghost use Rattle.record_files.specs.node_recorder.Turns.{Records};
 ghost use Rattle.node_process.specs.Noted.{is_linked, is_seen_up, link_changes, IsWrittenOrNot, RecordsEach};
 ghost use Rattle.node_process.specs.Noted.{RecordsTurn};
-ghost use Rattle.node_process.specs.Tapes.{file_bytes, of_side, side_to_begin};
-ghost use Rattle.node_process.specs.Tapes.{AreFirstPages, ArePagesAfter};
+ghost use Rattle.record_files.specs.Files.{file_bytes, AreFirstPages};
 
-use crate::kept_network::{NotKept, keep_network};
 use crate::node::NodeWords;
 use node_loop::{Doors, NodeRun, Notes};
-use node_recorder::{
-    Deed, LEAST_SIZE, NodeRecorder, Recorder, Side, is_quiet, network_mark, record_name,
-};
 use node_state_file::Store;
-use process_parts::{NodeFault, RecordSize, file_up_to, new_file};
-use std::alloc::{AllocError, Global};
+use record_files::node_recorder::{Deed, NodeRecorder, is_quiet, network_mark};
+use record_files::process_parts::{NodeFault, RecordSize};
+use record_files::{
+    KeepWords, NotKept, RecordFiles, RecordNames, first_pages, keep_network, micros_now,
+};
 use std::fmt::Display;
-use std::fs::{self, File};
-use std::io::{self, ErrorKind, Write};
+use std::fs::File;
 use std::rt::{Clock, Files};
-use std::time::{SystemTime, UNIX_EPOCH};
 use topology::Net;
 use turn_watch::LinkSight;
 
-/// The most bytes of a file that a start goes on with: 16 MiB. Longer ones take too long to read.
-const MOST_READ: u64 = 16_777_216;
-
 /// The most nodes of a network.
 const NODES: usize = 64;
-
-/// The names of a record's two files.
-#[derive(Drop)]
-struct RecordNames {
-    first: String,
-    second: String,
-}
-
-impl RecordNames {
-    /// Those of node `id` in a folder.
-    ///
-    /// # Errors
-    /// If memory runs out.
-    fn new(alloc: Global, dir: &str, id: u16) -> Result<RecordNames, AllocError>
-        ensures { IfOk result (λ names. (string_bytes names.first ≡ record_name dir.now id First)
-            × (string_bytes names.second ≡ record_name dir.now id Second)) }
-    {
-        Ok(RecordNames {
-            first: record_name(alloc, dir, id, Side::First)?,
-            second: record_name(alloc, dir, id, Side::Second)?,
-        })
-    }
-
-    /// The name of one of them.
-    fn of(&self, side: Side) -> &str
-        ensures { result.now
-            ≡ of_side side (string_bytes self.now.first) (string_bytes self.now.second) }
-    {
-        match side {
-            Side::First => self.first.as_str(),
-            Side::Second => self.second.as_str(),
-        }
-    }
-}
 
 /// The record of a node that runs.
 #[derive(Drop)]
 pub struct Tape<'a, R> {
     rt: &'a R,
     recorder: NodeRecorder,
-    names: RecordNames,
-    /// The present file, once something is written to it.
-    file: Option<File>,
+    files: RecordFiles,
     /// When the node's clock stood at 0, in microseconds since the start of 1970, UTC.
     start: u64,
     /// Which nodes it was last seen to have a connection with.
@@ -115,8 +70,7 @@ impl<'a, R: Files<File = File> + Clock + Eprint + AllocGlobal> Tape<'a, R> {
         Ok(Tape {
             rt,
             recorder: NodeRecorder::new(alloc, run.net(), run.node(), pages)?,
-            names,
-            file: None,
+            files: RecordFiles::new(names),
             start: micros_now(rt).unwrap_or(0).saturating_sub(now),
             linked: [false; NODES],
         })
@@ -177,7 +131,7 @@ impl<'a, R: Files<File = File> + Clock + Eprint + AllocGlobal> Tape<'a, R> {
         may_wait: bool,
         instant: u64,
     )
-        ensures names { self.new.names ≡ self.old.names }
+        ensures files { self.new.files ≡ self.old.files }
         ensures settled { may_wait ≡ false → self.old.recorder.backlog ≡ nothing
             → self.new.recorder.backlog ≡ nothing }
         ensures noted { RecordsEach instant may_wait run.now.node
@@ -206,7 +160,7 @@ impl<'a, R: Files<File = File> + Clock + Eprint + AllocGlobal> Tape<'a, R> {
         may_wait: bool,
         instant: u64,
     )
-        ensures names { (self.new.names ≡ self.old.names) × (self.new.linked ≡ self.old.linked) }
+        ensures files { (self.new.files ≡ self.old.files) × (self.new.linked ≡ self.old.linked) }
         ensures noted { Records instant (deed ∷ []) true may_wait run.now.node self.old.recorder
             self.new.recorder }
         ensures settled { may_wait ≡ false → self.old.recorder.backlog ≡ nothing
@@ -249,10 +203,10 @@ impl<'a, R: Files<File = File> + Clock + Eprint + AllocGlobal> Tape<'a, R> {
         ensures recorder { IsWrittenOrNot self.old.recorder self.new.recorder }
         ensures linked { self.new.linked ≡ self.old.linked }
     {
-        match self.append() {
+        match self.files.append(self.rt, self.recorder.pages()) {
             Ok(()) => {
                 if self.recorder.wrote() {
-                    self.file = None;
+                    self.files.close();
                 }
             }
             Err(error) => self.stop(&error),
@@ -266,37 +220,11 @@ impl<'a, R: Files<File = File> + Clock + Eprint + AllocGlobal> Tape<'a, R> {
         ensures linked { self.new.linked ≡ self.old.linked }
     {
         self.recorder.failed();
-        self.file = None;
-        let path = self.names.of(self.recorder.pages().side());
+        self.files.close();
+        let path = self.files.names.of(self.recorder.pages().side());
         let _ = eprintln!(self.rt;
             "tokentree: {path}: the record ends, and the node runs on: {why}"
         );
-    }
-
-    /// Writes the page to the end of the present file.
-    fn append(&mut self) -> io::Result<()>
-        ensures { (self.new.recorder ≡ self.old.recorder) × (self.new.linked ≡ self.old.linked) }
-    {
-        let mut file = match self.file.take() {
-            Some(file) => file,
-            None => self.open_present()?,
-        };
-        let page = self.recorder.pages().page();
-        if file.write(page)? < page.len() {
-            return Err(io::Error::new(ErrorKind::WriteZero, "a page was not written to its end"));
-        }
-        self.file = Some(file);
-        Ok(())
-    }
-
-    /// Opens the present file: a new one, or, if something is written to it, the one that is there.
-    fn open_present(&self) -> io::Result<File> {
-        let pages = self.recorder.pages();
-        let path = self.names.of(pages.side());
-        match pages.written() {
-            0 => new_file(self.rt, path),
-            written => file_up_to(self.rt, path, written),
-        }
     }
 }
 
@@ -323,95 +251,13 @@ fn link_deed(neighbour: u16, is_linked: bool) -> Deed
 
 /// Keeps the text of a node's network beside its record. If that fails, a line says so.
 fn keep<R: Files<File = File> + Eprint + AllocGlobal>(rt: &R, words: &NodeWords<'_>, net: &Net) {
-    if let Err(error) = keep_network(rt, words, net) {
+    let kept = KeepWords {
+        file: words.file,
+        id: words.id,
+        dir: words.dir,
+    };
+    if let Err(error) = keep_network(rt, kept, net) {
         let line = NotKept { dir: words.dir };
         let _ = eprintln!(rt; "{line}: {error}");
     }
-}
-
-/// The pages with which a record in these files begins.
-fn first_pages<R: Files + AllocGlobal>(
-    rt: &R,
-    names: &RecordNames,
-    size: RecordSize,
-    network: u32,
-    id: u16,
-) -> Result<Recorder, AllocError>
-    ensures { IfOk result (AreFirstPages (file_bytes size)) }
-{
-    let earlier = side_to_begin(
-        written_at(rt, names.of(Side::First)),
-        written_at(rt, names.of(Side::Second)),
-    );
-    let (alloc, size) = (rt.alloc(), file_bytes(size));
-    match read_file(rt, names.of(earlier.other())) {
-        Some(last) => pages_after(alloc, size, earlier, last.as_slice(), network, id),
-        None => Recorder::new(alloc, size, earlier),
-    }
-}
-
-/// The pages with which a record begins, in files of at most `size` bytes: after the whole entries of the
-/// file that was written last, if it begins as a record of this node and has room; else at the start of the
-/// other one.
-fn pages_after(
-    alloc: Global,
-    size: u64,
-    earlier: Side,
-    last: &[u8],
-    network: u32,
-    id: u16,
-) -> Result<Recorder, AllocError>
-    requires { 65536 ≤ size }
-    ensures { IfOk result (ArePagesAfter size earlier network id last.now) }
-{
-    match Recorder::resumed(alloc, size, earlier.other(), last, network, id)? {
-        Some(pages) => Ok(pages),
-        None => Recorder::new(alloc, size, earlier),
-    }
-}
-
-/// What stands in a plain file of at most 16 MiB; none if it is not there or cannot be read.
-fn read_file<R: Files + AllocGlobal>(rt: &R, path: &str) -> Option<Vec<u8>> {
-    let found = fs::symlink_metadata(rt, path).ok()?;
-    if !found.is_file() || found.len() > MOST_READ {
-        return None;
-    }
-    fs::read(rt, path).ok()
-}
-
-/// The most bytes of a file.
-fn file_bytes(size: RecordSize) -> u64
-    ensures bytes { result ≡ file_bytes size }
-    ensures least { 65536 ≤ result }
-{
-    size.bytes.max(LEAST_SIZE)
-}
-
-/// The file with which a record begins, by when each was written, if it is there: the one that was
-/// written earlier, or one that is not there.
-fn side_to_begin(first: Option<u64>, second: Option<u64>) -> Side
-    ensures { result ≡ side_to_begin first second }
-{
-    match (first, second) {
-        (Some(first), Some(second)) if first > second => Side::Second,
-        (Some(_), None) => Side::Second,
-        _ => Side::First,
-    }
-}
-
-/// When a file was written last, in microseconds since the start of 1970, UTC; none if it is not
-/// there.
-fn written_at<F: Files>(files: &F, name: &str) -> Option<u64> {
-    let written = fs::symlink_metadata(files, name).ok()?.modified().ok()?;
-    micros_of(written)
-}
-
-/// The microseconds since the start of 1970, UTC, if the system says them.
-fn micros_now<C: Clock>(clock: &C) -> Option<u64> {
-    micros_of(SystemTime::now(clock).ok()?)
-}
-
-/// The microseconds from the start of 1970, UTC, to this time.
-fn micros_of(time: SystemTime) -> Option<u64> {
-    u64::try_from(time.duration_since(UNIX_EPOCH).ok()?.as_micros()).ok()
 }

@@ -3,7 +3,7 @@ ghost use Rattle.std.specs.Prelude.{◌≡◌, ◌≢◌, ◌<◌, ℕ, false, i
 ghost use Rattle.std.specs.Prelude.{IfOk, Some, string_bytes};
 ghost use Rattle.node_core.specs.View.{site_in, state_of};
 ghost use Rattle.node_loop.specs.Answers.{grants};
-ghost use Rattle.node_loop.specs.LinkSights.{link_at};
+ghost use Rattle.node_loop.specs.node_connections.LinkSights.{link_at};
 ghost use Rattle.turn_watch.specs.Turns.{begun, turn_ended};
 ghost use Rattle.turn_watch.specs.Loans.{no_loans, desk_seen};
 ghost use Rattle.turn_watch.specs.Links.{down_since, link_seen, link_of};
@@ -16,7 +16,7 @@ ghost use Rattle.look_window.specs.NodeLook.{node_look};
 use look_window::{ProcessSaid, counted_machine, line_of_node};
 use node_loop::{Doors, NodeRun, Turned};
 use node_state_file::Store;
-use process_parts::ProcessPart;
+use record_files::process_parts::ProcessPart;
 use std::alloc::{AllocError, Global};
 use std::fs;
 use std::path::AsPath;

@@ -1,19 +1,13 @@
 -- Small examples of names, lines and reports, and some that look like them and are none.
 use Rattle.std.proofs.Common.{◌≡◌, ◌≢◌, ℕ, List, true, false, [], ◌∷◌, ◌++◌, Some, None, codes, decimal, string_bytes, refl, arith}
 use Rattle.std.proofs.lemmas.Fmt.{decimal_digit}
-use Rattle.node_state_file.specs.node_core.Site.{Site}
-use Rattle.node_state_file.specs.node_core.State.{default_node}
-use Rattle.node_state_file.specs.declared.fault.FileFault.TheVariants as read
-use Rattle.node_state_file.specs.declared.starting.StartFault.TheVariants.{File, Absent}
 use Rattle.node_texts.specs.declared.answers.NodeAnswer.{NodeAnswer}
-use Rattle.node_texts.specs.declared.lines.Note.TheVariants.{Started, Ready}
 use Rattle.node_texts.specs.declared.lines.End.TheVariants.{Status, Signal, Unknown, Unstarted}
 use Rattle.node_texts.specs.declared.paths.NodePaths.{NodePaths}
 use Rattle.node_texts.specs.declared.status_line.StatusLine.{StatusLine}
 use Rattle.node_texts.specs.DeskFile.{desk_path, look_path}
 use Rattle.node_texts.specs.Names.{AreNamed, file_name, longest_socket_name}
-use Rattle.node_texts.specs.NodeStatus.{line_of}
-use Rattle.node_texts.specs.NoteText.{capacity_line, end_line, note_line}
+use Rattle.node_texts.specs.LineText.{capacity_line, end_line}
 use Rattle.node_texts.specs.Report.{has_answered, report_text}
 use Rattle.node_texts.specs.StatusLaws.{IsSmall}
 use Rattle.node_texts.specs.StatusText.{line_status, short_line_status, status_text}
@@ -58,21 +52,6 @@ module _ (paths : NodePaths) where
       let e : ◌≡◌ {A = List ℕ} (codes "run/state-1.tkt") (codes "run/state-2.tkt") = rw (state, two-is) at are.0 in grind (arith, e)
 
 -- ---- what processes print
-
-says-loaded : note_line None (Started None) ≡ codes "start loaded"
-says-loaded = refl
-
-says-default : note_line (Some 1) (Started (Some (File read.Magic))) ≡ codes "node 1 start default Magic"
-says-default = rw one-is
-
-says-absent : note_line None (Started (Some Absent)) ≡ codes "start default Absent"
-says-absent = refl
-
-says-ready : note_line (Some 1) Ready ≡ codes "node 1 ready"
-says-ready = rw one-is
-
-says_not-loaded : note_line None (Started (Some Absent)) ≢ codes "start loaded"
-says_not-loaded = grind arith
 
 ends-status : end_line 1 (Status 2) ≡ codes "node 1 ended with status 2, and is started again"
 ends-status = rw (one-is, two-is)
@@ -137,13 +116,6 @@ small = record { node = omega arith; distance = omega arith; parent = omega arit
 
 small_not-node : ¬ IsSmall (record lending { node = 65536 })
 small_not-node s = omega (arith, s.node)
-
--- what the root of two nodes says of itself as it starts
-abbrev root : Site
-root = record { id = 0; is_root = true; ranges = record { nodes = 2; counter = 5; ring = 7 }; lease = 0; neighbours = 1 ∷ [] }
-
-line-root : line_of root (default_node root.ranges) ≡ record { node = 0; distance = 2; parent = None; token = false; lent = None; waiting = 0 }
-line-root = refl
 
 -- ---- the report
 

@@ -1,9 +1,8 @@
 pub mod Names
 pub mod DeskFile
-pub mod NoteText
+pub mod LineText
 pub mod StatusText
 pub mod StatusLaws
-pub mod NodeStatus
 pub mod Report
 pub mod LookText
 pub mod PremisesText

@@ -1,14 +1,11 @@
 //! What a node says to whoever looks: one line, a JSON object.
 ghost use Rattle.std.specs.Prelude.{◌≡◌, ◌++◌, IfOk, OnOk, codes, string_bytes};
-ghost use Rattle.node_state_file.specs.node_core.View.{site_in, state_of};
 ghost use Rattle.node_texts.specs.LookText.{look_text, status_part, links_text, other_links_text};
 ghost use Rattle.node_texts.specs.LookText.{link_text, rest_text, rounds_text, link_parts};
-ghost use Rattle.node_texts.specs.NodeStatus.{line_of};
 
 use crate::StatusLine;
 use crate::look_parts::{LinkPart, LoanPart, OrNull, ProcessPart, TurnPart};
-use node_state_file::Node;
-use std::alloc::{AllocError, Allocator, Global};
+use std::alloc::{AllocError, Global};
 use std::fmt;
 use std::fmt::Write;
 use turn_watch::Notes;
@@ -30,20 +27,6 @@ pub struct Look<'a> {
     pub version: &'a str,
     /// How often the token came round.
     pub rounds: u64,
-}
-
-/// What the status line of a node says.
-pub fn status_of<A: Allocator>(node: &Node<A>) -> StatusLine
-    ensures { result ≡ line_of (site_in node.now) (state_of node.now) }
-{
-    StatusLine {
-        node: node.id(),
-        distance: node.distance(),
-        parent: node.parent(),
-        token: node.privileged(),
-        lent: node.lent(),
-        waiting: node.waiting() as u16,
-    }
 }
 
 /// The links to these neighbours, as they are noted at that time.

@@ -19,6 +19,7 @@
 mod capacity;
 mod fault;
 mod folder;
+mod note;
 mod record_size;
 mod rights;
 mod start;
@@ -34,7 +35,8 @@ pub use node_keeping::{
     AfterSave, Complaint, Deed, FileId, FileSight, Keeper, Lost, Seen, Sights, StopSight, UpCourse,
     UpSights, after_save, looks_for_stop,
 };
-pub use node_texts::{End, EndLine, NodePaths, Note, NoteLine, ProcessPart};
+pub use node_texts::{End, EndLine, NodePaths, ProcessPart};
+pub use note::{Note, NoteLine};
 pub use record_size::{RecordSize, USUAL_SIZE};
 pub use rights::Rights;
 pub use start::Stage;

@@ -12,10 +12,11 @@ use Rattle.socket_links.specs.declared.link.Offer.{Offer}
 use Rattle.socket_links.specs.declared.link.Offer.TheVariants as offer
 use Rattle.socket_links.specs.declared.writing.Flow.{Flow}
 use Rattle.socket_links.specs.declared.writing.Flow.TheVariants as flow
-use Rattle.node_loop.specs.declared.port.NodePort.{NodePort}
-use Rattle.node_loop.specs.Hearing.{Wires, Pulls, Breaks}
-use Rattle.node_loop.specs.Speaking.{Follows, OffersIf, PushesOut, PortSpeaks, SpeaksTo, sent_if}
-use Rattle.node_loop.proofs.Pushing.{offered-on}
+use Rattle.node_loop.specs.node_connections.declared.port.NodePort.{NodePort}
+use Rattle.node_loop.specs.node_connections.Hearing.{Wires, Pulls, Breaks}
+use Rattle.node_loop.specs.node_connections.Speaking.{Follows, OffersIf, PushesOut, PortSpeaks}
+use Rattle.node_loop.specs.Speaking.{SpeaksTo, sent_if}
+use Rattle.node_loop.proofs.node_connections.Pushing.{offered-on}
 use Rattle.processes.specs.Connections.{line_of}
 use Rattle.running_nodes.proofs.Passing.{Passes, pass-same, pass-on, pass-break, pass-new, pass-join, pass-then}
 

@@ -16,10 +16,12 @@ use Rattle.pace.specs.declared.port.PortPace.{PortPace}
 use Rattle.pace.specs.declared.port.PortSight.{PortSight}
 use Rattle.socket_links.specs.Counts.{Counts}
 use Rattle.accounts.specs.Deeds.{Deed, Asks, Leaves, Sends, Takes, Ticks, sent_to}
-use Rattle.node_loop.specs.declared.port.NodePort.{NodePort}
-use Rattle.node_loop.specs.Moments.{AtBoth, Moment}
+use Rattle.node_loop.specs.node_connections.declared.port.NodePort.{NodePort}
+use Rattle.node_loop.specs.node_connections.Ports.{AtBoth}
+use Rattle.node_loop.specs.Moments.{Moment}
 use Rattle.node_loop.specs.Remembering.{Remembers, StillGiven}
-use Rattle.node_loop.specs.Speaking.{IsPlanOf, Speaks, SpeaksTo, outlook_of, sent_if, sight_at, takes_frames}
+use Rattle.node_loop.specs.Speaking.{IsPlanOf, Speaks, SpeaksTo, outlook_of, sent_if, sight_at}
+use Rattle.node_loop.specs.node_connections.Speaking.{takes_frames}
 use Rattle.node_loop.proofs.Accounts.{attend-sends, turn-sends}
 use Rattle.node_loop.proofs.Remembering.{remembers-join}
 use Rattle.processes.specs.Accounts.{Timed, deeds}

@@ -2,9 +2,9 @@
 use Rattle.std.proofs.Common.{◌≡◌, ℕ, List, [], ◌∷◌, Option, Some, true, false, slice_get, refl, sym, ap, ◌∙◌, inl, arith}
 use Rattle.accounts.specs.Deeds.{Sends, Ticks}
 use Rattle.pace.specs.declared.pace.Plan.{Plan}
-use Rattle.node_loop.specs.declared.port.NodePort.{NodePort}
+use Rattle.node_loop.specs.node_connections.declared.port.NodePort.{NodePort}
 use Rattle.node_loop.specs.Moments.{Moment}
-use Rattle.node_loop.specs.Speaking.{takes_frames}
+use Rattle.node_loop.specs.node_connections.Speaking.{takes_frames}
 use Rattle.node_core.specs.declared.ticked.Ticked.{Ticked}
 use Rattle.node_loop.specs.Turns.{Attends, Turns}
 use Rattle.processes.specs.Accounts.{Timed, deeds}

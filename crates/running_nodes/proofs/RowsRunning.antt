@@ -11,7 +11,7 @@ use Rattle.socket_links.specs.Counts.{Counts}
 use Rattle.accounts.specs.Deeds.{Deed, Ticks}
 use Rattle.pace.specs.declared.pace.Pace.{Pace}
 use Rattle.node_loop.specs.Moments.{Moment}
-use Rattle.node_loop.specs.declared.port.NodePort.{NodePort}
+use Rattle.node_loop.specs.node_connections.declared.port.NodePort.{NodePort}
 use Rattle.processes.specs.Accounts.{Timed}
 use Rattle.processes.specs.Connections.{as_items}
 use Rattle.processes.specs.Together.{Wires}

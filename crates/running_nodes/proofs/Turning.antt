@@ -11,13 +11,15 @@ use Rattle.socket_links.specs.Links.{IsPushed}
 use Rattle.socket_links.specs.declared.link.SocketLink.{SocketLink}
 use Rattle.accounts.specs.Deeds.{Deed, Leads, taken_from, sent_to}
 use Rattle.accounts.proofs.Joined.{joins, frames-join}
-use Rattle.node_loop.specs.declared.port.NodePort.{NodePort}
-use Rattle.node_loop.specs.Hearing.{Listens, Pulls, Wires}
-use Rattle.node_loop.specs.Moments.{AtBoth, Moment}
+use Rattle.node_loop.specs.node_connections.declared.port.NodePort.{NodePort}
+use Rattle.node_loop.specs.Hearing.{Listens}
+use Rattle.node_loop.specs.node_connections.Hearing.{Pulls, Wires}
+use Rattle.node_loop.specs.node_connections.Ports.{AtBoth}
+use Rattle.node_loop.specs.Moments.{Moment}
 use Rattle.node_loop.specs.Speaking.{Speaks, SpeaksTo}
 use Rattle.node_loop.specs.Turns.{Attends, Turns}
 use Rattle.node_loop.proofs.Accounts.{turn-takes, turn-sends, attend-takes, attend-sends}
-use Rattle.node_loop.proofs.Hearing.{both-join}
+use Rattle.node_loop.proofs.node_connections.Hearing.{both-join}
 use Rattle.running_nodes.specs.Stood.{Start, Stood, IsStood, PortWas, StartsAt, all_sent, all_taken}
 use Rattle.running_nodes.specs.Stretches.{Went, IsTurn, Goes, all_deeds}
 use Rattle.running_nodes.specs.Laws.{TurnsLead, TurnsGoByConnections}

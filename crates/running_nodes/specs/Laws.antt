@@ -7,7 +7,7 @@ use Rattle.run_model.specs.declared.event.Event.{Event}
 use Rattle.socket_links.specs.Counts.{Counts}
 use Rattle.accounts.specs.Deeds.{Leads, taken_from, sent_to}
 use Rattle.node_loop.specs.Moments.{Moment}
-use Rattle.node_loop.specs.declared.port.NodePort.{NodePort}
+use Rattle.node_loop.specs.node_connections.declared.port.NodePort.{NodePort}
 use Rattle.processes.specs.Accounts.{Timed}
 use Rattle.processes.specs.Connections.{IsConnection}
 use Rattle.processes.specs.Laws.{KeepsPromise}

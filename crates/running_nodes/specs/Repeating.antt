@@ -6,7 +6,7 @@ use Rattle.pace.specs.declared.pace.Plan.{Plan}
 use Rattle.socket_links.specs.Counts.{Counts}
 use Rattle.accounts.specs.Deeds.{Deed, sent_to}
 use Rattle.node_loop.specs.Moments.{Moment}
-use Rattle.node_loop.specs.Speaking.{takes_frames}
+use Rattle.node_loop.specs.node_connections.Speaking.{takes_frames}
 use Rattle.node_loop.specs.Turns.{Attends, Turns}
 use Rattle.processes.specs.Accounts.{Timed, deeds}
 use Rattle.processes.specs.Turns.{Turn}

@@ -8,7 +8,7 @@ use Rattle.run_model.specs.World.{World}
 use Rattle.accounts.specs.Deeds.{taken_from, sent_to}
 use Rattle.socket_links.specs.Counts.{Counts}
 use Rattle.node_loop.specs.Moments.{Moment}
-use Rattle.node_loop.specs.declared.port.NodePort.{NodePort}
+use Rattle.node_loop.specs.node_connections.declared.port.NodePort.{NodePort}
 use Rattle.processes.specs.Accounts.{Timed, deeds, AreInTime}
 use Rattle.processes.specs.Links.{accepts_in, gives_in}
 use Rattle.processes.specs.Connections.{as_items, left_over}

@@ -1,5 +1,1 @@
-pub use Rattle.program_ends.specs as program_ends
-pub mod Ends
-pub mod Manner
-pub mod Named
-pub mod Interval
+pub use Rattle.service_words.specs as service_words

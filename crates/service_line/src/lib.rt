@@ -1,30 +1,24 @@
-//! The command lines of `tokentree` that serve a lock: what `bound`, `network`, `lock`, `status`,
-//! `node`, `up` and `stop` take, their help, and what they do with their words. Each has a file here.
-//! What the lines of all commands share stands here, too.
+//! The command lines of `tokentree` that serve a lock. What `node` and `up` take, their help, and
+//! what they do with their words, stands here, in a file each; `service_words` has the others'.
 //!
 //! ```
 //! let status = run_words(rt, &["tokentree", "bound", "two-nodes.toml"]); // prints, status 0
 //! let status = run_words(rt, &["tokentree", "bound"]);                   // status 2
 //! ```
 //!
-//! The work of a command is in `network_commands`, `lock_command`, `status_command`, `node_stopping` or
-//! `node_process`; `program_ends` says how the program ends.
+//! The work of these two is in `node_process` and `up_process`; `program_ends` says how the program
+//! ends.
 //!
 //! The trap: the parser decides which words a command takes, and no contract covers it; tests try
 //! command lines.
 #![tactic(auto)]
 
-pub mod bound;
 mod commands;
-pub mod lock;
-pub mod network;
 pub mod node;
-mod node_words;
-pub mod program;
-pub mod refusal;
-pub mod status;
-pub mod stop;
 pub mod up;
 
-pub use commands::{ends, is_of_service, matches_of, run_words};
-pub use program_ends::{fill_standard_streams, own_words};
+pub use commands::run_words;
+pub use service_words::{
+    bound, ends, fill_standard_streams, is_of_service, lock, matches_of, network, own_words,
+    program, refusal, status, stop,
+};

@@ -1,13 +1,13 @@
 //! The words of `node`.
-use crate::node_words::{
-    FOLDER, GROUP_HELP, HOLD_HELP, LOG_HELP, RECORD_HELP, RECORD_SIZE_HELP, REPEAT_HELP, TURN_HELP,
-    ended, late_after, log_level, manner, record_size, rights,
-};
-use crate::program::{NETWORK_FILE, Runtime, VERSION};
-use crate::refusal::Refusal;
 use clap::{ArgMatches, Command};
 use command_grammar::{Grammar, Number, Parameter, given_number, with_command, word};
 use node_process::{NodeWords, node};
+use service_words::node_words::{
+    FOLDER, GROUP_HELP, HOLD_HELP, LOG_HELP, RECORD_HELP, RECORD_SIZE_HELP, REPEAT_HELP, TURN_HELP,
+    ended, late_after, log_level, manner, record_size, rights,
+};
+use service_words::program::{NETWORK_FILE, Runtime, VERSION};
+use service_words::refusal::Refusal;
 use std::alloc::{AllocError, Global};
 use std::process::ExitCode;
 

@@ -1,12 +1,12 @@
 //! The words of `up`.
-use crate::node_words::{
+use clap::{ArgMatches, Command};
+use command_grammar::{Grammar, Parameter, with_command, word};
+use service_words::node_words::{
     FOLDER, GROUP_HELP, HOLD_HELP, LOG_HELP, RECORD_HELP, RECORD_SIZE_HELP, REPEAT_HELP, TURN_HELP,
     ended, late_after, log_level, manner, record_size, rights,
 };
-use crate::program::{NETWORK_FILE, Runtime};
-use crate::refusal::Refusal;
-use clap::{ArgMatches, Command};
-use command_grammar::{Grammar, Parameter, with_command, word};
+use service_words::program::{NETWORK_FILE, Runtime};
+use service_words::refusal::Refusal;
 use std::alloc::{AllocError, Global};
 use std::process::ExitCode;
 use up_process::OwnProgram;

@@ -1,12 +1,12 @@
 //! Doors over Unix sockets.
 ghost use Rattle.std.specs.Prelude.{◌≡◌, true, false, None, IfOk, OnOk, IsErr, IsSome};
-ghost use Rattle.node_loop.specs.Doors.{Opens};
+ghost use Rattle.node_connections.specs.Doors.{Opens};
 
 use crate::pipe::{UnixPipe, hold_few, is_passing};
 use crate::seats::{ClientSight, Seats};
 use mio::net::{UnixListener, UnixStream};
 use mio::{Events, Interest, Poll, Token};
-use node_loop::{Door, Doors};
+use node_connections::{Door, Doors};
 use std::alloc::{AllocError, Global};
 use std::io;
 use std::net::Net;

@@ -6,7 +6,7 @@ use crate::pipe::UnixPipe;
 use std::alloc::{AllocError, Global};
 use std::rc::Rc;
 
-/// So many clients may be connected. The crate `node_loop` closes a further one as soon as it has come.
+/// So many clients may be connected. The crate `node_connections` closes a further one as soon as it has come.
 const PLACES: usize = 128;
 
 /// What the connection of a client holds until it is closed.

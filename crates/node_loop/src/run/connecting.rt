@@ -3,16 +3,16 @@ ghost use Rattle.std.specs.Prelude.{◌≡◌, ◌<◌, true};
 ghost use Rattle.std.specs.Prelude.{Contains, slice_get};
 ghost use Rattle.std.specs.Prelude.{◌≢◌, ℕ};
 ghost use Rattle.node_core.specs.View.{site_in};
-ghost use Rattle.node_loop.specs.Moments.{AtBoth};
+ghost use Rattle.node_connections.specs.Ports.{AtBoth};
 
-use crate::doors::{Door, Doors};
 use crate::run::NodeRun;
+use node_connections::{Door, Doors};
 use node_state_file::Store;
 use std::alloc::Allocator;
 
 impl<D: Doors, S: Store + Drop, A: Allocator + Copy> NodeRun<D, S, A> {
-    ghost use Rattle.node_loop.specs.Loose.{is_linked};
-    ghost use Rattle.node_loop.specs.Hearing.{AreWired, Wires};
+    ghost use Rattle.node_connections.specs.Loose.{is_linked};
+    ghost use Rattle.node_connections.specs.Hearing.{AreWired, Wires};
     ghost use Rattle.node_loop.specs.Remembering.{Remembers};
 
     /// Connects loose ports to lower neighbours, and goes on with hellos that are not out.

@@ -8,12 +8,12 @@ ghost use Rattle.node_core.specs.Site.{site_of};
 ghost use Rattle.node_core.specs.View.{site_in, state_of};
 ghost use Rattle.node_state_file.specs.Files.{file_of};
 ghost use Rattle.node_state_file.specs.Stores.{Saves};
-ghost use Rattle.node_loop.specs.LinkSights.{link_at};
-ghost use Rattle.node_loop.specs.Loose.{AreKept, AreLoose};
+ghost use Rattle.node_connections.specs.LinkSights.{link_at};
+ghost use Rattle.node_connections.specs.Loose.{AreKept, AreLoose};
 
-use crate::doors::Doors;
-use crate::port::NodePort;
 use crate::run::NodeRun;
+use node_connections::Doors;
+use node_connections::port::NodePort;
 use node_core::Node;
 use node_state_file::{Store, StoreFault, encode};
 use socket_links::Pipe;

@@ -3,12 +3,12 @@ ghost use Rattle.std.specs.Prelude.{◌≡◌, ◌<◌};
 ghost use Rattle.std.specs.Prelude.{IfSome, Some, Contains, slice_get};
 ghost use Rattle.std.specs.Prelude.{◌≢◌, ℕ};
 ghost use Rattle.node_core.specs.View.{site_in};
-ghost use Rattle.node_loop.specs.Moments.{AtBoth};
+ghost use Rattle.node_connections.specs.Ports.{AtBoth};
 
-use crate::doors::{Door, Doors};
 use crate::notes::Notes;
 use crate::run::NodeRun;
-use crate::{lobby, service};
+use crate::service;
+use node_connections::{Door, Doors, lobby};
 use node_state_file::Store;
 use std::alloc::Allocator;
 
@@ -17,8 +17,8 @@ const COMERS: usize = 64;
 
 impl<D: Doors, S: Store + Drop, A: Allocator + Copy> NodeRun<D, S, A> {
     ghost use Rattle.node_loop.specs.Clients.{AreConnected};
-    ghost use Rattle.node_loop.specs.Hearing.{AreWired, Wires};
-    ghost use Rattle.node_loop.specs.Lives.{Admits, StillLive};
+    ghost use Rattle.node_connections.specs.Hearing.{AreWired, Wires};
+    ghost use Rattle.node_connections.specs.Lives.{Admits, StillLive};
     ghost use Rattle.node_loop.specs.Noting.{emptied};
     ghost use Rattle.node_loop.specs.Remembering.{Remembers};
     ghost use Rattle.node_loop.specs.Said.{ListensTo};

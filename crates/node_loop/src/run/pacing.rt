@@ -2,9 +2,9 @@
 ghost use Rattle.std.specs.Prelude.{◌≡◌, ◌≤◌, true};
 ghost use Rattle.pace.specs.Nodes.{may_tick};
 
-use crate::doors::Doors;
 use crate::run::NodeRun;
 use crate::sight;
+use node_connections::Doors;
 use node_state_file::Store;
 use pace::{Pace, Plan};
 use std::alloc::Allocator;

@@ -3,10 +3,10 @@ ghost use Rattle.std.specs.Prelude.{◌≡◌, false};
 ghost use Rattle.std.specs.Prelude.{IsTrue};
 ghost use Rattle.node_core.specs.View.{site_in};
 
-use crate::doors::Doors;
 use crate::notes::Notes;
 use crate::run::NodeRun;
 use crate::sight;
+use node_connections::Doors;
 use node_core::Item;
 use node_state_file::Store;
 use socket_links::Pull;
@@ -16,7 +16,7 @@ use std::alloc::Allocator;
 const FRAMES: usize = 64;
 
 impl<D: Doors, S: Store + Drop, A: Allocator + Copy> NodeRun<D, S, A> {
-    ghost use Rattle.node_loop.specs.Hearing.{Comes, Pulls};
+    ghost use Rattle.node_connections.specs.Hearing.{Comes, Pulls};
     ghost use Rattle.node_loop.specs.Noting.{DidHear, DidTake};
     ghost use Rattle.node_loop.specs.Remembering.{Remembers};
 

@@ -6,15 +6,15 @@ ghost use Rattle.slab.specs.Slab.{get};
 ghost use Rattle.data_link.specs.Port.{frame_of};
 ghost use Rattle.pace.specs.Plans.{port_of};
 ghost use Rattle.node_core.specs.View.{site_in, state_of};
-ghost use Rattle.node_loop.specs.Moments.{AtBoth};
+ghost use Rattle.node_connections.specs.Ports.{AtBoth};
 ghost use Rattle.node_loop.specs.Speaking.{SpeaksTo, sent_if};
 
-use crate::doors::Doors;
 use crate::notes::Notes;
-use crate::port::NodePort;
 use crate::run::NodeRun;
 use crate::service;
 use crate::sight::{self, NODES};
+use node_connections::Doors;
+use node_connections::port::NodePort;
 use node_core::Ticked;
 use node_state_file::Store;
 use pace::Pace;
@@ -23,14 +23,15 @@ use std::alloc::Allocator;
 use topology::Frame;
 
 impl<D: Doors, S: Store + Drop, A: Allocator + Copy> NodeRun<D, S, A> {
-    ghost use Rattle.node_loop.specs.Clients.{AreConnected, is_connected, IsReported};
+    ghost use Rattle.node_loop.specs.Clients.{AreConnected};
+    ghost use Rattle.node_connections.specs.Clients.{is_connected, IsReported};
     ghost use Rattle.node_loop.specs.Deeds.{IsLeaveOfGone};
     ghost use Rattle.node_loop.specs.Noting.{after_all, sends_if, DidAct, DidSpeak};
-    ghost use Rattle.node_loop.specs.Ends.{EndsByWrite};
-    ghost use Rattle.node_loop.specs.Heard.{NothingHeard};
-    ghost use Rattle.node_loop.specs.Lives.{AllGoOut, LiveOn};
+    ghost use Rattle.node_connections.specs.Ends.{EndsByWrite};
+    ghost use Rattle.node_connections.specs.Heard.{NothingHeard};
+    ghost use Rattle.node_connections.specs.Lives.{AllGoOut, LiveOn};
     ghost use Rattle.node_loop.specs.Remembering.{Remembers};
-    ghost use Rattle.node_loop.specs.Said.{NothingSaid};
+    ghost use Rattle.node_connections.specs.Said.{NothingSaid};
     ghost use Rattle.node_loop.specs.Moments.{moment_of};
 
     /// Second part of a turn: one tick.

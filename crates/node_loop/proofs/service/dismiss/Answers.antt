@@ -1,8 +1,8 @@
 use Rattle.std.proofs.Common.{◌≡◌, false, ap, subst}
 use Rattle.lock_desk.specs.Desk.{is_stranger}
-use Rattle.node_loop.specs.Clients.{is_connected}
+use Rattle.node_connections.specs.Clients.{is_connected}
 use Rattle.node_loop.specs.Deeds.{IsLeaveOfGone, Leaves}
-use Rattle.node_loop.proofs.Lives.{closed-gone}
+use Rattle.node_connections.proofs.Lives.{closed-gone}
 use Rattle.node_loop.proofs.Noting.{did-one}
 use Rattle.node_loop.proofs.Leaving.{dismissed}
 use Rattle.node_loop.proofs.service.dismiss.Goals as goal

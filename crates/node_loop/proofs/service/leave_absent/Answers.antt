@@ -1,4 +1,4 @@
-use Rattle.node_loop.specs.Clients.{is_connected}
+use Rattle.node_connections.specs.Clients.{is_connected}
 use Rattle.node_loop.specs.Deeds.{IsLeaveOfGone}
 use Rattle.node_loop.proofs.Noting.{did-joins}
 use Rattle.node_loop.proofs.service.leave_absent.Goals as goal

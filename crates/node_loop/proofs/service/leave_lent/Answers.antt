@@ -1,5 +1,5 @@
 use Rattle.std.proofs.Common.{◌∙◌, sym}
-use Rattle.node_loop.specs.Clients.{is_connected}
+use Rattle.node_connections.specs.Clients.{is_connected}
 use Rattle.node_loop.specs.Deeds.{IsLeaveOfGone, Leaves}
 use Rattle.node_loop.proofs.Noting.{did-none, did-one}
 use Rattle.node_loop.proofs.service.leave_lent.Goals as goal

@@ -1,6 +1,6 @@
 use Rattle.std.proofs.Common.{◌≡◌, ◌<◌, ◌-◌, ◌∙◌, true, false, length, take, slice_index, ap, sym, subst, arith}
 use Rattle.lock_desk.specs.Desk.{after_leave, is_in, is_ticket}
-use Rattle.node_loop.specs.Clients.{is_connected}
+use Rattle.node_connections.specs.Clients.{is_connected}
 use Rattle.node_loop.specs.Deeds.{IsLeaveOfGone, Leaves}
 use Rattle.node_loop.proofs.Noting.{did-none, did-one, did-joins}
 use Rattle.node_loop.proofs.Leaving.{at-place, fewer-from, looked-stay, lent-stays}

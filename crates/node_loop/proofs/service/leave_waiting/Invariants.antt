@@ -1,6 +1,6 @@
 use Rattle.std.proofs.Common.{◌≡◌, ◌-◌, ℕ, true, length, take}
 use Rattle.lock_desk.specs.Desk.{is_in, is_ticket}
-use Rattle.node_loop.specs.Clients.{is_connected}
+use Rattle.node_connections.specs.Clients.{is_connected}
 use Rattle.node_loop.specs.Deeds.{IsLeaveOfGone}
 use Rattle.node_loop.specs.Noting.{Did}
 use Rattle.node_loop.proofs.service.leave_waiting.Given as goal

@@ -1,6 +1,6 @@
-use Rattle.node_loop.proofs.Heard.{unheard-gone, unheard-join, unheard-same}
-use Rattle.node_loop.proofs.Lives.{stay, live-join, live-gone, closed-gone}
-use Rattle.node_loop.specs.Clients.{is_connected}
+use Rattle.node_connections.proofs.Heard.{unheard-gone, unheard-join, unheard-same}
+use Rattle.node_connections.proofs.Lives.{stay, live-join, live-gone, closed-gone}
+use Rattle.node_connections.specs.Clients.{is_connected}
 use Rattle.node_loop.specs.Deeds.{IsLeaveOfGone}
 use Rattle.node_loop.proofs.Noting.{did-none}
 use Rattle.node_loop.proofs.service.reply.Goals as goal

@@ -1,13 +1,13 @@
-use Rattle.std.proofs.Common.{◌≡◌, ◌≢◌, ◌∙◌, ◌++◌, ℕ, List, [], take, refl, sym, subst}
+use Rattle.std.proofs.Common.{◌≡◌, ◌≢◌, ◌∙◌, ◌++◌, ℕ, List, take, refl, sym, subst, []}
 use Rattle.slab.specs.Slab.{get}
 use Rattle.lock_desk.specs.declared.client_line.ClientLine.{ClientLine}
-use Rattle.node_loop.specs.Clients.{answers_of}
-use Rattle.node_loop.specs.Said.{IsServed, IsServedAlone}
-use Rattle.node_loop.proofs.BeingRead.{read-gone, read-here, read-then}
-use Rattle.node_loop.proofs.Heard.{heard-got, heard-later, unheard-gone, unheard-one}
-use Rattle.node_loop.proofs.Lives.{got-at, later-at, live-one, live-join, live-gone, others-join, closed-gone, nobody}
-use Rattle.node_loop.proofs.Saying.{answers-same, nothing-gone, nothing-read}
-use Rattle.node_loop.proofs.Served.{served-all, served-gone, served-none}
+use Rattle.node_connections.specs.Clients.{answers_of}
+use Rattle.node_connections.specs.Said.{IsServed, IsServedAlone}
+use Rattle.node_connections.proofs.BeingRead.{read-gone, read-here, read-then}
+use Rattle.node_connections.proofs.Heard.{heard-got, heard-later, unheard-gone, unheard-one}
+use Rattle.node_connections.proofs.Lives.{got-at, later-at, live-one, live-join, live-gone, others-join, closed-gone, nobody}
+use Rattle.node_connections.proofs.Saying.{answers-same, nothing-gone, nothing-read}
+use Rattle.node_connections.proofs.Served.{served-all, served-gone, served-none}
 use Rattle.node_loop.proofs.Serving.{serves-goes, serves-join, serves-none}
 use Rattle.node_loop.proofs.service.serve.Goals as goal
 

@@ -1,12 +1,12 @@
 use Rattle.std.proofs.Common.{◌∙◌, arith, refl, sym}
 use Rattle.std.proofs.lemmas.Bool.{eqb-true}
 use Rattle.slab.specs.Slab.{get}
-use Rattle.node_loop.specs.Said.{IsServed}
-use Rattle.node_loop.proofs.BeingRead.{all-of_none, read-gone, read-next, read-start}
-use Rattle.node_loop.proofs.Heard.{unheard-same}
-use Rattle.node_loop.proofs.Lives.{stay, live-join, nobody}
-use Rattle.node_loop.proofs.Saying.{nothing-same}
-use Rattle.node_loop.proofs.Served.{served-both, served-none}
+use Rattle.node_connections.specs.Said.{IsServed}
+use Rattle.node_connections.proofs.BeingRead.{all-of_none, read-gone, read-next, read-start}
+use Rattle.node_connections.proofs.Heard.{unheard-same}
+use Rattle.node_connections.proofs.Lives.{stay, live-join, nobody}
+use Rattle.node_connections.proofs.Saying.{nothing-same}
+use Rattle.node_connections.proofs.Served.{served-both, served-none}
 use Rattle.node_loop.proofs.Serving.{serves-join, serves-none}
 use Rattle.node_loop.proofs.service.serve_all.Goals.{then-contains, else-contains}
 use Rattle.node_loop.proofs.service.serve_all.Goals as goal

@@ -1,6 +1,7 @@
-use Rattle.node_loop.specs.Lives.{LiveOn}
-use Rattle.node_loop.specs.Said.{IsServed, Serves}
-use Rattle.node_loop.proofs.BeingRead.{ReadBelow}
+use Rattle.node_connections.specs.Lives.{LiveOn}
+use Rattle.node_connections.specs.Said.{IsServed}
+use Rattle.node_loop.specs.Said.{Serves}
+use Rattle.node_connections.proofs.BeingRead.{ReadBelow}
 use Rattle.node_loop.proofs.service.serve_all.Given as goal
 
 abbrev pub invariant-loop-ticket : goal.invariant-loop-ticket

@@ -1,16 +1,17 @@
-use Rattle.std.proofs.Common.{◌≡◌, ◌∙◌, ◌++◌, ◌∷◌, [], ℕ, true, List, get_or, take, refl, sym, subst, arith}
+use Rattle.std.proofs.Common.{◌≡◌, ◌∙◌, ◌++◌, ◌∷◌, ℕ, true, List, get_or, take, refl, sym, subst, arith, []}
 use Rattle.std.specs.Option.{option_to_list}
 use Rattle.std.proofs.lemmas.List.{take_all, take_more}
 use Rattle.slab.specs.Slab.{get}
 use Rattle.lock_desk.specs.declared.client_line.ClientLine.{ClientLine}
 use Rattle.node_core.specs.View.{site_in, state_of}
 use Rattle.node_loop.specs.Answers.{answer_text}
-use Rattle.node_loop.specs.Clients.{is_connected}
-use Rattle.node_loop.specs.Heard.{HeardAt}
-use Rattle.node_loop.specs.Said.{IsLineAlone, IsServedAlone, Serves}
-use Rattle.node_loop.proofs.Lives.{stay, live-join}
-use Rattle.node_loop.proofs.Saying.{nothing-same}
-use Rattle.node_loop.proofs.Served.{served-alone-join, served-alone-none, served-byte, served-line}
+use Rattle.node_connections.specs.Clients.{is_connected}
+use Rattle.node_connections.specs.Heard.{HeardAt}
+use Rattle.node_connections.specs.Said.{IsLineAlone, IsServedAlone}
+use Rattle.node_loop.specs.Said.{Serves}
+use Rattle.node_connections.proofs.Lives.{stay, live-join}
+use Rattle.node_connections.proofs.Saying.{nothing-same}
+use Rattle.node_connections.proofs.Served.{served-alone-join, served-alone-none, served-byte, served-line}
 use Rattle.node_loop.proofs.Serving.{serves-join, serves-none}
 use Rattle.node_loop.proofs.service.serve_bytes.Goals.{in-Some, in_default}
 use Rattle.node_loop.proofs.service.serve_bytes.Goals as goal

@@ -1,6 +1,7 @@
 use Rattle.std.proofs.Common.{take}
-use Rattle.node_loop.specs.Lives.{LiveOn}
-use Rattle.node_loop.specs.Said.{IsServedAlone, Serves}
+use Rattle.node_connections.specs.Lives.{LiveOn}
+use Rattle.node_connections.specs.Said.{IsServedAlone}
+use Rattle.node_loop.specs.Said.{Serves}
 use Rattle.node_loop.proofs.service.serve_bytes.Given as goal
 
 abbrev pub invariant-loop-byte : goal.invariant-loop-byte

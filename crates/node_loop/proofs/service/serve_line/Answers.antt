@@ -1,19 +1,19 @@
-use Rattle.std.specs.Prelude.{IsTrue}
-use Rattle.std.proofs.Common.{◌≡◌, ◌∙◌, ℕ, [], take, ap, append-nil, arith, inl, refl, rules, subst, sym}
+use Rattle.std.specs.Prelude.{IsTrue, []}
+use Rattle.std.proofs.Common.{◌≡◌, ◌∙◌, ℕ, take, ap, append-nil, arith, inl, refl, rules, subst, sym}
 use Rattle.lock_desk.specs.Desk.{is_number}
 use Rattle.lock_desk.specs.declared.client_line.ClientLine.{ClientLine}
 use Rattle.lock_desk.specs.declared.client_line.ClientLine.TheVariants.{Lock, Unlock, Status, Unknown}
 use Rattle.node_core.specs.View.{NodeView, site_in, state_of}
 use Rattle.node_loop.specs.Answers.{after_line, answer_text}
-use Rattle.node_loop.specs.Clients.{answers_of, is_connected, Reports}
+use Rattle.node_connections.specs.Clients.{answers_of, is_connected, Reports}
 use Rattle.node_loop.specs.Deeds.{IsLeaveOfGone, IsOfClient, Asks, Leaves}
 use Rattle.node_loop.specs.Noting.{after_all, deeds_of_line, Did}
 use Rattle.node_loop.specs.NotesView.{NotesView}
 use Rattle.node_loop.proofs.Became.{one, same}
-use Rattle.node_loop.proofs.Heard.{unheard-same}
-use Rattle.node_loop.proofs.Lives.{stay}
+use Rattle.node_connections.proofs.Heard.{unheard-same}
+use Rattle.node_connections.proofs.Lives.{stay}
 use Rattle.node_loop.proofs.Noting.{did-none}
-use Rattle.node_loop.proofs.Saying.{nothing-same, reported-said, SaidTo}
+use Rattle.node_connections.proofs.Saying.{nothing-same, reported-said, SaidTo}
 use Rattle.node_loop.proofs.Serving.{serves-line}
 use Rattle.node_loop.proofs.service.serve_line.Goals as goal
 

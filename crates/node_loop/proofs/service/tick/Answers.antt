@@ -1,9 +1,9 @@
 use Rattle.std.proofs.Common.{◌≡◌, false, ap, refl, subst}
 use Rattle.lock_desk.specs.Desk.{is_stranger}
 use Rattle.node_loop.proofs.Leaving.{known-tick}
-use Rattle.node_loop.specs.Clients.{is_connected}
+use Rattle.node_connections.specs.Clients.{is_connected}
 use Rattle.node_loop.specs.Deeds.{IsLeaveOfGone}
-use Rattle.node_loop.proofs.Lives.{stay}
+use Rattle.node_connections.proofs.Lives.{stay}
 use Rattle.node_loop.proofs.Noting.{did-act, did-none}
 use Rattle.node_loop.proofs.service.tick.Goals as goal
 

@@ -1,15 +1,16 @@
-use Rattle.std.proofs.Common.{◌∙◌, [], arith, refl, sym}
+use Rattle.std.proofs.Common.{◌∙◌, arith, refl, sym, []}
 use Rattle.std.proofs.lemmas.Bool.{eqb-true}
 use Rattle.slab.specs.Slab.{get}
-use Rattle.node_loop.specs.Clients.{answers_of, is_connected}
+use Rattle.node_connections.specs.Clients.{answers_of, is_connected}
 use Rattle.node_loop.specs.Deeds.{IsLeaveOfGone}
 use Rattle.node_loop.proofs.Noting.{did-joins, did-none}
-use Rattle.node_loop.proofs.Lives.{stay, live-one, live-join, live-gone, others-join, closed-gone, nobody}
-use Rattle.node_loop.proofs.GoingOut.{below-all, below-next, below-start, out-gone, out-of_none}
-use Rattle.node_loop.proofs.Heard.{unheard-gone, unheard-join, unheard-same}
-use Rattle.node_loop.proofs.Saying.{answers-same, nothing-gone, nothing-join, nothing-same}
-use Rattle.node_loop.proofs.Served.{ends-failed, ends-join, ends-same}
-use Rattle.node_loop.proofs.Serving.{did-later, stays-gone}
+use Rattle.node_connections.proofs.Lives.{stay, live-one, live-join, live-gone, others-join, closed-gone, nobody}
+use Rattle.node_connections.proofs.GoingOut.{below-all, below-next, below-start, out-gone, out-of_none}
+use Rattle.node_connections.proofs.Heard.{unheard-gone, unheard-join, unheard-same}
+use Rattle.node_connections.proofs.Saying.{answers-same, nothing-gone, nothing-join, nothing-same}
+use Rattle.node_connections.proofs.Served.{ends-failed, ends-join, ends-same}
+use Rattle.node_loop.proofs.Serving.{did-later}
+use Rattle.node_connections.proofs.Serving.{stays-gone}
 use Rattle.node_loop.proofs.service.write_all.Goals.{then-not-write, else-not-write}
 use Rattle.node_loop.proofs.service.write_all.Goals as goal
 

@@ -1,11 +1,12 @@
-use Rattle.node_loop.specs.Clients.{AreConnected, is_connected}
+use Rattle.node_loop.specs.Clients.{AreConnected}
+use Rattle.node_connections.specs.Clients.{is_connected}
 use Rattle.node_loop.specs.Deeds.{IsLeaveOfGone}
-use Rattle.node_loop.specs.Heard.{NothingHeard}
-use Rattle.node_loop.specs.Lives.{LiveOn}
+use Rattle.node_connections.specs.Heard.{NothingHeard}
+use Rattle.node_connections.specs.Lives.{LiveOn}
 use Rattle.node_loop.specs.Noting.{Did}
-use Rattle.node_loop.specs.Said.{NothingSaid}
-use Rattle.node_loop.proofs.GoingOut.{GoOutBelow}
-use Rattle.node_loop.proofs.Served.{AllEndByWrite}
+use Rattle.node_connections.specs.Said.{NothingSaid}
+use Rattle.node_connections.proofs.GoingOut.{GoOutBelow}
+use Rattle.node_connections.proofs.Served.{AllEndByWrite}
 use Rattle.node_loop.proofs.service.write_all.Given as goal
 
 abbrev pub invariant-loop-ticket : goal.invariant-loop-ticket

@@ -1,5 +1,5 @@
 use Rattle.std.proofs.Common.{refl}
-use Rattle.node_loop.proofs.Lives.{admits-join, admits-none, admits-one}
+use Rattle.node_connections.proofs.Lives.{admits-join, admits-none, admits-one}
 use Rattle.node_loop.proofs.run.NodeRun.accept_clients.Goals as goal
 
 pub loop-init : goal.loop-init

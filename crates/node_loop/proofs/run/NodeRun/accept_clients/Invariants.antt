@@ -1,5 +1,5 @@
 use Rattle.std.proofs.Common.{◌≡◌}
-use Rattle.node_loop.specs.Lives.{Admits}
+use Rattle.node_connections.specs.Lives.{Admits}
 use Rattle.node_loop.proofs.run.NodeRun.accept_clients.Given as goal
 
 abbrev pub invariant-loop : goal.invariant-loop

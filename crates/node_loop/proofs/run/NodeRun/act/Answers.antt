@@ -1,5 +1,5 @@
 use Rattle.std.proofs.Common.{ap, refl}
-use Rattle.node_loop.proofs.Lives.{still-join}
+use Rattle.node_connections.proofs.Lives.{still-join}
 use Rattle.node_loop.specs.Noting.{emptied}
 use Rattle.node_loop.proofs.Noting.{turn-grown}
 use Rattle.node_loop.proofs.Turning.{turn-leads}

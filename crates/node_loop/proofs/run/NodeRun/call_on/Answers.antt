@@ -1,8 +1,8 @@
 use Rattle.std.proofs.Common.{◌≡◌, ◌<◌, length, inl, arith, ◌∙◌}
 use Rattle.std.proofs.lemmas.List.{length-set}
-use Rattle.node_loop.specs.Hearing.{Wires}
-use Rattle.node_loop.proofs.Hearing.{both-set, others-set}
-use Rattle.node_loop.proofs.Loose.{loose-set}
+use Rattle.node_connections.specs.Hearing.{Wires}
+use Rattle.node_connections.proofs.Hearing.{both-set, others-set}
+use Rattle.node_connections.proofs.Loose.{loose-set}
 use Rattle.node_loop.proofs.run.NodeRun.call_on.Goals as goal
 
 pub invariant_of-self-clause-ports_are : goal.invariant_of-self-clause-ports_are

@@ -1,5 +1,5 @@
 use Rattle.std.proofs.Common.{◌∙◌, refl}
-use Rattle.node_loop.proofs.Hearing.{wired-at, wired-join, wired-same}
+use Rattle.node_connections.proofs.Hearing.{wired-at, wired-join, wired-same}
 use Rattle.node_loop.proofs.Remembering.{remembers-join, remembers-same}
 use Rattle.node_loop.proofs.run.NodeRun.hear_hellos.Goals.{in-Some, in_default}
 use Rattle.node_loop.proofs.run.NodeRun.hear_hellos.Goals as goal

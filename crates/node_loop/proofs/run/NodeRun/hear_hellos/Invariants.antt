@@ -1,5 +1,5 @@
 use Rattle.std.proofs.Common.{◌≡◌}
-use Rattle.node_loop.specs.Hearing.{AreWired}
+use Rattle.node_connections.specs.Hearing.{AreWired}
 use Rattle.node_loop.specs.Remembering.{Remembers}
 use Rattle.node_loop.proofs.run.NodeRun.hear_hellos.Given as goal
 

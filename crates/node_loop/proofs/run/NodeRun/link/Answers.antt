@@ -1,6 +1,6 @@
 use Rattle.std.proofs.Common.{◌≡◌, IfSome, false, slice_get, subst, sym}
-use Rattle.node_loop.specs.LinkSights.{link_at}
-use Rattle.node_loop.proofs.Loose.{loose-down}
+use Rattle.node_connections.specs.LinkSights.{link_at}
+use Rattle.node_connections.proofs.Loose.{loose-down}
 use Rattle.node_loop.proofs.run.NodeRun.link.Goals as goal
 
 pub returns-clause-strangers : goal.returns-clause-strangers

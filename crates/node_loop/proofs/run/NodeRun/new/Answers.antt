@@ -1,4 +1,4 @@
-use Rattle.node_loop.proofs.Loose.{loose-all}
+use Rattle.node_connections.proofs.Loose.{loose-all}
 use Rattle.node_loop.proofs.run.NodeRun.new.Goals as goal
 
 pub invariant_of-result-clause-strangers : goal.invariant_of-result-clause-strangers

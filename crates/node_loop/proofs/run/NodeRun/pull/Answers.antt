@@ -1,8 +1,9 @@
 use Rattle.std.specs.Prelude.{IsTrue}
 use Rattle.std.proofs.Common.{◌∙◌, ap, refl, rules, subst}
-use Rattle.node_loop.specs.Hearing.{Comes, Pulls}
+use Rattle.node_connections.specs.Hearing.{Comes, Pulls}
 use Rattle.node_loop.specs.Noting.{DidTake}
-use Rattle.node_loop.proofs.Hearing.{takes-none, comes-none, comes-join, comes-then, takes-end}
+use Rattle.node_loop.proofs.Hearing.{takes-none, takes-end}
+use Rattle.node_connections.proofs.Hearing.{comes-none, comes-join, comes-then}
 use Rattle.node_loop.proofs.Noting.{take-join}
 use Rattle.node_loop.proofs.Remembering.{remembers-join, remembers-same}
 use Rattle.node_loop.proofs.run.NodeRun.pull.Goals as goal

@@ -1,6 +1,6 @@
 use Rattle.std.proofs.Common.{◌≡◌}
 use Rattle.node_core.specs.View.{site_in}
-use Rattle.node_loop.specs.Hearing.{Comes}
+use Rattle.node_connections.specs.Hearing.{Comes}
 use Rattle.node_loop.specs.Noting.{DidTake}
 use Rattle.node_loop.specs.Remembering.{Remembers}
 use Rattle.node_loop.proofs.run.NodeRun.pull.Given as goal

@@ -1,5 +1,5 @@
 use Rattle.std.proofs.Common.{◌∙◌, ap, refl, subst}
-use Rattle.node_loop.specs.Hearing.{Pulls}
+use Rattle.node_connections.specs.Hearing.{Pulls}
 use Rattle.node_loop.specs.Noting.{DidTake}
 use Rattle.node_loop.proofs.Hearing.{heard-all}
 use Rattle.node_loop.proofs.Noting.{noted-next, noted-start}

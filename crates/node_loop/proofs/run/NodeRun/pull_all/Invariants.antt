@@ -1,6 +1,6 @@
 use Rattle.std.proofs.Common.{◌≡◌}
 use Rattle.node_core.specs.View.{site_in}
-use Rattle.node_loop.specs.Hearing.{Pulls}
+use Rattle.node_connections.specs.Hearing.{Pulls}
 use Rattle.node_loop.specs.Remembering.{Remembers}
 use Rattle.node_loop.proofs.Noting.{HeardNoted}
 use Rattle.node_loop.proofs.run.NodeRun.pull_all.Given as goal

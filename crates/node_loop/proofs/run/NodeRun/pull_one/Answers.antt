@@ -1,14 +1,15 @@
-use Rattle.std.proofs.Common.{◌≡◌, ◌<◌, ◌∷◌, [], Contains, length, ap, refl, rules, subst, sym, ◌∙◌}
+use Rattle.std.proofs.Common.{◌≡◌, ◌<◌, ◌∷◌, Contains, length, ap, refl, rules, subst, sym, ◌∙◌, []}
 use Rattle.std.specs.Prelude.{slice_set}
 use Rattle.std.proofs.lemmas.List.{length-set}
 use Rattle.node_core.specs.Site.{Site, site_of}
 use Rattle.topology.specs.Ranges.{ranges_of}
 use Rattle.socket_links.specs.Links.{Pulled}
 use Rattle.socket_links.specs.declared.link.Pull.TheVariants as pull
-use Rattle.node_loop.specs.Hearing.{Comes, Pulls}
-use Rattle.node_loop.proofs.Hearing.{both-set, others-set, frame-came, later-came, broken-came, takes-none, takes-nothing, takes-one, pulls-same}
-use Rattle.node_loop.specs.Loose.{AreLoose}
-use Rattle.node_loop.proofs.Loose.{loose-set}
+use Rattle.node_connections.specs.Hearing.{Comes, Pulls}
+use Rattle.node_connections.proofs.Hearing.{both-set, others-set, frame-came, later-came, broken-came, pulls-same}
+use Rattle.node_loop.proofs.Hearing.{takes-none, takes-nothing, takes-one}
+use Rattle.node_connections.specs.Loose.{AreLoose}
+use Rattle.node_connections.proofs.Loose.{loose-set}
 use Rattle.node_loop.proofs.run.NodeRun.pull_one.Goals as goal
 
 pub returns-then-not-is_neighbour-clause-ended : goal.returns-then-not-is_neighbour-clause-ended

@@ -1,16 +1,16 @@
 use Rattle.std.proofs.Common.{◌≡◌, ◌≤◌, ◌∙◌, List, ap, refl, subst, arith}
-use Rattle.node_loop.specs.Heard.{NothingHeard}
-use Rattle.node_loop.specs.Lives.{AllGoOut, LiveOn}
+use Rattle.node_connections.specs.Heard.{NothingHeard}
+use Rattle.node_connections.specs.Lives.{AllGoOut, LiveOn}
 use Rattle.data_link.specs.Port.{frame_of}
 use Rattle.node_core.specs.View.{NodeView, state_of}
-use Rattle.node_loop.specs.Clients.{is_connected}
+use Rattle.node_connections.specs.Clients.{is_connected}
 use Rattle.node_loop.specs.Deeds.{Deed, IsLeaveOfGone}
 use Rattle.node_loop.specs.Noting.{after_all, sends_if, Did}
 use Rattle.node_loop.proofs.Became.{are-leaves}
 use Rattle.node_loop.proofs.Noting.{grown}
-use Rattle.node_loop.proofs.Served.{AllEndByWrite}
+use Rattle.node_connections.proofs.Served.{AllEndByWrite}
 use Rattle.node_loop.proofs.Speaking.{spoken-start, spoken-next, spoken-end}
-use Rattle.node_loop.specs.Said.{NothingSaid}
+use Rattle.node_connections.specs.Said.{NothingSaid}
 use Rattle.node_loop.proofs.run.NodeRun.speak.Goals as goal
 
 pub loop-id-init : goal.loop-id-init

@@ -1,5 +1,5 @@
 use Rattle.std.proofs.Common.{◌≡◌, ◌≢◌, ℕ, Contains, slice_get, rules}
-use Rattle.node_loop.proofs.Loose.{loose-others}
+use Rattle.node_connections.proofs.Loose.{loose-others}
 use Rattle.node_loop.proofs.run.NodeRun.speak_to.Goals as goal
 
 pub invariant_of-self-clause-strangers : goal.invariant_of-self-clause-strangers

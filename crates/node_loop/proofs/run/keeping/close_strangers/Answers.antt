@@ -1,5 +1,5 @@
 use Rattle.std.proofs.Common.{◌≡◌, ◌<◌, ◌≤◌, Bool, true, false, Contains, length, arith, refl, rules}
-use Rattle.node_loop.proofs.Loose.{all-closed, closed-next, closed-on, closed-start}
+use Rattle.node_connections.proofs.Loose.{all-closed, closed-next, closed-on, closed-start}
 use Rattle.node_loop.proofs.run.keeping.close_strangers.Goals.{then-not-is_neighbour, else-not-is_neighbour}
 use Rattle.node_loop.proofs.run.keeping.close_strangers.Goals as goal
 

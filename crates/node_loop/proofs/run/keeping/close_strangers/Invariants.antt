@@ -1,4 +1,4 @@
-use Rattle.node_loop.proofs.Loose.{AreClosed}
+use Rattle.node_connections.proofs.Loose.{AreClosed}
 use Rattle.node_loop.proofs.run.keeping.close_strangers.Given as goal
 
 abbrev pub invariant-loop-id : goal.invariant-loop-id

@@ -1,7 +1,7 @@
 use Rattle.std.proofs.Common.{◌≡◌, ◌≢◌, ◌⊎◌, ◌<◌, ◌≤◌, ◌∙◌, ◌++◌, ◌∷◌, [], ℕ, Bool, false, if◌then◌else◌, min, ◌+◌, List, refl, sym, ap, subst, inl, inr, arith, append-nil}
 use Rattle.std.specs.Prelude.{slice_index_or}
 use Rattle.std.proofs.lemmas.List.{get_or-set_same, get_or-set_other}
-use Rattle.node_recorder.specs.flight_recorder.flight_records.declared.entry.Deed.TheVariants.{Connects, Disconnects}
+use Rattle.record_files.specs.node_recorder.flight_recorder.flight_records.declared.entry.Deed.TheVariants.{Connects, Disconnects}
 use Rattle.node_process.specs.Noted.{is_linked, is_seen_up, link_change, link_changes, RecordsEach}
 use Rattle.node_process.proofs.Noted.{alike, apart, change-here, change-none, changes-more, each-more}
 use Rattle.std.proofs.lemmas.Bool.{cases_eq}
@@ -26,23 +26,23 @@ loop-id-preserved g c =
           ∙ (ap (λ b. link_changes was is id ++ (if b then Connects id else Disconnects id) ∷ []) up
           ∙ (ap (λ ds. link_changes was is id ++ ds) (sym (change-here (was id) (is id) id other)) ∙ sym (changes-more was is id))) in
           rw w.self-is (record {
-            names = w.note_link.ensures.names.0 ∙ before.names;
+            files = w.note_link.ensures.files.0 ∙ before.files;
             settled = λ may done. w.note_link.ensures.settled may (before.settled may done);
             noted = subst (λ ds. RecordsEach c.args.instant c.args.may_wait c.args.run.now.node ds c.args.self.now.recorder new.recorder) deed
                 (each-more c.args.instant c.args.may_wait c.args.run.now.node (link_changes was is id) w.link_deed.result c.args.self.now.recorder c.loop-id.self.recorder new.recorder before.noted w.note_link.ensures.noted);
             seen = λ i less.
                 elim (cases_eq i id) [
-                  | inl same ↦ rw (same, w.note_link.ensures.names.1, get_or-set_same c.loop-id.self.linked id c.is_up-is_linked.result false (rw c.loop-id.self.ids within)) up
-                  | inr differs ↦ rw (w.note_link.ensures.names.1, get_or-set_other c.loop-id.self.linked id i c.is_up-is_linked.result false differs) (before.seen i (omega (arith, less, differs)))
+                  | inl same ↦ rw (same, w.note_link.ensures.files.1, get_or-set_same c.loop-id.self.linked id c.is_up-is_linked.result false (rw c.loop-id.self.ids within)) up
+                  | inr differs ↦ rw (w.note_link.ensures.files.1, get_or-set_other c.loop-id.self.linked id i c.is_up-is_linked.result false differs) (before.seen i (omega (arith, less, differs)))
                 ];
-            unseen = λ i from. rw (w.note_link.ensures.names.1, get_or-set_other c.loop-id.self.linked id i c.is_up-is_linked.result false (λ same. omega (arith, from, same))) (before.unseen i (omega (arith, from)));
+            unseen = λ i from. rw (w.note_link.ensures.files.1, get_or-set_other c.loop-id.self.linked id i c.is_up-is_linked.result false (λ same. omega (arith, from, same))) (before.unseen i (omega (arith, from)));
           })
       | else-is_linked-self w ↦
           let same : was id ≡ is id = sym old ∙ (sym (alike c.is_up-is_linked.result (slice_index_or c.loop-id.self.linked id false) w.if-is_linked-self.false) ∙ up) in
           let none : link_changes was is id ≡ link_changes was is (id + 1) =
           sym (append-nil (link_changes was is id)) ∙ (ap (λ ds. link_changes was is id ++ ds) (sym (change-none (was id) (is id) id same)) ∙ sym (changes-more was is id)) in
           rw w.self-is (record {
-            names = before.names;
+            files = before.files;
             settled = before.settled;
             noted = subst (λ ds. RecordsEach c.args.instant c.args.may_wait c.args.run.now.node ds c.args.self.now.recorder c.loop-id.self.recorder) none before.noted;
             seen = λ i less.

@@ -1,13 +1,13 @@
 use Rattle.std.proofs.Common.{◌≡◌, ◌<◌, ◌≤◌, ℕ, false}
 use Rattle.std.specs.Prelude.{slice_index_or}
 use Rattle.node_loop.specs.declared.run.NodeRun.{NodeRun}
-use Rattle.node_recorder.specs.Backlog.{nothing}
+use Rattle.record_files.specs.node_recorder.Backlog.{nothing}
 use Rattle.node_process.specs.Noted.{is_linked, link_changes, RecordsEach}
 use Rattle.node_process.proofs.tape.Tape.note_links.Given as goal
 
 abbrev pub invariant-loop-id : goal.invariant-loop-id
 invariant-loop-id g l = record {
-  names : l.self.names ≡ l.fn.self.names;
+  files : l.self.files ≡ l.fn.self.files;
   settled : l.fn.may_wait ≡ false → l.fn.self.recorder.backlog ≡ nothing → l.self.recorder.backlog ≡ nothing;
   noted : RecordsEach l.fn.instant l.fn.may_wait l.fn.run.node
       (link_changes (λ id. slice_index_or l.fn.self.linked id false) (is_linked l.fn.run.ports.items) l.id) l.fn.self.recorder l.self.recorder;

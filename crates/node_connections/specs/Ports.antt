@@ -1,0 +1,11 @@
+-- What is so of the ports at one place of two lists.
+use Rattle.std.specs.Prelude.{Option, None, Some, ⊤}
+use Rattle.node_connections.specs.declared.port.NodePort.{NodePort}
+
+-- both places of two lists have a port, and these are so related; or neither has one
+abbrev pub AtBoth : {P : Type 0} → (NodePort P → NodePort P → Type 0) → Option (NodePort P)
+    → Option (NodePort P) → Type 0
+AtBoth R None None = ⊤
+AtBoth R None (Some new) = ⊥
+AtBoth R (Some old) None = ⊥
+AtBoth R (Some old) (Some new) = R old new

@@ -1,5 +1,0 @@
-use Rattle.node_loop.proofs.Arrivals.{HasHeard}
-use Rattle.node_loop.proofs.lobby.Visitor.listen.Given as goal
-
-abbrev pub invariant-loop : goal.invariant-loop
-invariant-loop g l = HasHeard g.P.Pipe.gave g.P.Pipe.took l.fn.self l.self

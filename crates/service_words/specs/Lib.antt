@@ -1,0 +1,5 @@
+pub use Rattle.program_ends.specs as program_ends
+pub mod Ends
+pub mod Manner
+pub mod Named
+pub mod Interval
