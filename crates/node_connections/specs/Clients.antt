@@ -1,4 +1,4 @@
--- Who is connected to a node.
+-- The clients that are connected to a node.
 use Rattle.std.specs.Prelude.{◌≡◌, ◌≢◌, ◌⊎◌, ℕ, ◌<◌, ◌≤◌, Bool, false, is_some, ⊤, List, ◌++◌, ◌-◌, length, slice_index_or, codes, []}
 use Rattle.circular_buffer.specs.Buffer.{buffer}
 use Rattle.slab.specs.Slab.{get}

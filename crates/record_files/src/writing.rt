@@ -26,7 +26,7 @@ impl RecordFiles {
     }
 
     /// Writes the page, of at most 32768 bytes, to the end of the present file of these pages. If that is
-    /// not open, it is made anew, in place of a plain file of its name; or, if something is written to it,
+    /// not open, it is made again, in place of a plain file of its name; or, if something is written to it,
     /// what stands there is opened, and cut off after as many bytes as are written.
     ///
     /// # Errors
