@@ -11,16 +11,16 @@ No second process can be node 0 in this folder.
 
 While a client holds the lock at node 0, nobody gets it at node 2.
 
-  $ mkfifo end; tokentree lock run 0 <end >holder & exec 3>end; at_last grep -q granted holder
+  $ hold 0
   $ tokentree lock --timeout 1 run 2 true
   tokentree: node 2 did not lend the lock within 1 s
   [124]
-  $ exec 3>&-
+  $ let_go
 
 Node 1 is killed while a command has the lock.
 
   $ tokentree lock run 1 sh -c 'echo >held; exec sleep 50' 2>lost & locker=$!
-  $ at_last test -e held; kill -9 "$process_1"; wait "$locker"
+  $ at_last test -e held; kill_node 1; wait "$locker"
   [122]
   $ cat lost
   tokentree: the lock is lost, since node 1 went away: the command is ended

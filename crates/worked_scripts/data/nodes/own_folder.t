@@ -20,8 +20,10 @@ A node whose stop file is a folder ends with status 1.
   [1]
   $ rm -r run
 
-A node whose socket for clients cannot be made again runs on, says so once, and takes the name back.
+A node whose socket for clients cannot be made again runs on, says so once, and takes the name back. It stands still
+while its socket is replaced.
 
-  $ start 0; rm run/desk-0.sock; mkdir run/desk-0.sock; at_last test -s err-0; sleep 1; rmdir run/desk-0.sock
+  $ start 0; kill -STOP "$process_0"; rm run/desk-0.sock; mkdir run/desk-0.sock; kill -CONT "$process_0"
+  $ at_last test -s err-0; sleep 1; rmdir run/desk-0.sock
   $ at_last test -e run/desk-0.sock; stop 0
   tokentree: run/desk-0.sock: cannot be made again; remove what stands there: the node runs on, and tries again
