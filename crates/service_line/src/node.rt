@@ -1,4 +1,9 @@
 //! The words of `node`.
+ghost use Rattle.std.specs.Prelude.{◌≡◌, ◌⊎◌, IfOk, IfErr};
+ghost use Rattle.std.specs.Process.{exit_status};
+ghost use Rattle.clap.specs.Matches.{found_of};
+ghost use Rattle.service_line.specs.NodeWords.{IsNodeOf, IsNodeRefused};
+
 use clap::{ArgMatches, Command};
 use command_grammar::{Grammar, Number, Parameter, given_number, with_command, word};
 use node_process::{NodeWords, node};
@@ -112,8 +117,27 @@ const ID: Number<'static> = Number {
 };
 
 /// Does what the words of `node` say.
-pub fn run<R: Runtime>(rt: &R, given: &ArgMatches) -> Result<ExitCode, Refusal> {
-    let words = NodeWords {
+///
+/// # Errors
+/// If a word spells no number, or no time, in its range.
+pub fn run<R: Runtime>(rt: &R, given: &ArgMatches) -> Result<ExitCode, Refusal>
+    ensures ok { IfOk result (λ status. (exit_status status ≡ 0) ⊎ (exit_status status ≡ 1)) }
+    ensures err { IfErr result (IsNodeRefused (found_of given.now)) }
+{
+    let words = asked(given)?;
+    let done = node::run(rt, &words);
+    Ok(ended(rt, words.file, words.dir, words.id, done))
+}
+
+/// What the words of `node` ask for.
+///
+/// # Errors
+/// If a word spells no number, or no time, in its range.
+fn asked<'a>(given: &ArgMatches<'a>) -> Result<NodeWords<'a>, Refusal>
+    ensures ok { IfOk result (IsNodeOf (found_of given.now)) }
+    ensures err { IfErr result (IsNodeRefused (found_of given.now)) }
+{
+    Ok(NodeWords {
         file: word(given, "FILE")?,
         id: given_number(given, ID)? as u16,
         dir: word(given, "DIR")?,
@@ -124,7 +148,5 @@ pub fn run<R: Runtime>(rt: &R, given: &ArgMatches) -> Result<ExitCode, Refusal> 
         log: log_level(given)?,
         record_size: record_size(given)?,
         is_child: given.get_flag("child"),
-    };
-    let done = node::run(rt, &words);
-    Ok(ended(rt, words.file, words.dir, words.id, done))
+    })
 }

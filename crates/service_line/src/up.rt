@@ -1,4 +1,9 @@
 //! The words of `up`.
+ghost use Rattle.std.specs.Prelude.{◌≡◌, ◌⊎◌, IfOk, IfErr};
+ghost use Rattle.std.specs.Process.{exit_status};
+ghost use Rattle.clap.specs.Matches.{found_of};
+ghost use Rattle.service_line.specs.NodeWords.{IsUpRefused};
+
 use clap::{ArgMatches, Command};
 use command_grammar::{Grammar, Parameter, with_command, word};
 use service_words::node_words::{
@@ -69,7 +74,13 @@ Statuses: 0 it was asked to end, and all nodes have ended; 1 it cannot run, or
 no node stays up, and a line on standard error says why; 2 invalid arguments.";
 
 /// Does what the words of `up` say.
-pub fn run<R: Runtime>(rt: &R, given: &ArgMatches) -> Result<ExitCode, Refusal> {
+///
+/// # Errors
+/// If a word spells no number, or no time, in its range.
+pub fn run<R: Runtime>(rt: &R, given: &ArgMatches) -> Result<ExitCode, Refusal>
+    ensures ok { IfOk result (λ status. (exit_status status ≡ 0) ⊎ (exit_status status ≡ 1)) }
+    ensures err { IfErr result (IsUpRefused (found_of given.now)) }
+{
     let file = word(given, "FILE")?;
     let dir = word(given, "DIR")?;
     let (manner, turn) = (manner(given)?, late_after(given)?);

@@ -1,4 +1,12 @@
 //! The words of `lock`.
+ghost use Rattle.std.specs.Prelude.{◌≡◌, IfOk, IfErr, map};
+ghost use Rattle.clap.specs.Matches.{found_of};
+ghost use Rattle.command_faults.specs.declared.fault.Fault.TheVariants.{Memory};
+ghost use Rattle.lock_words.specs.Words.{texts};
+ghost use Rattle.service_words.specs.declared.refusal.Refusal.TheVariants as refused;
+ghost use Rattle.service_words.specs.LockWords.{AreWhole, IsLockRefused, IsNodeAsked, IsNodeRefused, IsRequestOf};
+ghost use Rattle.service_words.specs.LockWords.{IsRequestRefused, IsWaitOf, IsWaitRefused, guard_words};
+
 use crate::program::{Runtime, SOCKETS_FOLDER};
 use crate::refusal::Refusal;
 use clap::{ArgMatches, Command};
@@ -184,7 +192,10 @@ impl Surroundings {
         &'a self,
         alloc: Global,
         words: &'a [S],
-    ) -> Result<Vec<&'a str>, Refusal> {
+    ) -> Result<Vec<&'a str>, Refusal>
+        ensures ok { IfOk result (λ whole. AreWhole S.text words.now self.now (texts whole.items)) }
+        ensures err { IfErr result (λ refusal. refusal ≡ refused.Fault Memory) }
+    {
         let instead = StandIns {
             folder: self.folder.as_deref(),
             node: self.node.as_deref(),
@@ -203,7 +214,9 @@ fn variable<R: Env + AllocGlobal>(rt: &R, name: &str) -> Option<String> {
 
 /// Does what the words of `lock` say, or what the guard of a command does. `is_dashed` says
 /// whether the last word is `--`.
-pub fn run<R: Runtime>(rt: &R, given: &ArgMatches, is_dashed: bool) -> Result<ExitCode, Refusal> {
+pub fn run<R: Runtime>(rt: &R, given: &ArgMatches, is_dashed: bool) -> Result<ExitCode, Refusal>
+    ensures { IfErr result (IsLockRefused (found_of given.now) is_dashed) }
+{
     let is_keeping_guard = given.get_flag("guard-keeping");
     if is_keeping_guard || given.get_flag("guard") {
         return Ok(ExitCode::from(guard::run(rt, is_keeping_guard)));
@@ -216,16 +229,26 @@ pub fn run<R: Runtime>(rt: &R, given: &ArgMatches, is_dashed: bool) -> Result<Ex
 }
 
 /// The request that the words make, with this command.
-fn request<'a>(given: &'a ArgMatches, command: &'a [&'a str]) -> Result<Request<'a>, Refusal> {
+///
+/// # Errors
+/// If a word spells no number in its range, or no time to wait.
+fn request<'a>(given: &'a ArgMatches, command: &'a [&'a str]) -> Result<Request<'a>, Refusal>
+    ensures ok { IfOk result (IsRequestOf (found_of given.now)) }
+    ensures command { IfOk result (λ request. request.command ≡ command.entry) }
+    ensures guard { IfOk result (λ request. map (λ w. w.now) request.guard.now
+        ≡ guard_words request.keeps_running) }
+    ensures err { IfErr result (IsRequestRefused (found_of given.now)) }
+{
+    let keeps_running = given.get_flag("keep");
     Ok(Request {
         folder: word(given, "DIR")?,
         node: node(given)?,
         limit: limit(given)?,
         lost: given_number(given, LOST)? as u8,
         is_verbose: given.get_flag("verbose"),
-        keeps_running: given.get_flag("keep"),
+        keeps_running,
         waits_for_children: given.get_flag("wait-children"),
-        guard: if given.get_flag("keep") {
+        guard: if keeps_running {
             &KEEPING_GUARD
         } else {
             &GUARD
@@ -235,7 +258,13 @@ fn request<'a>(given: &'a ArgMatches, command: &'a [&'a str]) -> Result<Request<
 }
 
 /// The node to ask; none for any.
-fn node(given: &ArgMatches) -> Result<Option<u16>, Refusal> {
+///
+/// # Errors
+/// If the word is neither `any` nor a number from 0 to 65535.
+fn node(given: &ArgMatches) -> Result<Option<u16>, Refusal>
+    ensures ok { IfOk result (IsNodeAsked (found_of given.now)) }
+    ensures err { IfErr result (IsNodeRefused (found_of given.now)) }
+{
     if word(given, "ID")? == ANY {
         Ok(None)
     } else {
@@ -243,12 +272,20 @@ fn node(given: &ArgMatches) -> Result<Option<u16>, Refusal> {
     }
 }
 
-/// How long to wait for the lock.
-fn limit(given: &ArgMatches) -> Result<Option<Seconds>, Refusal> {
-    let millis = match given.get_str("timeout") {
-        Some(word) => Some(limit_of(word).ok_or(Refusal::Limit)?),
-        None if given.get_flag("no-wait") => Some(AT_ONCE),
-        None => None,
-    };
-    Ok(millis.map(|millis| Seconds { millis }))
+/// How long to wait for the lock; none for no limit.
+///
+/// # Errors
+/// [`Refusal::Limit`] if the word of `--timeout` spells no time from 0 to 65535 seconds.
+fn limit(given: &ArgMatches) -> Result<Option<Seconds>, Refusal>
+    ensures ok { IfOk result (IsWaitOf (found_of given.now)) }
+    ensures err { IfErr result (IsWaitRefused (found_of given.now)) }
+{
+    match given.get_str("timeout") {
+        Some(word) => match limit_of(word) {
+            Some(millis) => Ok(Some(Seconds { millis })),
+            None => Err(Refusal::Limit),
+        },
+        None if given.get_flag("no-wait") => Ok(Some(Seconds { millis: AT_ONCE })),
+        None => Ok(None),
+    }
 }

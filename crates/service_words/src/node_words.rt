@@ -1,8 +1,10 @@
 //! What `node` and `up` share: options, and how they end.
-ghost use Rattle.std.specs.Prelude.{◌≡◌, Some, None, IfOk, IfErr, if◌then◌else◌, is_ok, codes};
+ghost use Rattle.std.specs.Prelude.{◌≡◌, IfOk, IfErr, if◌then◌else◌, is_ok, codes};
 ghost use Rattle.std.specs.Process.{exit_status};
-ghost use Rattle.clap.specs.Matches.{found_of, first_value, one_text};
-ghost use Rattle.process_parts.specs.declared.rights.Rights.TheVariants.{Usual, GroupLocks};
+ghost use Rattle.clap.specs.Matches.{found_of};
+ghost use Rattle.command_grammar.specs.Given.{IsRefused};
+ghost use Rattle.service_words.specs.Allowed.{AreRightsOf};
+ghost use Rattle.service_words.specs.Logging.{IsLogOf, IsSizeOf};
 ghost use Rattle.service_words.specs.Manner.{IsMannerOf, IsMannerRefused};
 ghost use Rattle.service_words.specs.Manner.{IsLimitOf, IsLimitRefused};
 
@@ -61,8 +63,8 @@ pub const LOG_HELP: &str = "Log 4 what is wrong, 5 links too, 6 grants too";
 /// # Errors
 /// If a word spells no number from 4 to 6.
 pub fn log_level(given: &ArgMatches) -> Result<Option<Level>, WordFault<'static>>
-    ensures left_out { first_value (found_of given.now) (codes "log") ≡ None
-        → IfOk result (λ level. level ≡ None) }
+    ensures ok { IfOk result (IsLogOf (found_of given.now)) }
+    ensures err { IfErr result (IsRefused (found_of given.now) (codes "log") 4 6) }
 {
     match number_if_given(given, LOG)? {
         Some(priority) => Ok(Level::of_priority(priority)),
@@ -90,8 +92,8 @@ pub const RECORD_SIZE_HELP: &str = "Bytes in each of its files [default: 8388608
 /// # Errors
 /// If a word spells no number from 65536 to 1073741824.
 pub fn record_size(given: &ArgMatches) -> Result<Option<RecordSize>, WordFault<'static>>
-    ensures left_out { one_text (found_of given.now) (codes "record") ≡ None
-        → IfOk result (λ size. size ≡ None) }
+    ensures ok { IfOk result (IsSizeOf (found_of given.now)) }
+    ensures err { IfErr result (IsRefused (found_of given.now) (codes "record-size") 65536 1073741824) }
 {
     let size = match number_if_given(given, RECORD_SIZE)? {
         Some(bytes) => RecordSize { bytes },
@@ -105,9 +107,7 @@ pub const GROUP_HELP: &str = "Let the group take the lock, and do nothing else";
 
 /// Who may use the folder and the sockets, by the words of `node` or `up`.
 pub fn rights(given: &ArgMatches) -> Rights
-    ensures given { one_text (found_of given.now) (codes "group-locks") ≡ Some (codes "true")
-        → result ≡ GroupLocks }
-    ensures left_out { one_text (found_of given.now) (codes "group-locks") ≡ None → result ≡ Usual }
+    ensures { AreRightsOf (found_of given.now) result }
 {
     if given.get_flag("group-locks") {
         Rights::GroupLocks

@@ -1,5 +1,7 @@
 //! The words of `status`.
-ghost use Rattle.std.specs.Prelude.{◌≡◌};
+ghost use Rattle.std.specs.Prelude.{◌≡◌, IfOk, IfErr};
+ghost use Rattle.clap.specs.Matches.{found_of};
+ghost use Rattle.service_words.specs.Chosen.{AreIds, IsFormOf, IsIdRefused};
 ghost use Rattle.service_words.specs.Interval.{interval};
 
 use crate::program::{Runtime, SOCKETS_FOLDER};
@@ -169,7 +171,9 @@ fn watched<R: Runtime>(rt: &R, given: &ArgMatches, folder: &str, nodes: &[u16]) 
 }
 
 /// The form in which the nodes are shown.
-fn form(given: &ArgMatches) -> Form {
+fn form(given: &ArgMatches) -> Form
+    ensures { IsFormOf (found_of given.now) result }
+{
     if given.get_flag("json") {
         Form::Json
     } else {
@@ -192,10 +196,18 @@ fn interval(word: Option<&str>) -> Option<u64>
 }
 
 /// The ids that these words spell.
-pub fn ids(alloc: Global, words: &[&str]) -> Result<Vec<u16>, Refusal> {
+///
+/// # Errors
+/// If a word spells no number from 0 to 65535, or memory runs out.
+pub fn ids(alloc: Global, words: &[&str]) -> Result<Vec<u16>, Refusal>
+    ensures ok { IfOk result (λ nodes. AreIds words.now nodes.items) }
+    ensures err { IfErr result (IsIdRefused words.now) }
+{
     let mut nodes = Vec::new(alloc);
     for word in words {
-        let id = ID.read(word).ok_or(WordFault::NoNumber(ID))?;
+        let Some(id) = ID.read(word) else {
+            return Err(Refusal::Word(WordFault::NoNumber(ID)));
+        };
         nodes.push(id as u16).map_err(|_| Fault::Memory)?;
     }
     Ok(nodes)

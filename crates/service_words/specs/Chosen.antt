@@ -1,0 +1,29 @@
+-- What the words of `status` and `stop` ask for.
+use Rattle.std.specs.Prelude.{◌≡◌, ◌≢◌, ◌≤◌, ℕ, true, false, List, Some, map, decimal, slice_get, codes}
+use Rattle.std.specs.Borrow.{Bor}
+use Rattle.clap.specs.declared.parser.matches.Found.{Found}
+use Rattle.command_grammar.specs.Given.{IsFlag}
+use Rattle.command_grammar.specs.declared.words.WordFault.TheVariants.{NoNumber}
+use Rattle.command_faults.specs.declared.fault.Fault.TheVariants.{Memory}
+use Rattle.lock_words.specs.Words.{texts}
+use Rattle.service_words.specs.declared.refusal.Refusal.{Refusal}
+use Rattle.service_words.specs.declared.refusal.Refusal.TheVariants.{Word, Fault}
+use Rattle.status_command.specs.declared.Form.{Form}
+use Rattle.status_command.specs.declared.Form.TheVariants.{Json, Lines}
+
+-- the words are the decimal spellings of these ids, in the same order
+abbrev pub AreIds : List (Bor (List ℕ)) → List ℕ → Type 0
+AreIds words ids = texts words ≡ map decimal ids
+
+-- memory ran out; or one of the words is the decimal spelling of no number up to 65535
+abbrev pub IsIdRefused : List (Bor (List ℕ)) → Refusal → Type 0
+IsIdRefused words (Fault fault) = fault ≡ Memory
+IsIdRefused words (Word (NoNumber asked)) =
+    (asked.id.now ≡ codes "ID")
+    × ((at : ℕ) × (word : List ℕ) × (slice_get (texts words) at ≡ Some word) × ((id : ℕ) → id ≤ 65535 → word ≢ decimal id))
+IsIdRefused words _ = ⊥
+
+-- `--json` asks for JSON, and else lines are shown
+abbrev pub IsFormOf : Found → Form → Type 0
+IsFormOf found Json = IsFlag found (codes "json") true
+IsFormOf found Lines = IsFlag found (codes "json") false
