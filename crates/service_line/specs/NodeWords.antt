@@ -1,13 +1,13 @@
 -- What the words of `node` and `up` ask for.
-use Rattle.std.specs.Prelude.{◌≡◌, ◌⊎◌, ℕ, List, Some, None, codes}
+use Rattle.std.specs.Prelude.{◌≡◌, ◌⊎◌, Some, codes}
 use Rattle.clap.specs.Matches.{first_value}
 use Rattle.clap.specs.declared.parser.matches.Found.{Found}
 use Rattle.command_grammar.specs.Given.{IsFlag, IsGiven, IsRefused}
-use Rattle.command_grammar.specs.declared.words.WordFault.TheVariants.{Absent}
 use Rattle.node_process.specs.declared.node.NodeWords.{NodeWords}
-use Rattle.service_words.specs.Allowed.{AreRightsOf}
-use Rattle.service_words.specs.Logging.{IsLogOf, IsSizeOf}
+use Rattle.service_words.specs.GivenRights.{AreRightsOf}
+use Rattle.service_words.specs.LogAndRecord.{IsLogOf, IsSizeOf}
 use Rattle.service_words.specs.Manner.{IsMannerOf, IsMannerRefused, IsLimitOf, IsLimitRefused}
+use Rattle.service_words.specs.Refused.{IsIdRefused, IsMissing}
 use Rattle.service_words.specs.declared.refusal.Refusal.{Refusal}
 use Rattle.service_words.specs.declared.refusal.Refusal.TheVariants.{Word, Time}
 
@@ -25,16 +25,6 @@ IsNodeOf found words =
     × IsSizeOf found words.record_size
     × IsFlag found (codes "child") words.is_child
 
--- a place has no word
-abbrev pub IsMissing : Found → List ℕ → Refusal → Type 0
-IsMissing found id (Word (Absent missing)) = (missing.now ≡ id) × (first_value found id ≡ None)
-IsMissing found id _ = ⊥
-
--- no node has the word of ID
-abbrev pub IsIdRefused : Found → Refusal → Type 0
-IsIdRefused found (Word fault) = IsRefused found (codes "ID") 0 65535 fault
-IsIdRefused found _ = ⊥
-
 -- the word of an option that `node` and `up` share spells no number, or no time, in its range
 abbrev pub IsOptionRefused : Found → Refusal → Type 0
 IsOptionRefused found (Word fault) =
@@ -44,10 +34,10 @@ IsOptionRefused found (Time fault) = IsLimitRefused found fault
 IsOptionRefused found _ = ⊥
 
 -- one of the words of `up` is missing or invalid
-abbrev pub IsUpRefused : Found → Refusal → Type 0
-IsUpRefused found refusal =
+abbrev pub AreUpWordsRefused : Found → Refusal → Type 0
+AreUpWordsRefused found refusal =
     IsMissing found (codes "FILE") refusal ⊎ (IsMissing found (codes "DIR") refusal ⊎ IsOptionRefused found refusal)
 
--- one of the words of `node` is
-abbrev pub IsNodeRefused : Found → Refusal → Type 0
-IsNodeRefused found refusal = IsIdRefused found refusal ⊎ IsUpRefused found refusal
+-- the word of ID is no number up to 65535, or another word of `node` is missing or invalid
+abbrev pub AreNodeWordsRefused : Found → Refusal → Type 0
+AreNodeWordsRefused found refusal = IsIdRefused found refusal ⊎ AreUpWordsRefused found refusal

@@ -2,7 +2,7 @@
 ghost use Rattle.std.specs.Prelude.{◌≡◌, ◌⊎◌, IfOk, IfErr};
 ghost use Rattle.std.specs.Process.{exit_status};
 ghost use Rattle.clap.specs.Matches.{found_of};
-ghost use Rattle.service_line.specs.NodeWords.{IsNodeOf, IsNodeRefused};
+ghost use Rattle.service_line.specs.NodeWords.{IsNodeOf, AreNodeWordsRefused};
 
 use clap::{ArgMatches, Command};
 use command_grammar::{Grammar, Number, Parameter, given_number, with_command, word};
@@ -122,7 +122,7 @@ const ID: Number<'static> = Number {
 /// If a word spells no number, or no time, in its range.
 pub fn run<R: Runtime>(rt: &R, given: &ArgMatches) -> Result<ExitCode, Refusal>
     ensures ok { IfOk result (λ status. (exit_status status ≡ 0) ⊎ (exit_status status ≡ 1)) }
-    ensures err { IfErr result (IsNodeRefused (found_of given.now)) }
+    ensures err { IfErr result (AreNodeWordsRefused (found_of given.now)) }
 {
     let words = asked(given)?;
     let done = node::run(rt, &words);
@@ -135,7 +135,7 @@ pub fn run<R: Runtime>(rt: &R, given: &ArgMatches) -> Result<ExitCode, Refusal>
 /// If a word spells no number, or no time, in its range.
 fn asked<'a>(given: &ArgMatches<'a>) -> Result<NodeWords<'a>, Refusal>
     ensures ok { IfOk result (IsNodeOf (found_of given.now)) }
-    ensures err { IfErr result (IsNodeRefused (found_of given.now)) }
+    ensures err { IfErr result (AreNodeWordsRefused (found_of given.now)) }
 {
     Ok(NodeWords {
         file: word(given, "FILE")?,

@@ -2,7 +2,7 @@
 ghost use Rattle.std.specs.Prelude.{◌≡◌, ◌⊎◌, IfOk, IfErr};
 ghost use Rattle.std.specs.Process.{exit_status};
 ghost use Rattle.clap.specs.Matches.{found_of};
-ghost use Rattle.service_line.specs.NodeWords.{IsUpRefused};
+ghost use Rattle.service_line.specs.NodeWords.{AreUpWordsRefused};
 
 use clap::{ArgMatches, Command};
 use command_grammar::{Grammar, Parameter, with_command, word};
@@ -79,7 +79,7 @@ no node stays up, and a line on standard error says why; 2 invalid arguments.";
 /// If a word spells no number, or no time, in its range.
 pub fn run<R: Runtime>(rt: &R, given: &ArgMatches) -> Result<ExitCode, Refusal>
     ensures ok { IfOk result (λ status. (exit_status status ≡ 0) ⊎ (exit_status status ≡ 1)) }
-    ensures err { IfErr result (IsUpRefused (found_of given.now)) }
+    ensures err { IfErr result (AreUpWordsRefused (found_of given.now)) }
 {
     let file = word(given, "FILE")?;
     let dir = word(given, "DIR")?;

@@ -4,6 +4,7 @@ pub mod Manner
 pub mod Named
 pub mod Interval
 pub mod LockWords
-pub mod Logging
-pub mod Chosen
-pub mod Allowed
+pub mod LogAndRecord
+pub mod StatusWords
+pub mod GivenRights
+pub mod Refused

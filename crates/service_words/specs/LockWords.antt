@@ -4,12 +4,12 @@ use Rattle.std.specs.Option.{option_map}
 use Rattle.clap.specs.Matches.{first_value}
 use Rattle.clap.specs.declared.parser.matches.Found.{Found}
 use Rattle.command_grammar.specs.Given.{IsFlag, IsGiven, IsRefused}
-use Rattle.command_grammar.specs.declared.words.WordFault.TheVariants.{Absent}
 use Rattle.lock_command.specs.declared.lock.Request.{Request}
 use Rattle.lock_command.specs.declared.seconds.Seconds.{Seconds}
 use Rattle.lock_words.specs.Needed.{whole_texts}
 use Rattle.lock_words.specs.Words.{limit_of, text_if}
 use Rattle.lock_words.specs.declared.whole.StandIns.{StandIns}
+use Rattle.service_words.specs.Refused.{IsIdRefused, IsMissing}
 use Rattle.service_words.specs.declared.lock.Surroundings.{Surroundings}
 use Rattle.service_words.specs.declared.refusal.Refusal.{Refusal}
 use Rattle.service_words.specs.declared.refusal.Refusal.TheVariants.{Word, Limit, NoWords}
@@ -51,20 +51,10 @@ IsRequestOf found request =
     × IsFlag found (codes "keep") request.keeps_running
     × IsFlag found (codes "wait-children") request.waits_for_children
 
--- no node has the word of ID
-abbrev pub IsNodeRefused : Found → Refusal → Type 0
-IsNodeRefused found (Word fault) = IsRefused found (codes "ID") 0 65535 fault
-IsNodeRefused found _ = ⊥
-
 -- the word of `--timeout` spells no time from 0 to 65535 seconds
 abbrev pub IsWaitRefused : Found → Refusal → Type 0
 IsWaitRefused found refusal =
     (refusal ≡ Limit) × ((word : List ℕ) × (first_value found (codes "timeout") ≡ Some word) × (limit_of word ≡ None))
-
--- DIR has no word
-abbrev pub IsFolderMissing : Found → Refusal → Type 0
-IsFolderMissing found (Word (Absent id)) = (id.now ≡ codes "DIR") × (first_value found (codes "DIR") ≡ None)
-IsFolderMissing found _ = ⊥
 
 -- the status of a lost lock is no number from 1 to 255
 abbrev pub IsLostStatusRefused : Found → Refusal → Type 0
@@ -74,10 +64,10 @@ IsLostStatusRefused found _ = ⊥
 -- one of these is invalid
 abbrev pub IsRequestRefused : Found → Refusal → Type 0
 IsRequestRefused found refusal =
-    IsFolderMissing found refusal
-    ⊎ (IsNodeRefused found refusal ⊎ (IsWaitRefused found refusal ⊎ IsLostStatusRefused found refusal))
+    IsMissing found (codes "DIR") refusal
+    ⊎ (IsIdRefused found refusal ⊎ (IsWaitRefused found refusal ⊎ IsLostStatusRefused found refusal))
 
--- the request is refused, or no command follows the last word `--`
+-- the request is refused, or the last word is `--`
 abbrev pub IsLockRefused : Found → Bool → Refusal → Type 0
 IsLockRefused found is_dashed refusal =
     IsRequestRefused found refusal ⊎ ((refusal ≡ NoWords) × (is_dashed ≡ true))

@@ -4,7 +4,8 @@ ghost use Rattle.clap.specs.Matches.{found_of};
 ghost use Rattle.command_faults.specs.declared.fault.Fault.TheVariants.{Memory};
 ghost use Rattle.lock_words.specs.Words.{texts};
 ghost use Rattle.service_words.specs.declared.refusal.Refusal.TheVariants as refused;
-ghost use Rattle.service_words.specs.LockWords.{AreWhole, IsLockRefused, IsNodeAsked, IsNodeRefused, IsRequestOf};
+ghost use Rattle.service_words.specs.Refused.{IsIdRefused};
+ghost use Rattle.service_words.specs.LockWords.{AreWhole, IsLockRefused, IsNodeAsked, IsRequestOf};
 ghost use Rattle.service_words.specs.LockWords.{IsRequestRefused, IsWaitOf, IsWaitRefused, guard_words};
 
 use crate::program::{Runtime, SOCKETS_FOLDER};
@@ -263,7 +264,7 @@ fn request<'a>(given: &'a ArgMatches, command: &'a [&'a str]) -> Result<Request<
 /// If the word is neither `any` nor a number from 0 to 65535.
 fn node(given: &ArgMatches) -> Result<Option<u16>, Refusal>
     ensures ok { IfOk result (IsNodeAsked (found_of given.now)) }
-    ensures err { IfErr result (IsNodeRefused (found_of given.now)) }
+    ensures err { IfErr result (IsIdRefused (found_of given.now)) }
 {
     if word(given, "ID")? == ANY {
         Ok(None)

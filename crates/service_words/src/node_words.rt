@@ -3,8 +3,8 @@ ghost use Rattle.std.specs.Prelude.{◌≡◌, IfOk, IfErr, if◌then◌else◌,
 ghost use Rattle.std.specs.Process.{exit_status};
 ghost use Rattle.clap.specs.Matches.{found_of};
 ghost use Rattle.command_grammar.specs.Given.{IsRefused};
-ghost use Rattle.service_words.specs.Allowed.{AreRightsOf};
-ghost use Rattle.service_words.specs.Logging.{IsLogOf, IsSizeOf};
+ghost use Rattle.service_words.specs.GivenRights.{AreRightsOf};
+ghost use Rattle.service_words.specs.LogAndRecord.{IsLogOf, IsSizeOf};
 ghost use Rattle.service_words.specs.Manner.{IsMannerOf, IsMannerRefused};
 ghost use Rattle.service_words.specs.Manner.{IsLimitOf, IsLimitRefused};
 

@@ -1,7 +1,7 @@
 //! The words of `status`.
 ghost use Rattle.std.specs.Prelude.{◌≡◌, IfOk, IfErr};
 ghost use Rattle.clap.specs.Matches.{found_of};
-ghost use Rattle.service_words.specs.Chosen.{AreIds, IsFormOf, IsIdRefused};
+ghost use Rattle.service_words.specs.StatusWords.{AreIds, AreIdsRefused, IsFormOf};
 ghost use Rattle.service_words.specs.Interval.{interval};
 
 use crate::program::{Runtime, SOCKETS_FOLDER};
@@ -201,7 +201,7 @@ fn interval(word: Option<&str>) -> Option<u64>
 /// If a word spells no number from 0 to 65535, or memory runs out.
 pub fn ids(alloc: Global, words: &[&str]) -> Result<Vec<u16>, Refusal>
     ensures ok { IfOk result (λ nodes. AreIds words.now nodes.items) }
-    ensures err { IfErr result (IsIdRefused words.now) }
+    ensures err { IfErr result (AreIdsRefused words.now) }
 {
     let mut nodes = Vec::new(alloc);
     for word in words {

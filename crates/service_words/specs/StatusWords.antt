@@ -16,12 +16,12 @@ abbrev pub AreIds : List (Bor (List ℕ)) → List ℕ → Type 0
 AreIds words ids = texts words ≡ map decimal ids
 
 -- memory ran out; or one of the words is the decimal spelling of no number up to 65535
-abbrev pub IsIdRefused : List (Bor (List ℕ)) → Refusal → Type 0
-IsIdRefused words (Fault fault) = fault ≡ Memory
-IsIdRefused words (Word (NoNumber asked)) =
+abbrev pub AreIdsRefused : List (Bor (List ℕ)) → Refusal → Type 0
+AreIdsRefused words (Fault fault) = fault ≡ Memory
+AreIdsRefused words (Word (NoNumber asked)) =
     (asked.id.now ≡ codes "ID")
     × ((at : ℕ) × (word : List ℕ) × (slice_get (texts words) at ≡ Some word) × ((id : ℕ) → id ≤ 65535 → word ≢ decimal id))
-IsIdRefused words _ = ⊥
+AreIdsRefused words _ = ⊥
 
 -- `--json` asks for JSON, and else lines are shown
 abbrev pub IsFormOf : Found → Form → Type 0
