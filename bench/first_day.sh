@@ -72,10 +72,10 @@ ends 1 "tokentree: .: is a folder
 tokentree: . is a folder, and ring.toml a file: FILE comes before DIR
 tokentree: network Unreadable" up . ring.toml
 ends 1 "tokentree: absent.txt: No such file or directory (os error 2)
-tokentree: events Unreadable" simulate ring.toml absent.txt
+tokentree: the events cannot be read" simulate ring.toml absent.txt
 
 ends 1 "tokentree: ring.toml: no node 7 is in it
-tokentree: id NoNode" scramble ring.toml 7 state 1
+tokentree: the network has no such node" scramble ring.toml 7 state 1
 
 # Mistakes in words: one line, and which help to try.
 for words in 'bound' 'bound --sharq ring.toml' 'bonud ring.toml' 'node --hold 2001 ring.toml 0 run' 'lock run one' \

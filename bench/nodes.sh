@@ -101,7 +101,7 @@ for words in [["bound"], ["simulate", "-"]]:
     file, where = fresh("closed")
     shown = start([words[0], file, *words[1:]], ">&-")
     row("%s with >&- says that its output was refused, and why" % words[0], ended(shown)[::2],
-        (1, "tokentree: standard output: Bad file descriptor (os error 9)\ntokentree: output Refused\n"))
+        (1, "tokentree: standard output: Bad file descriptor (os error 9)\ntokentree: standard output cannot be written\n"))
 
 # A full disk, and a reader that is gone.
 file, where = fresh("output")
@@ -110,7 +110,7 @@ serves(where, 0)
 with open("/dev/full", "w") as full:
     shown = subprocess.run([program, "status", where], stdout=full, stderr=subprocess.PIPE, text=True)
 row("status > /dev/full says that its output was refused, and why", (shown.returncode, shown.stderr),
-    (1, "tokentree: standard output: No space left on device (os error 28)\ntokentree: output Refused\n"))
+    (1, "tokentree: standard output: No space left on device (os error 28)\ntokentree: standard output cannot be written\n"))
 reader, writer = os.pipe()
 os.close(reader)
 shown = subprocess.run([program, "status", where], stdout=writer, stderr=subprocess.PIPE, text=True)

@@ -13,14 +13,14 @@ says-network = refl
 says-refused : fault_text (fault.Network (Refused NotToml)) ≡ codes "network NotToml"
 says-refused = refl
 
-says-node : fault_text fault.NoNode ≡ codes "id NoNode"
+says-node : fault_text fault.NoNode ≡ codes "the network has no such node"
 says-node = refl
 
-says-long : fault_text fault.EventsLong ≡ codes "events Long"
+says-long : fault_text fault.EventsLong ≡ codes "the events are too long"
 says-long = refl
 
 says_not-output : fault_text fault.Output ≢ fault_text fault.Memory
 says_not-output = grind arith
 
-says-path : path_fault_text (path.Fault fault.Threads) ≡ codes "threads Refused"
+says-path : path_fault_text (path.Fault fault.Threads) ≡ codes "a thread cannot be started"
 says-path = refl

@@ -16,7 +16,7 @@ knows-full = refl
 knows_not-full : refused_for StorageFull ≢ Closed
 knows_not-full e = grind (arith, e)
 
-says-closed : fault_text Closed ≡ codes "output Closed"
+says-closed : fault_text Closed ≡ codes "nobody reads standard output"
 says-closed = refl
 
 untaken-closed : IsUntaken Closed

@@ -8,11 +8,11 @@ use Rattle.command_faults.specs.declared.fault.Fault.TheVariants.{Output, Closed
 -- what failed, with its name
 abbrev pub fault_text : Fault → List ℕ
 fault_text (Network fault) = network_fault_text fault
-fault_text NoNode = codes "id NoNode"
-fault_text EventsUnreadable = codes "events Unreadable"
-fault_text EventsLong = codes "events Long"
-fault_text Memory = codes "memory Refused"
-fault_text Output = codes "output Refused"
-fault_text Closed = codes "output Closed"
-fault_text EventsUnwritable = codes "events Unwritable"
-fault_text Threads = codes "threads Refused"
+fault_text NoNode = codes "the network has no such node"
+fault_text EventsUnreadable = codes "the events cannot be read"
+fault_text EventsLong = codes "the events are too long"
+fault_text Memory = codes "out of memory"
+fault_text Output = codes "standard output cannot be written"
+fault_text Closed = codes "nobody reads standard output"
+fault_text EventsUnwritable = codes "the file for the events cannot be written"
+fault_text Threads = codes "a thread cannot be started"

@@ -35,14 +35,14 @@ impl fmt::Display for Fault {
     fn fmt<W: fmt::Write>(&self, f: &mut fmt::Formatter<W>) -> fmt::Result {
         match *self {
             Fault::Network(fault) => f.write(fault),
-            Fault::NoNode => f.write_str("id NoNode"),
-            Fault::EventsUnreadable => f.write_str("events Unreadable"),
-            Fault::EventsLong => f.write_str("events Long"),
-            Fault::Memory => f.write_str("memory Refused"),
-            Fault::Output => f.write_str("output Refused"),
-            Fault::Closed => f.write_str("output Closed"),
-            Fault::EventsUnwritable => f.write_str("events Unwritable"),
-            Fault::Threads => f.write_str("threads Refused"),
+            Fault::NoNode => f.write_str("the network has no such node"),
+            Fault::EventsUnreadable => f.write_str("the events cannot be read"),
+            Fault::EventsLong => f.write_str("the events are too long"),
+            Fault::Memory => f.write_str("out of memory"),
+            Fault::Output => f.write_str("standard output cannot be written"),
+            Fault::Closed => f.write_str("nobody reads standard output"),
+            Fault::EventsUnwritable => f.write_str("the file for the events cannot be written"),
+            Fault::Threads => f.write_str("a thread cannot be started"),
         }
     }
 }

@@ -140,7 +140,7 @@ not-the-kept-file : network_path (codes "run") (Some (codes "ring.toml")) ≡ co
 not-the-kept-file e = absurd cc
 
 none-kept : none_kept_line (codes "run/record.toml") said.Memory
-    ≡ codes "no network is kept in run/record.toml (memory Refused); give --network FILE"
+    ≡ codes "no network is kept in run/record.toml (out of memory); give --network FILE"
 none-kept = refl
 
 -- a file that is given is at fault if it gives no network; if none is given, none was kept

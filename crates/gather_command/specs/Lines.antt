@@ -26,8 +26,8 @@ fault_line dir (fault.NoRecord file) = file_name dir file ++ codes " is no recor
 fault_line dir (fault.OtherNetwork file) = file_name dir file ++ codes " is of another network"
 fault_line dir (fault.OtherNode file v) =
     file_name dir file ++ (codes " is the record of node " ++ decimal v)
-fault_line dir fault.Output = codes "output Refused"
-fault_line dir fault.Memory = codes "memory Refused"
+fault_line dir fault.Output = codes "standard output cannot be written"
+fault_line dir fault.Memory = codes "out of memory"
 fault_line dir fault.TooMany = codes "too many entries in " ++ dir
 
 -- where a file was not read to its end, and why

@@ -70,8 +70,8 @@ impl fmt::Display for FaultLine<'_> {
                 f.write_str(" is the record of node ")?;
                 f.write(node)
             }
-            GatherFault::Output => f.write_str("output Refused"),
-            GatherFault::Memory => f.write_str("memory Refused"),
+            GatherFault::Output => f.write_str("standard output cannot be written"),
+            GatherFault::Memory => f.write_str("out of memory"),
             GatherFault::TooMany => write!(f, "too many entries in {dir}"),
         }
     }

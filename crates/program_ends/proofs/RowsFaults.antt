@@ -5,16 +5,16 @@ use Rattle.command_faults.specs.declared.path_fault.PathFault.TheVariants.{Fault
 use Rattle.program_ends.specs.Ends.{end_status}
 use Rattle.program_ends.specs.FaultLine.{fault_line, path_fault_line}
 
-ends-node : fault_line NoNode ≡ codes "tokentree: id NoNode"
+ends-node : fault_line NoNode ≡ codes "tokentree: the network has no such node"
 ends-node = refl
 
-ends-long : fault_line EventsLong ≡ codes "tokentree: events Long"
+ends-long : fault_line EventsLong ≡ codes "tokentree: the events are too long"
 ends-long = refl
 
-ends_not-unnamed : fault_line Memory ≢ codes "memory Refused"
+ends_not-unnamed : fault_line Memory ≢ codes "out of memory"
 ends_not-unnamed = grind arith
 
-ends-path : path_fault_line (Fault Output) ≡ codes "tokentree: output Refused"
+ends-path : path_fault_line (Fault Output) ≡ codes "tokentree: standard output cannot be written"
 ends-path = refl
 
 ends_not-path : path_fault_line (Fault Output) ≢ codes "tokentree: cannot write output"

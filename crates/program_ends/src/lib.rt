@@ -3,7 +3,7 @@
 //!
 //! ```
 //! fill_standard_streams(rt);                           // before anything is opened
-//! let status = fails(rt, Fault::NoNode, 1);            // prints `tokentree: id NoNode`
+//! let status = fails(rt, Fault::NoNode, 1);            // prints `tokentree: the network has no such node`
 //! let status = fault_status(true);                     // 125: `lock` keeps 1 for its command
 //! let status = fails(rt, Fault::Closed, 1);            // prints nothing: 141
 //! let status = shows(rt, &error, false, Some("bound")); // 0 for help, 2 for a refused line

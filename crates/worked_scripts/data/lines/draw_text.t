@@ -12,7 +12,7 @@ spells no event. The two events make three moments, which share one column.
 A folder can be opened, but not read. Nothing is drawn of it.
 
   $ tokentree draw two.toml .
-  tokentree: events Unreadable
+  tokentree: the events cannot be read
   [1]
 
 If its output has too little room, it ends with a fault, and has written the front of the picture.

@@ -6,11 +6,11 @@
   $ simulated two.toml one.events
   status 0: ''
   $ simulated two.toml absent
-  status 1: 'tokentree: events Unreadable'
+  status 1: 'tokentree: the events cannot be read'
   $ simulated two.toml .
-  status 1: 'tokentree: events Unreadable'
+  status 1: 'tokentree: the events cannot be read'
   $ simulated two.toml ''
-  status 1: 'tokentree: events Unreadable'
+  status 1: 'tokentree: the events cannot be read'
   $ simulated no-net.toml absent
   status 1: 'tokentree: network NotToml'
   $ simulated absent absent
@@ -19,7 +19,7 @@
 Its output may be refused, too.
 
   $ tokentree simulate two.toml one.events 2>&1 >/dev/full | tail -n 1
-  tokentree: output Refused
+  tokentree: standard output cannot be written
 
 A number has one spelling: decimal, with no sign, no blank and no zero in front. The greatest one depends on what it is:
 it is 9 for the root of ten nodes, 65535 for an id, and 18446744073709551615 for a number of sweeps.

@@ -45,7 +45,7 @@ written all that has room.
   39
   $ in_room 38; head -c 38 events | cmp - front && wc -c <front
   tokentree: standard output: File too large (os error 27)
-  tokentree: output Refused
+  tokentree: standard output cannot be written
   status 1
   38
 

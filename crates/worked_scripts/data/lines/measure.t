@@ -38,7 +38,7 @@ the lines of --table.
 If its output is refused, it ends with that fault. If the reader of its output is gone, it ends quietly.
 
   $ tokentree measure two.toml --runs 1 2>why >/dev/full; echo "status $?: $(tail -n 1 why)"
-  status 1: tokentree: output Refused
+  status 1: tokentree: standard output cannot be written
   $ mkfifo pipe; exec 3<>pipe 4>pipe 3<&-
   $ tokentree measure two.toml --runs 1 >&4
   [141]

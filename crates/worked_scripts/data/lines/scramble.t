@@ -46,9 +46,9 @@ changes.
   $ scrambled no-net.toml 2 .
   status 1: 'tokentree: network NotToml'
   $ scrambled net.toml 2 .
-  status 1: 'tokentree: id NoNode'
+  status 1: 'tokentree: the network has no such node'
   $ scrambled net.toml 65535 .
-  status 1: 'tokentree: id NoNode'
+  status 1: 'tokentree: the network has no such node'
   $ scrambled net.toml 1 .
   status 1: 'tokentree: cannot write .'
   $ scrambled net.toml 1 ''

@@ -8,7 +8,7 @@ in_rooms() {
     shift 3
     size=$(wc -c <"$text")
     full='tokentree: standard output: File too large (os error 27)
-tokentree: output Refused
+tokentree: standard output cannot be written
 status 1'
     for most in $rooms; do
         # Without the trap a signal would end a command that writes more.
