@@ -1,7 +1,7 @@
 -- What the words of `lock` ask for.
-use Rattle.std.specs.Prelude.{◌≡◌, ◌⊎◌, ℕ, Bool, true, false, List, [], ◌∷◌, Option, Some, None, codes, string_bytes}
+use Rattle.std.specs.Prelude.{◌≡◌, ◌⊎◌, ℕ, Bool, true, false, List, [], ◌∷◌, Option, Some, None, codes, string_bytes, unwrap_or}
 use Rattle.std.specs.Option.{option_map}
-use Rattle.clap.specs.Matches.{first_value}
+use Rattle.clap.specs.Matches.{first_value, matched_of, raw_values}
 use Rattle.clap.specs.declared.parser.matches.Found.{Found}
 use Rattle.command_grammar.specs.Given.{IsFlag, IsGiven, IsRefused}
 use Rattle.lock_command.specs.declared.lock.Request.{Request}
@@ -40,6 +40,10 @@ abbrev pub guard_words : Bool → List (List ℕ)
 guard_words false = codes "lock" ∷ codes "--guard" ∷ codes "--" ∷ codes "." ∷ codes "0" ∷ []
 guard_words true = codes "lock" ∷ codes "--guard-keeping" ∷ codes "--" ∷ codes "." ∷ codes "0" ∷ []
 
+-- the command and its words; none if COMMAND is left out
+abbrev pub command_words : Found → List (List ℕ)
+command_words found = unwrap_or (option_map raw_values (matched_of found (codes "COMMAND"))) []
+
 -- the folder, the node and the time to wait; the status of a lost lock; and what the flags ask for
 abbrev pub IsRequestOf : Found → Request → Type 0
 IsRequestOf found request =
@@ -67,7 +71,7 @@ IsRequestRefused found refusal =
     IsMissing found (codes "DIR") refusal
     ⊎ (IsIdRefused found refusal ⊎ (IsWaitRefused found refusal ⊎ IsLostStatusRefused found refusal))
 
--- the request is refused, or the last word is `--`
+-- the request is refused, or the last word is `--` and no command follows
 abbrev pub IsLockRefused : Found → Bool → Refusal → Type 0
 IsLockRefused found is_dashed refusal =
-    IsRequestRefused found refusal ⊎ ((refusal ≡ NoWords) × (is_dashed ≡ true))
+    IsRequestRefused found refusal ⊎ ((refusal ≡ NoWords) × (is_dashed ≡ true) × (command_words found ≡ []))

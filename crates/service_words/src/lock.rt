@@ -6,7 +6,7 @@ ghost use Rattle.lock_words.specs.Words.{texts};
 ghost use Rattle.service_words.specs.declared.refusal.Refusal.TheVariants as refused;
 ghost use Rattle.service_words.specs.Refused.{IsIdRefused};
 ghost use Rattle.service_words.specs.LockWords.{AreWhole, IsLockRefused, IsNodeAsked, IsRequestOf};
-ghost use Rattle.service_words.specs.LockWords.{IsRequestRefused, IsWaitOf, IsWaitRefused, guard_words};
+ghost use Rattle.service_words.specs.LockWords.{IsRequestRefused, IsWaitOf, IsWaitRefused, command_words, guard_words};
 
 use crate::program::{Runtime, SOCKETS_FOLDER};
 use crate::refusal::Refusal;
@@ -222,20 +222,27 @@ pub fn run<R: Runtime>(rt: &R, given: &ArgMatches, is_dashed: bool) -> Result<Ex
     if is_keeping_guard || given.get_flag("guard") {
         return Ok(ExitCode::from(guard::run(rt, is_keeping_guard)));
     }
-    let command = given.get_strs("COMMAND").unwrap_or(&[]);
-    if is_dashed && command.is_empty() {
+    if is_dashed && command(given).is_empty() {
         return Err(Refusal::NoWords);
     }
-    Ok(ExitCode::from(lock::run(rt, &request(given, command)?)))
+    Ok(ExitCode::from(lock::run(rt, &request(given)?)))
 }
 
-/// The request that the words make, with this command.
+/// The command and its words; empty if the lock is held until the input ends.
+fn command<'a>(given: &'a ArgMatches) -> &'a [&'a str]
+    ensures { map (λ w. w.now) result.now ≡ command_words (found_of given.now) }
+{
+    given.get_strs("COMMAND").unwrap_or(&[])
+}
+
+/// The request that the words make.
 ///
 /// # Errors
 /// If a word spells no number in its range, or no time to wait.
-fn request<'a>(given: &'a ArgMatches, command: &'a [&'a str]) -> Result<Request<'a>, Refusal>
+fn request<'a>(given: &'a ArgMatches) -> Result<Request<'a>, Refusal>
     ensures ok { IfOk result (IsRequestOf (found_of given.now)) }
-    ensures command { IfOk result (λ request. request.command ≡ command.entry) }
+    ensures command { IfOk result (λ request. map (λ w. w.now) request.command.now
+        ≡ command_words (found_of given.now)) }
     ensures guard { IfOk result (λ request. map (λ w. w.now) request.guard.now
         ≡ guard_words request.keeps_running) }
     ensures err { IfErr result (IsRequestRefused (found_of given.now)) }
@@ -254,7 +261,7 @@ fn request<'a>(given: &'a ArgMatches, command: &'a [&'a str]) -> Result<Request<
         } else {
             &GUARD
         },
-        command,
+        command: command(given),
     })
 }
 

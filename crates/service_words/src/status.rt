@@ -1,7 +1,7 @@
 //! The words of `status`.
 ghost use Rattle.std.specs.Prelude.{◌≡◌, IfOk, IfErr};
 ghost use Rattle.clap.specs.Matches.{found_of};
-ghost use Rattle.service_words.specs.StatusWords.{AreIds, AreIdsRefused, IsFormOf};
+ghost use Rattle.service_words.specs.StatusWords.{AreIds, AreIdsRefused, IsAskedFor, IsFormOf};
 ghost use Rattle.service_words.specs.Interval.{interval};
 
 use crate::program::{Runtime, SOCKETS_FOLDER};
@@ -136,38 +136,56 @@ const ID: Number<'static> = Number {
 pub fn run<R: Runtime>(rt: &R, given: &ArgMatches) -> Result<ExitCode, Refusal> {
     let nodes = ids(rt.alloc(), given.get_strs("ID").unwrap_or(&[]))?;
     let folder = word(given, "DIR")?;
-    Ok(ExitCode::from(shown(rt, given, folder, nodes.as_slice())))
+    Ok(ExitCode::from(show(rt, asked(given), folder, nodes.as_slice())))
+}
+
+/// What `status` shows.
+#[derive(Clone, Copy)]
+enum Shown<'a> {
+    /// Whether each node is in its place in the network of this file, for a monitor.
+    Check(&'a str),
+    /// What nodes say of their turns, or of their links.
+    Part(Part),
+    /// The nodes repeatedly, after so many milliseconds each; none if the word spells no such time.
+    Watch(Option<u64>, Form),
+    /// The nodes once.
+    Once(Form),
 }
 
 /// Shows what the flags ask for, and returns the exit status.
-fn shown<R: Runtime>(rt: &R, given: &ArgMatches, folder: &str, nodes: &[u16]) -> u8 {
-    if let Some(file) = given.get_str("check") {
-        return check::run(rt, folder, file);
+fn show<R: Runtime>(rt: &R, shown: Shown<'_>, folder: &str, nodes: &[u16]) -> u8 {
+    match shown {
+        Shown::Check(file) => check::run(rt, folder, file),
+        Shown::Part(part) => looks::run(rt, folder, nodes, part),
+        Shown::Watch(None, _) => refused(rt, Notice::NoInterval),
+        Shown::Watch(Some(every), form) => {
+            let watch = Watch {
+                folder,
+                nodes,
+                every,
+                form,
+            };
+            watch::run(rt, &watch)
+        }
+        Shown::Once(form) => status::run(rt, folder, nodes, form),
     }
-    if given.get_flag("premises") {
-        return looks::run(rt, folder, nodes, Part::Premises);
-    }
-    if given.get_flag("links") {
-        return looks::run(rt, folder, nodes, Part::Links);
-    }
-    if given.get_flag("watch") {
-        return watched(rt, given, folder, nodes);
-    }
-    status::run(rt, folder, nodes, form(given))
 }
 
-/// Watches.
-fn watched<R: Runtime>(rt: &R, given: &ArgMatches, folder: &str, nodes: &[u16]) -> u8 {
-    let Some(every) = interval(given.get_str("every")) else {
-        return refused(rt, Notice::NoInterval);
-    };
-    let watch = Watch {
-        folder,
-        nodes,
-        every,
-        form: form(given),
-    };
-    watch::run(rt, &watch)
+/// What the flags ask for.
+fn asked<'a>(given: &ArgMatches<'a>) -> Shown<'a>
+    ensures { IsAskedFor (found_of given.now) result }
+{
+    if let Some(file) = given.get_str("check") {
+        Shown::Check(file)
+    } else if given.get_flag("premises") {
+        Shown::Part(Part::Premises)
+    } else if given.get_flag("links") {
+        Shown::Part(Part::Links)
+    } else if given.get_flag("watch") {
+        Shown::Watch(interval(given.get_str("every")), form(given))
+    } else {
+        Shown::Once(form(given))
+    }
 }
 
 /// The form in which the nodes are shown.
