@@ -4,8 +4,10 @@ use Rattle.std.specs.Fmt.{digits}
 use Rattle.process_parts.specs.declared.fault.NodeFault.TheVariants.{NoNode, LongName, Folder, Running, UpRunning, Links, Looks, System, Memory}
 use Rattle.process_parts.specs.declared.start.Stage.TheVariants.{Begun, Checked, Entered, Held, Listening}
 use Rattle.process_parts.specs.declared.rights.Rights.TheVariants.{Usual, GroupLocks}
+use Rattle.process_parts.specs.declared.fault.Said.TheVariants.{OfNode, OfNoNode}
 use Rattle.process_parts.specs.Start.{may_end}
 use Rattle.process_parts.specs.Rights.{folder_mode, own_mode, clients_mode}
+use Rattle.process_parts.specs.Said.{said_text}
 use Rattle.process_parts.specs.Texts.{refusal_text}
 
 -- a wrong id ends a start before the folder is made, and not after
@@ -68,6 +70,17 @@ refuses-up = refl
 refuses-links : refusal_text (codes "ring.toml") (codes "run") 1 Links ≡ codes "run/node-1.sock: cannot be made; choose another DIR"
 unfolding digits
 refuses-links = refl
+
+refuses-memory : refusal_text (codes "ring.toml") (codes "run") 1 Memory ≡ codes "out of memory"
+refuses-memory = refl
+
+says-node : said_text (codes "ring.toml") (codes "run") 1 OfNode ≡ codes "run/lock-1: node 1 runs there already; stop it, or choose another DIR"
+unfolding digits
+says-node = refl
+
+says_not-other : said_text (codes "ring.toml") (codes "run") 1 OfNode ≢ said_text (codes "ring.toml") (codes "run") 1 (OfNoNode 1)
+unfolding digits
+says_not-other = grind arith
 
 refuses_not-other : refusal_text (codes "ring.toml") (codes "run") 1 LongName ≢ refusal_text (codes "ring.toml") (codes "run") 1 Folder
 refuses_not-other = grind arith

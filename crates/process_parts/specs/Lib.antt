@@ -4,4 +4,5 @@ pub use Rattle.node_texts.specs as node_texts
 pub mod Rights
 pub mod Start
 pub mod Texts
+pub mod Said
 pub mod NoteText

@@ -40,7 +40,7 @@ refusal_text file dir id System =
     codes "the system has no clock, poll or process to give; try again"
 refusal_text file dir id Input =
     codes "standard input is a file or nothing; give a pipe or a terminal"
-refusal_text file dir id Memory = codes "memory Refused"
+refusal_text file dir id Memory = codes "out of memory"
 refusal_text file dir id Displaced =
     dir ++ (codes "/lock-" ++ (decimal id
     ++ codes ": is another file now, or gone; the node ends, start it again"))

@@ -2,6 +2,8 @@
 ghost use Rattle.std.specs.Prelude.{◌≡◌, ◌≢◌};
 ghost use Rattle.std.specs.declared.io.ErrorKind.TheVariants.{OutOfMemory};
 ghost use Rattle.process_parts.specs.declared.fault.NodeFault.TheVariants.{Memory, System};
+ghost use Rattle.process_parts.specs.Said.{said_text};
+ghost use Rattle.process_parts.specs.Texts.{refusal_text};
 
 use network_file::NetworkFault;
 use std::alloc::AllocError;
@@ -93,25 +95,59 @@ impl fmt::Display for Refusal<'_> {
 
     fn fmt<W: fmt::Write>(&self, f: &mut fmt::Formatter<W>) -> fmt::Result {
         let (file, dir, id) = (self.file, self.dir, self.id);
+        match self.said() {
+            Said::OfNetwork(fault) => f.write(fault),
+            Said::OfNoNode(nodes) => NoSuchNode { file, id, nodes }.fmt(f),
+            Said::OfNode => RunsAlready { dir, id }.fmt(f),
+            Said::OfFolder(said) => OfFolder(dir, said).fmt(f),
+            Said::OfFile(name, said) => OfFile(dir, name, id, said).fmt(f),
+            Said::OfSystem(said) => f.write_str(said),
+        }
+    }
+}
+
+/// What is said of a fault, by what it is said of.
+#[derive(Clone, Copy)]
+enum Said {
+    /// Of the network file.
+    OfNetwork(NetworkFault),
+    /// Of a node that the network does not have; it has this many.
+    OfNoNode(u16),
+    /// Of a node that runs already.
+    OfNode,
+    /// Of the folder, after its name.
+    OfFolder(&'static str),
+    /// Of a node's file: how its name begins, and what stands after the name.
+    OfFile(&'static str, &'static str),
+    /// Of the system, or of what it gives.
+    OfSystem(&'static str),
+}
+
+impl Refusal<'_> {
+    /// What is said of the fault.
+    fn said(&self) -> Said
+        ensures { said_text self.now.file.now self.now.dir.now self.now.id result
+            ≡ refusal_text self.now.file.now self.now.dir.now self.now.id self.now.fault }
+    {
         match self.fault {
-            NodeFault::Network(fault) => f.write(fault),
-            NodeFault::NoNode(nodes) => NoSuchNode { file, id, nodes }.fmt(f),
-            NodeFault::LongName => OfFolder(dir, LONG_NAME).fmt(f),
-            NodeFault::Folder => OfFolder(dir, NO_FOLDER).fmt(f),
-            NodeFault::RightsStay => OfFolder(dir, RIGHTS_STAY).fmt(f),
-            NodeFault::Lock => OfFile(dir, "/lock-", id, NOT_OPENED).fmt(f),
-            NodeFault::Running => RunsAlready { dir, id }.fmt(f),
-            NodeFault::UpLock => OfFolder(dir, UP_NOT_OPENED).fmt(f),
-            NodeFault::UpRunning => OfFolder(dir, UP_RUNS).fmt(f),
-            NodeFault::Links => OfFile(dir, "/node-", id, NO_SOCKET).fmt(f),
-            NodeFault::Clients => OfFile(dir, "/desk-", id, NO_SOCKET).fmt(f),
-            NodeFault::Looks => OfFile(dir, "/look-", id, NO_SOCKET).fmt(f),
-            NodeFault::System => f.write_str(NO_SYSTEM),
-            NodeFault::Input => f.write_str(NO_INPUT),
-            NodeFault::Displaced => OfFile(dir, "/lock-", id, DISPLACED).fmt(f),
-            NodeFault::StopStays => OfFile(dir, "/stop-", id, STOP_STAYS).fmt(f),
-            NodeFault::NoneStays => OfFolder(dir, NONE_STAYS).fmt(f),
-            NodeFault::Memory => f.write_str("memory Refused"),
+            NodeFault::Network(fault) => Said::OfNetwork(fault),
+            NodeFault::NoNode(nodes) => Said::OfNoNode(nodes),
+            NodeFault::LongName => Said::OfFolder(LONG_NAME),
+            NodeFault::Folder => Said::OfFolder(NO_FOLDER),
+            NodeFault::RightsStay => Said::OfFolder(RIGHTS_STAY),
+            NodeFault::Lock => Said::OfFile("/lock-", NOT_OPENED),
+            NodeFault::Running => Said::OfNode,
+            NodeFault::UpLock => Said::OfFolder(UP_NOT_OPENED),
+            NodeFault::UpRunning => Said::OfFolder(UP_RUNS),
+            NodeFault::Links => Said::OfFile("/node-", NO_SOCKET),
+            NodeFault::Clients => Said::OfFile("/desk-", NO_SOCKET),
+            NodeFault::Looks => Said::OfFile("/look-", NO_SOCKET),
+            NodeFault::System => Said::OfSystem(NO_SYSTEM),
+            NodeFault::Input => Said::OfSystem(NO_INPUT),
+            NodeFault::Displaced => Said::OfFile("/lock-", DISPLACED),
+            NodeFault::StopStays => Said::OfFile("/stop-", STOP_STAYS),
+            NodeFault::NoneStays => Said::OfFolder(NONE_STAYS),
+            NodeFault::Memory => Said::OfSystem("out of memory"),
         }
     }
 }

@@ -176,7 +176,9 @@ fn begin_sleeper<R: Processes + AllocGlobal>(rt: &R, beside: &mut Option<Child<R
 fn sleeper<R: Processes + AllocGlobal>(rt: &R) -> io::Result<Child<R::Started>> {
     let mut command = sleep_command(rt.alloc())?;
     command.stdin(Stdio::null()).stdout(Stdio::null());
-    command.spawn(rt)
+    let child = command.spawn(rt);
+    drop(command);
+    child
 }
 
 /// The command that waits.

@@ -138,7 +138,9 @@ impl NodeProgram for OwnProgram<'_> {
 fn can_hold_back<R: Processes + AllocGlobal>(rt: &R) -> io::Result<bool> {
     let mut command = held_back(rt.alloc(), Path::new("true"))?;
     command.stdout(Stdio::null()).stderr(Stdio::null());
-    Ok(command.status(rt)?.success())
+    let status = command.status(rt);
+    drop(command);
+    Ok(status?.success())
 }
 
 /// A command that starts this program, with signals held back or not.
@@ -577,7 +579,9 @@ where
 {
     let mut command = program.command(rt.alloc(), id)?;
     command.stdin(Stdio::piped());
-    command.spawn(rt)
+    let child = command.spawn(rt);
+    drop(command);
+    child
 }
 
 /// How a process ended.
