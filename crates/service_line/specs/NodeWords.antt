@@ -4,6 +4,7 @@ use Rattle.clap.specs.Matches.{first_value}
 use Rattle.clap.specs.declared.parser.matches.Found.{Found}
 use Rattle.command_grammar.specs.Given.{IsFlag, IsGiven, IsRefused}
 use Rattle.node_process.specs.declared.node.NodeWords.{NodeWords}
+use Rattle.up_process.specs.declared.UpWords.{UpWords}
 use Rattle.service_words.specs.GivenRights.{AreRightsOf}
 use Rattle.service_words.specs.LogAndRecord.{IsLogOf, IsSizeOf}
 use Rattle.service_words.specs.Manner.{IsMannerOf, IsMannerRefused, IsLimitOf, IsLimitRefused}
@@ -24,6 +25,18 @@ IsNodeOf found words =
     × IsLogOf found words.log
     × IsSizeOf found words.record_size
     × IsFlag found (codes "child") words.is_child
+
+-- the network file and the folder; the pace of the nodes, and after how long a turn is late; who may use their sockets;
+-- their logs and their records
+abbrev pub IsUpOf : Found → UpWords → Type 0
+IsUpOf found words =
+    (first_value found (codes "FILE") ≡ Some words.file.now)
+    × (first_value found (codes "DIR") ≡ Some words.dir.now)
+    × IsMannerOf found words.manner
+    × IsLimitOf found words.turn
+    × AreRightsOf found words.rights
+    × IsLogOf found words.log
+    × IsSizeOf found words.record_size
 
 -- the word of an option that `node` and `up` share spells no number, or no time, in its range
 abbrev pub IsOptionRefused : Found → Refusal → Type 0

@@ -2,7 +2,7 @@
 ghost use Rattle.std.specs.Prelude.{◌≡◌, ◌⊎◌, IfOk, IfErr};
 ghost use Rattle.std.specs.Process.{exit_status};
 ghost use Rattle.clap.specs.Matches.{found_of};
-ghost use Rattle.service_line.specs.NodeWords.{AreUpWordsRefused};
+ghost use Rattle.service_line.specs.NodeWords.{AreUpWordsRefused, IsUpOf};
 
 use clap::{ArgMatches, Command};
 use command_grammar::{Grammar, Parameter, with_command, word};
@@ -14,7 +14,7 @@ use service_words::program::{NETWORK_FILE, Runtime};
 use service_words::refusal::Refusal;
 use std::alloc::{AllocError, Global};
 use std::process::ExitCode;
-use up_process::OwnProgram;
+use up_process::{OwnProgram, UpWords};
 
 /// What `up` takes.
 const UP: Grammar<'static> = Grammar {
@@ -81,13 +81,29 @@ pub fn run<R: Runtime>(rt: &R, given: &ArgMatches) -> Result<ExitCode, Refusal>
     ensures ok { IfOk result (λ status. (exit_status status ≡ 0) ⊎ (exit_status status ≡ 1)) }
     ensures err { IfErr result (AreUpWordsRefused (found_of given.now)) }
 {
-    let file = word(given, "FILE")?;
-    let dir = word(given, "DIR")?;
-    let (manner, turn) = (manner(given)?, late_after(given)?);
-    let (log, size) = (log_level(given)?, record_size(given)?);
-    let done = match OwnProgram::new(rt, file, dir, manner, turn, rights(given), log, size) {
-        Ok(program) => up_process::run(rt, &program, file, dir),
+    let words = asked(given)?;
+    let done = match OwnProgram::new(rt, words) {
+        Ok(program) => up_process::run(rt, &program, words.file, words.dir),
         Err(fault) => Err(fault),
     };
-    Ok(ended(rt, file, dir, 0, done))
+    Ok(ended(rt, words.file, words.dir, 0, done))
+}
+
+/// What the words of `up` ask for.
+///
+/// # Errors
+/// If a word spells no number, or no time, in its range.
+fn asked<'a>(given: &ArgMatches<'a>) -> Result<UpWords<'a>, Refusal>
+    ensures ok { IfOk result (IsUpOf (found_of given.now)) }
+    ensures err { IfErr result (AreUpWordsRefused (found_of given.now)) }
+{
+    Ok(UpWords {
+        file: word(given, "FILE")?,
+        dir: word(given, "DIR")?,
+        manner: manner(given)?,
+        turn: late_after(given)?,
+        rights: rights(given),
+        log: log_level(given)?,
+        record_size: record_size(given)?,
+    })
 }

@@ -1,8 +1,9 @@
 //! The process that keeps all nodes of a network running, each as a process of its own.
 //!
 //! ```
-//! let program = OwnProgram::new(rt, "ring.toml", "run", manner, turn, rights, log, size)?;
-//! run(rt, &program, "ring.toml", "run")?;              // until it is asked to end
+//! let words = UpWords { file: "ring.toml", dir: "run", manner, turn, rights, log, record_size };
+//! let program = OwnProgram::new(rt, words)?;
+//! run(rt, &program, words.file, words.dir)?;           // until it is asked to end
 //! ```
 //!
 //! `node_keeping` decides what it does with a node that ended. Contracts know nothing of the system's
@@ -17,4 +18,4 @@ mod left;
 mod up;
 
 pub use left::LeftLine;
-pub use up::{NodeProgram, OwnProgram, run};
+pub use up::{NodeProgram, OwnProgram, UpWords, run};

@@ -58,57 +58,51 @@ pub trait NodeProgram {
     fn rights(&self) -> Rights;
 }
 
+/// What the command line of `up` says.
+#[derive(Clone, Copy)]
+pub struct UpWords<'a> {
+    /// The network file.
+    pub file: &'a str,
+    /// The folder.
+    pub dir: &'a str,
+    /// How quiet or how fast each node is.
+    pub manner: Manner,
+    /// After how many microseconds a turn is late.
+    pub turn: u64,
+    /// Who may use the folder and the nodes' sockets.
+    pub rights: Rights,
+    /// The lowest level of the nodes' logs, if they have any.
+    pub log: Option<Level>,
+    /// The size of the files of the nodes' records, if they keep any.
+    pub record_size: Option<RecordSize>,
+}
+
 /// This very program, with the command `node`.
 #[derive(Drop)]
 pub struct OwnProgram<'a> {
     program: PathBuf,
     /// Whether signals are held back from the nodes.
     holds_signals_back: bool,
-    file: &'a str,
-    dir: &'a str,
-    /// How quiet or how fast each node is.
-    manner: Manner,
-    /// After how many microseconds a turn is late.
-    turn: u64,
-    /// Who may use the folder and the nodes' sockets.
-    rights: Rights,
-    /// The lowest level of the nodes' logs, if they have any.
-    log: Option<Level>,
-    /// The size of the files of the nodes' records, if they keep any.
-    record_size: Option<RecordSize>,
+    words: UpWords<'a>,
 }
 
 impl<'a> OwnProgram<'a> {
-    /// This program, for the nodes of the network of FILE in DIR.
+    /// This program, for the nodes that these words ask for.
     ///
     /// # Errors
     /// If the system does not say which program this is.
     pub fn new<R: Env + Files + Processes + AllocGlobal>(
         rt: &R,
-        file: &'a str,
-        dir: &'a str,
-        manner: Manner,
-        turn: u64,
-        rights: Rights,
-        log: Option<Level>,
-        record_size: Option<RecordSize>,
+        words: UpWords<'a>,
     ) -> Result<OwnProgram<'a>, NodeFault>
-        ensures words { IfOk result (λ own. (own.file ≡ file.entry) × (own.dir ≡ dir.entry)
-            × (own.manner ≡ manner) × (own.turn ≡ turn) × (own.rights ≡ rights) × (own.log ≡ log)
-            × (own.record_size ≡ record_size)) }
+        ensures words { IfOk result (λ own. own.words ≡ words.entry) }
         ensures fault { IfErr result (λ fault. fault ≡ System) }
     {
         match env::current_exe(rt) {
             Ok(program) => Ok(OwnProgram {
                 program,
                 holds_signals_back: can_hold_back(rt).unwrap_or(false),
-                file,
-                dir,
-                manner,
-                turn,
-                rights,
-                log,
-                record_size,
+                words,
             }),
             Err(_) => Err(NodeFault::System),
         }
@@ -118,19 +112,12 @@ impl<'a> OwnProgram<'a> {
 impl NodeProgram for OwnProgram<'_> {
     fn command(&self, alloc: Global, id: u16) -> io::Result<Command> {
         let mut command = bare_command(alloc, &self.program, self.holds_signals_back)?;
-        let options = (
-            self.manner,
-            self.turn,
-            self.rights,
-            self.log,
-            self.record_size,
-        );
-        add_words(alloc, &mut command, options, self.file, id, self.dir)?;
+        add_words(alloc, &mut command, &self.words, id)?;
         Ok(command)
     }
 
     fn rights(&self) -> Rights {
-        self.rights
+        self.words.rights
     }
 }
 
@@ -167,24 +154,16 @@ fn add_held_back(command: &mut Command, program: Path<'_>) -> io::Result<()> {
 }
 
 /// Adds the words that make this program node `id` of the network of FILE in DIR, as a child.
-fn add_words(
-    alloc: Global,
-    command: &mut Command,
-    options: (Manner, u64, Rights, Option<Level>, Option<RecordSize>),
-    file: &str,
-    id: u16,
-    dir: &str,
-) -> io::Result<()>
+fn add_words(alloc: Global, command: &mut Command, words: &UpWords<'_>, id: u16) -> io::Result<()>
     ensures { OnOk result (command_args command.new
-        ≡ command_args command.old
-        ++ child_words options.0 options.1 options.2 options.3 options.4 file.now id dir.now) }
+        ≡ command_args command.old ++ child_words words.now.manner words.now.turn words.now.rights
+        words.now.log words.now.record_size words.now.file.now id words.now.dir.now) }
 {
-    let (manner, turn, rights, log, record_size) = options;
-    add_options(alloc, command, manner, turn)?;
-    add_rights(command, rights)?;
-    add_log(alloc, command, log)?;
-    add_record(alloc, command, record_size)?;
-    add_place(alloc, command, file, id, dir)
+    add_options(alloc, command, words.manner, words.turn)?;
+    add_rights(command, words.rights)?;
+    add_log(alloc, command, words.log)?;
+    add_record(alloc, command, words.record_size)?;
+    add_place(alloc, command, words.file, id, words.dir)
 }
 
 /// Adds the options that make this program a child node in this manner, with late turns after

@@ -6,16 +6,16 @@ use Rattle.up_process.proofs.up.add_words.Goals as goal
 
 pub returns : goal.returns
 returns c =
-    let place = codes "--" ∷ c.args.file.now ∷ decimal c.args.id ∷ c.args.dir.now ∷ [] in
-    let rights = rights_options c.args.options.2 in
-    let log = log_options c.args.options.3 in
-    let kept = record_options c.args.options.4 in
+    let place = codes "--" ∷ c.args.words.now.file.now ∷ decimal c.args.id ∷ c.args.words.now.dir.now ∷ [] in
+    let rights = rights_options c.args.words.now.rights in
+    let log = log_options c.args.words.now.log in
+    let kept = record_options c.args.words.now.record_size in
     let new = command_args c.add_place.new.command in
     let first = command_args c.add_options.new.command in
     let second = command_args c.add_rights.new.command in
     let third = command_args c.add_log.new.command in
     added c.add_place.result new first
-    (command_args c.args.command.now) (child_options c.args.options.0 c.args.options.1) (rights ++ (log ++ (kept ++ place)))
+    (command_args c.args.command.now) (child_options c.args.words.now.manner c.args.words.now.turn) (rights ++ (log ++ (kept ++ place)))
     (added c.add_place.result new second first rights (log ++ (kept ++ place))
     (added c.add_place.result new third second log (kept ++ place)
     (added c.add_place.result new (command_args c.add_record.new.command) third kept place
