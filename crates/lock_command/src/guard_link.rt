@@ -42,7 +42,9 @@ impl GuardLink {
     ) -> io::Result<GuardLink> {
         let (ours, theirs) = net::UnixStream::pair(rt)?;
         ours.set_nonblocking(true)?;
-        start_guard(rt, words, mark, OwnedFd::from(theirs), desk)?;
+        let mut command = Command::new(rt.alloc(), ENV)?;
+        command.stdin(OwnedFd::from(theirs)).stdout(desk);
+        start_guard(rt, &mut command, words, mark)?;
         Ok(GuardLink {
             stream: UnixStream::from_std(ours),
         })
@@ -74,22 +76,8 @@ fn is_end(answer: &io::Result<usize>) -> bool
     }
 }
 
-/// Starts this program as a guard, with these words, for the command with this mark. The guard
-/// reads what the client says, and holds the desk's connection.
+/// Starts a guard by this command: this program, with these words, for the command with this mark.
 fn start_guard<R: Files + Processes + AllocGlobal>(
-    rt: &R,
-    words: &[&str],
-    mark: &str,
-    client: OwnedFd,
-    desk: OwnedFd,
-) -> io::Result<()> {
-    let mut command = Command::new(rt.alloc(), ENV)?;
-    command.stdin(client).stdout(desk);
-    spawn_guard(rt, &mut command, words, mark)
-}
-
-/// Gives a guard's command its words and its variable, and spawns it.
-fn spawn_guard<R: Files + Processes + AllocGlobal>(
     rt: &R,
     command: &mut Command,
     words: &[&str],
