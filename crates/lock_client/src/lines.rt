@@ -80,14 +80,21 @@ impl LineReading<8> for Answers {
 fn known(line: &[u8]) -> Answer
     ensures { result ≡ answer_line line.now }
 {
-    match line {
-        b"granted" => Answer::Granted,
-        b"lost" => Answer::Lost,
-        b"released" => Answer::Released,
-        b"full" => Answer::Full,
-        b"twice" => Answer::Twice,
-        b"stranger" => Answer::Stranger,
-        b"unknown" => Answer::Unknown,
-        _ => Answer::Other,
+    if line == b"granted".as_slice() {
+        Answer::Granted
+    } else if line == b"lost".as_slice() {
+        Answer::Lost
+    } else if line == b"released".as_slice() {
+        Answer::Released
+    } else if line == b"full".as_slice() {
+        Answer::Full
+    } else if line == b"twice".as_slice() {
+        Answer::Twice
+    } else if line == b"stranger".as_slice() {
+        Answer::Stranger
+    } else if line == b"unknown".as_slice() {
+        Answer::Unknown
+    } else {
+        Answer::Other
     }
 }

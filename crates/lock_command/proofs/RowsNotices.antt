@@ -67,8 +67,11 @@ granted : notice_line (notice.Granted 0) ≡ codes "tokentree: node 0 granted th
 unfolding digits
 granted = refl
 
-refused : notice_line notice.Memory ≡ codes "tokentree: memory Refused"
-refused = refl
+no-memory : notice_line notice.Memory ≡ codes "tokentree: out of memory"
+no-memory = refl
+
+no-output : notice_line notice.Output ≡ codes "tokentree: standard output cannot be written"
+no-output = refl
 
 lines_not-same : notice_text (notice.Granted 0) ≢ notice_text (notice.Released 0)
 unfolding digits

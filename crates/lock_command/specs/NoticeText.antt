@@ -66,8 +66,8 @@ notice_text (NoCommand name) = codes "there is no command " ++ name.now
 notice_text (CannotRun name) = name.now ++ codes " cannot be run"
 notice_text UnknownEnd = codes "the system does not say how the command ended"
 notice_text System = codes "the system has no descriptor, poll or clock to give; try again"
-notice_text Memory = codes "memory Refused"
-notice_text Output = codes "output Refused"
+notice_text Memory = codes "out of memory"
+notice_text Output = codes "standard output cannot be written"
 
 -- the line, which begins with the program's name
 abbrev pub notice_line : Notice → List ℕ

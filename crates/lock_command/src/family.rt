@@ -83,13 +83,23 @@ pub fn send<R: Processes + AllocGlobal>(rt: &R, signal: &str, to: &[u32]) -> io:
         return Ok(());
     }
     let mut command = shell(rt.alloc())?;
-    command.args([
+    kill_by(rt, &mut command, signal, to)
+}
+
+/// Has this shell send a signal to processes, and waits until it has.
+fn kill_by<R: Processes + AllocGlobal>(
+    rt: &R,
+    shell: &mut Command,
+    signal: &str,
+    to: &[u32],
+) -> io::Result<()> {
+    shell.args([
         "-c",
         "for process; do kill -s \"$0\" \"$process\"; done",
         signal,
     ])?;
-    add_numbers(&mut command, rt.alloc(), to)?;
-    command.status(rt)?;
+    add_numbers(shell, rt.alloc(), to)?;
+    shell.status(rt)?;
     Ok(())
 }
 

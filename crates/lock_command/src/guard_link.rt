@@ -42,10 +42,9 @@ impl GuardLink {
     ) -> io::Result<GuardLink> {
         let (ours, theirs) = net::UnixStream::pair(rt)?;
         ours.set_nonblocking(true)?;
-        let mut command = guard_command(rt, words)?;
-        command.env(GUARDED, mark.strip_suffix(";").unwrap_or(mark))?;
+        let mut command = Command::new(rt.alloc(), ENV)?;
         command.stdin(OwnedFd::from(theirs)).stdout(desk);
-        command.spawn(rt)?;
+        start_guard(rt, &mut command, words, mark)?;
         Ok(GuardLink {
             stream: UnixStream::from_std(ours),
         })
@@ -77,12 +76,24 @@ fn is_end(answer: &io::Result<usize>) -> bool
     }
 }
 
-/// The command that starts a guard.
-fn guard_command<R: Files + AllocGlobal>(rt: &R, words: &[&str]) -> io::Result<Command> {
-    let program = env::current_exe(rt)?;
-    let mut command = Command::new(rt.alloc(), ENV)?;
+/// Starts a guard by this command: this program, with these words, for the command with this mark.
+fn start_guard<R: Files + Processes + AllocGlobal>(
+    rt: &R,
+    command: &mut Command,
+    words: &[&str],
+    mark: &str,
+) -> io::Result<()> {
     command.arg(HOLD_SIGNALS_BACK)?;
-    command.arg(program.as_path())?;
+    add_this_program(rt, command)?;
     command.args(words.iter().copied())?;
-    Ok(command)
+    command.env(GUARDED, mark.strip_suffix(";").unwrap_or(mark))?;
+    command.spawn(rt)?;
+    Ok(())
+}
+
+/// Adds the path of this program as a word.
+fn add_this_program<R: Files + AllocGlobal>(rt: &R, command: &mut Command) -> io::Result<()> {
+    let program = env::current_exe(rt)?;
+    command.arg(program.as_path())?;
+    Ok(())
 }

@@ -128,13 +128,9 @@ impl<'a, P: OpenProcess + Drop> Session<'a, P> {
         let Ok(mark) = new_mark(rt) else {
             return Err(Notice::Memory);
         };
-        let waiter = match Waiter::new(rt, rt.alloc(), desk.stream()) {
-            Ok(waiter) => waiter,
-            Err(error) => return Err(why_no_wait(error.kind())),
-        };
-        let has_failed = desk.write(ClientLine::Lock).is_err();
+        let waiter = waiter_for(rt, &mut desk)?;
         let mut session = Session::waiting(request, node, desk, stopwatch, mark, waiter);
-        session.has_failed = has_failed;
+        session.write_line(ClientLine::Lock);
         session.holds_signals_back = state_now(rt).blocked.any();
         Ok(session)
     }
@@ -375,6 +371,7 @@ impl<'a, P: OpenProcess + Drop> Session<'a, P> {
 
     /// Writes a line to the node.
     fn write_line(&mut self, line: ClientLine)
+        ensures node { self.new.node ≡ self.old.node }
         ensures work { self.new.work ≡ self.old.work }
         ensures course { self.new.course ≡ self.old.course }
     {
@@ -581,6 +578,16 @@ impl<'a, P: OpenProcess + Drop> Session<'a, P> {
         let age = self.course.age(self.work.is_running());
         let left = self.course.left(self.work.is_family());
         self.waiter.wait(rest(age, left, self.holds_signals_back));
+    }
+}
+
+/// What waits for the lines of this desk.
+fn waiter_for<'a, R: Net + AllocGlobal>(rt: &R, desk: &mut Desk) -> Result<Waiter, Notice<'a>>
+    ensures { IfErr result IsUnbegun }
+{
+    match Waiter::new(rt, rt.alloc(), desk.stream()) {
+        Ok(waiter) => Ok(waiter),
+        Err(error) => Err(why_no_wait(error.kind())),
     }
 }
 
