@@ -19,8 +19,8 @@ notice_text (OtherNetwork file folder node) =
 notice_text (NoNetwork file fault) = file.now ++ (codes ": " ++ network_fault_text fault)
 notice_text NoInterval = codes "--every is no time from 0.1 to 3600 seconds, with at most 3 decimals"
 notice_text System = codes "the system has no descriptor, poll or clock to give; try again"
-notice_text Memory = codes "memory Refused"
-notice_text Output = codes "output Refused"
+notice_text Memory = codes "out of memory"
+notice_text Output = codes "standard output cannot be written"
 notice_text Closed = codes "output Closed"
 
 -- the line, which begins with the program's name

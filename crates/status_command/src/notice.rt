@@ -81,8 +81,8 @@ impl fmt::Display for Notice<'_> {
             Notice::System => {
                 f.write_str("the system has no descriptor, poll or clock to give; try again")
             }
-            Notice::Memory => f.write_str("memory Refused"),
-            Notice::Output => f.write_str("output Refused"),
+            Notice::Memory => f.write_str("out of memory"),
+            Notice::Output => f.write_str("standard output cannot be written"),
             Notice::Closed => f.write_str("output Closed"),
         }
     }
