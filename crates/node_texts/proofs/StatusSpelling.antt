@@ -7,7 +7,7 @@ use Rattle.std.specs.Str.{bytes_eq}
 use Rattle.std.specs.Fmt.{decimal}
 use Rattle.std.specs.List.{join_with_byte}
 use Rattle.std.proofs.lemmas.Slice.Eq.{bytes_eq-Decides}
-use Rattle.line_words.specs.Words.{Word, words, reads, ends}
+use Rattle.line_words.specs.Words.{Word, words, first_word, other_words, reads, ends}
 use Rattle.line_words.specs.Numbers.{number, number_or_none, yes_or_no}
 use Rattle.line_words.specs.Laws.{NumbersHaveOneSpelling, WordsMakeTheLine}
 use Rattle.node_texts.specs.declared.status_line.StatusLine.{StatusLine}
@@ -48,7 +48,8 @@ module _ {X Y : Type 0} (read : Word → Option X) (spell : X → Word) (one : (
       → Type 0) (w : Word) (ws : List Word) (y : Y)
       → ((x : X) (rest : List Word) → others x rest ≡ Some y → P (name ∷ spell x ∷ rest))
       → (b : Bool) → bytes_eq w name ≡ b
-      → ◌≡◌ {A = Option Y} (if b then reads read others ws else None) (Some y) → P (w ∷ ws)
+      → option_and_then (λ x. others x (other_words ws)) (if b then option_and_then read (first_word ws) else None)
+      ≡ Some y → P (w ∷ ws)
   by-name name others P w ws y goes true is e = rw (is-word w name is) (step others (λ ws. P (name
       ∷ ws)) ws y goes e)
   by-name name others P w ws y goes false is e = absurd (cc)

@@ -4,16 +4,15 @@ use Rattle.node_texts.specs.declared.lines.End.{End}
 use Rattle.node_texts.specs.declared.lines.End.TheVariants.{Status, Signal, Unknown, Unstarted}
 
 -- how a node's process ended, and what becomes of it
+abbrev pub end_text : End → List ℕ
+end_text (Status status) = codes " ended with status " ++ (decimal status ++ codes ", and is started again")
+end_text (Signal signal) = codes " was ended by signal " ++ (decimal signal ++ codes ", and is started again")
+end_text Unknown = codes " ended, and is started again"
+end_text Unstarted = codes " cannot be started; it is tried again"
+
+-- the same of a node
 abbrev pub end_line : ℕ → End → List ℕ
-end_line id (Status status) =
-    codes "node " ++ (decimal id ++ (codes " ended with status " ++ (decimal status
-    ++ codes ", and is started again")))
-end_line id (Signal signal) =
-    codes "node " ++ (decimal id ++ (codes " was ended by signal " ++ (decimal signal
-    ++ codes ", and is started again")))
-end_line id Unknown = codes "node " ++ (decimal id ++ codes " ended, and is started again")
-end_line id Unstarted =
-    codes "node " ++ (decimal id ++ codes " cannot be started; it is tried again")
+end_line id end = codes "node " ++ (decimal id ++ end_text end)
 
 -- the line that says that a network's capacity is less than what may be under way on a link
 abbrev pub capacity_line : ℕ → List ℕ

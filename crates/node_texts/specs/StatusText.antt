@@ -2,7 +2,8 @@
 use Rattle.std.specs.Prelude.{ℕ, Bool, true, false, if◌then◌else◌, List, [], ◌∷◌, ◌++◌, length}
 use Rattle.std.specs.Prelude.{nat_lt, Option, Some, None, codes, decimal}
 use Rattle.std.specs.Str.{bytes_eq}
-use Rattle.line_words.specs.Words.{Word, words, other_words, reads, ends}
+use Rattle.std.specs.Option.{option_and_then}
+use Rattle.line_words.specs.Words.{Word, words, first_word, other_words, ends}
 use Rattle.line_words.specs.Numbers.{number, number_or_none, yes_or_no}
 use Rattle.node_texts.specs.declared.status_line.StatusLine.{StatusLine}
 
@@ -30,11 +31,16 @@ abbrev pub first_is : Word → List Word → Bool
 first_is name [] = false
 first_is name (word ∷ words) = bytes_eq word name
 
+-- the next word is a name, and the word after it says this
+abbrev pub value_after : {X : Type 0} → Word → (Word → Option X) → List Word → Option X
+value_after name read words =
+    if first_is name words then option_and_then read (first_word (other_words words)) else None
+
 -- the next word is a field's name; the word after it is read, and the others with what it says
 abbrev pub field : {X Y : Type 0} → Word → (Word → Option X) → (X → List Word → Option Y)
     → List Word → Option Y
-field name read others words = if first_is name words then reads read others
-    (other_words words) else None
+field name read others words =
+    option_and_then (λ x. others x (other_words (other_words words))) (value_after name read words)
 
 -- what the words of a status line say
 abbrev pub status_of : List Word → Option StatusLine

@@ -27,7 +27,7 @@ impl fmt::Display for CapacityLine {
     }
 }
 
-/// How a node's process ended.
+/// How a node's process ended. Printed, it is what follows the node in the line that says so.
 #[derive(Clone, Copy)]
 pub enum End {
     /// With this status.
@@ -56,22 +56,26 @@ impl fmt::Display for EndLine {
     ghost output = { λ line. Some (end_line line.id line.end) };
 
     fn fmt<W: fmt::Write>(&self, f: &mut fmt::Formatter<W>) -> fmt::Result {
-        let id = self.id;
-        match self.end {
+        write!(f, "node {}{}", self.id, self.end)
+    }
+}
+
+impl fmt::Display for End {
+    ghost use Rattle.std.specs.Prelude.{Some};
+    ghost use Rattle.node_texts.specs.LineText.{end_text};
+
+    ghost output = { λ end. Some (end_text end) };
+
+    fn fmt<W: fmt::Write>(&self, f: &mut fmt::Formatter<W>) -> fmt::Result {
+        match *self {
             End::Status(status) => {
-                write!(
-                    f,
-                    "node {id} ended with status {status}, and is started again"
-                )
+                write!(f, " ended with status {status}, and is started again")
             }
             End::Signal(signal) => {
-                write!(
-                    f,
-                    "node {id} was ended by signal {signal}, and is started again"
-                )
+                write!(f, " was ended by signal {signal}, and is started again")
             }
-            End::Unknown => write!(f, "node {id} ended, and is started again"),
-            End::Unstarted => write!(f, "node {id} cannot be started; it is tried again"),
+            End::Unknown => f.write_str(" ended, and is started again"),
+            End::Unstarted => f.write_str(" cannot be started; it is tried again"),
         }
     }
 }

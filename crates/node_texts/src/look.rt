@@ -138,13 +138,13 @@ impl fmt::Display for StatusPart {
     ghost output = { λ status. Some (status_part status.0) };
 
     fn fmt<W: fmt::Write>(&self, f: &mut fmt::Formatter<W>) -> fmt::Result {
-        let token = if self.0.token { "true" } else { "false" };
         write!(
             f,
-            "\"node\":{},\"distance\":{},\"parent\":{},\"token\":{token},\"lent\":{},\"waiting\":{}",
+            "\"node\":{},\"distance\":{},\"parent\":{},\"token\":{},\"lent\":{},\"waiting\":{}",
             self.0.node,
             self.0.distance,
             OrNull(self.0.parent.map(u64::from)),
+            self.0.token,
             OrNull(self.0.lent.map(u64::from)),
             self.0.waiting
         )

@@ -43,8 +43,7 @@ impl fmt::Display for LinkPart {
     ghost output = { λ link. Some (link_text link) };
 
     fn fmt<W: fmt::Write>(&self, f: &mut fmt::Formatter<W>) -> fmt::Result {
-        let (node, since, breaks) = (self.node, self.since, self.breaks);
-        let up = if self.is_up { "true" } else { "false" };
+        let (node, up, since, breaks) = (self.node, self.is_up, self.since, self.breaks);
         write!(
             f,
             "{{\"node\":{node},\"up\":{up},\"for_us\":{since},\"breaks\":{breaks}}}"

@@ -1,7 +1,8 @@
 //! The line by which a node says how it stands.
 ghost use Rattle.std.specs.Prelude.{◌≡◌, is_some, OnSome};
+ghost use Rattle.line_words.specs.Numbers.{number, number_or_none, yes_or_no};
 ghost use Rattle.line_words.specs.Words.{other_words};
-ghost use Rattle.node_texts.specs.StatusText.{line_status, first_is, short_line_status};
+ghost use Rattle.node_texts.specs.StatusText.{line_status, first_is, value_after, short_line_status};
 
 use byte_lines::LineReading;
 use line_words::Words;
@@ -35,18 +36,12 @@ impl StatusLine {
         ensures { result ≡ line_status line.now }
     {
         let mut words = Words::of(line);
-        expect(&mut words, b"node")?;
-        let node = words.number()?;
-        expect(&mut words, b"distance")?;
-        let distance = words.number()?;
-        expect(&mut words, b"parent")?;
-        let parent = words.number_or_none()?;
-        expect(&mut words, b"token")?;
-        let token = words.yes_or_no()?;
-        expect(&mut words, b"lent")?;
-        let lent = words.number_or_none()?;
-        expect(&mut words, b"waiting")?;
-        let waiting = words.number()?;
+        let node = number_after(&mut words, b"node")?;
+        let distance = number_after(&mut words, b"distance")?;
+        let parent = number_or_none_after(&mut words, b"parent")?;
+        let token = yes_or_no_after(&mut words, b"token")?;
+        let lent = number_or_none_after(&mut words, b"lent")?;
+        let waiting = number_after(&mut words, b"waiting")?;
         words.end(StatusLine {
             node,
             distance,
@@ -56,6 +51,33 @@ impl StatusLine {
             waiting,
         })
     }
+}
+
+/// Takes a name and the number after it; none if the next words are not these.
+fn number_after(words: &mut Words, name: &[u8]) -> Option<u16>
+    ensures value { result ≡ value_after name.now number words.old }
+    ensures rest { OnSome result (words.new ≡ other_words (other_words words.old)) }
+{
+    expect(words, name)?;
+    words.number()
+}
+
+/// Takes a name and the number, or `none`, after it; none if the next words are not these.
+fn number_or_none_after(words: &mut Words, name: &[u8]) -> Option<Option<u16>>
+    ensures value { result ≡ value_after name.now number_or_none words.old }
+    ensures rest { OnSome result (words.new ≡ other_words (other_words words.old)) }
+{
+    expect(words, name)?;
+    words.number_or_none()
+}
+
+/// Takes a name and the `yes` or `no` after it; none if the next words are not these.
+fn yes_or_no_after(words: &mut Words, name: &[u8]) -> Option<bool>
+    ensures value { result ≡ value_after name.now yes_or_no words.old }
+    ensures rest { OnSome result (words.new ≡ other_words (other_words words.old)) }
+{
+    expect(words, name)?;
+    words.yes_or_no()
 }
 
 /// Takes the next word if it is this one; none if it is another one, or there is none.

@@ -7,6 +7,7 @@ use Rattle.status_command.specs.declared.screen.Screen.TheVariants.{Blocks, Line
 use Rattle.status_command.specs.Asking.{question_path, AreWordsOf, is_answered, line_or_empty, nodes_of}
 use Rattle.std.specs.declared.io.ErrorKind.TheVariants as kind
 use Rattle.status_command.specs.declared.notice.Notice.TheVariants.{Output, Closed, Memory}
+use Rattle.status_command.specs.NoticeText.{notice_line}
 use Rattle.status_command.specs.Reasons.{notice_status, why_not_written, IsEnd}
 use Rattle.status_command.specs.Shown.{after_block, is_in_place, minute_after}
 
@@ -77,6 +78,12 @@ unwritten-memory = refl
 
 unwritten_not-full : why_not_written kind.StorageFull ≡ Closed → ⊥
 unwritten_not-full e = absurd cc
+
+says-memory : notice_line Memory ≡ codes "tokentree: out of memory"
+says-memory = refl
+
+says-output : notice_line Output ≡ codes "tokentree: standard output cannot be written"
+says-output = refl
 
 status-gone : notice_status Closed ≡ 141
 status-gone = refl

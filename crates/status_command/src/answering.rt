@@ -2,7 +2,7 @@
 ghost use Rattle.std.specs.Prelude.{◌≡◌, ◌==◌, IfOk, take};
 ghost use Rattle.std.specs.List.{position};
 ghost use Rattle.std.specs.Option.{option_map};
-ghost use Rattle.status_command.specs.Answering.{first_line, line_said, status_in, answer_in};
+ghost use Rattle.status_command.specs.Answering.{first_line, line_said, own_line, status_in, answer_in};
 ghost use Rattle.status_command.specs.Asking.{answers_in};
 
 use crate::asking::Asked;
@@ -39,10 +39,14 @@ pub fn answer(node: u16, came: &[u8]) -> NodeAnswer
 fn status_in(node: u16, came: &[u8]) -> Option<StatusLine>
     ensures { result ≡ status_in node came.now }
 {
-    match line_said(first_line(came)?) {
-        Some(said) if said.node == node => Some(said),
-        _ => None,
-    }
+    own_line(node, line_said(first_line(came)?)?)
+}
+
+/// A node's line, if it is about this node.
+pub fn own_line(node: u16, line: StatusLine) -> Option<StatusLine>
+    ensures { result ≡ own_line node line }
+{
+    if line.node == node { Some(line) } else { None }
 }
 
 /// What a line says, if it is a status line.

@@ -1,5 +1,5 @@
 //! Asking nodes for a line, all at once.
-ghost use Rattle.std.specs.Prelude.{◌≡◌, ◌%◌, ◌==◌, IfOk, ◌++◌, OnOk};
+ghost use Rattle.std.specs.Prelude.{◌≡◌, ◌≤◌, ◌%◌, ◌==◌, IfOk, IfSome, ◌++◌, OnOk, length};
 ghost use Rattle.status_command.specs.Asking.{nodes_in, is_answered};
 ghost use Rattle.status_command.specs.Windows.{is_without_room};
 
@@ -63,11 +63,26 @@ pub fn ask_all<R: Net + Clock>(
     ensures { IfOk result (λ all. nodes_in all.items ≡ nodes.now) }
 {
     let mut all = Vec::new(alloc);
+    ask_each(rt, alloc, question, folder, nodes, &mut all)?;
+    wait_for_all(rt, all.as_mut_slice(), looks)?;
+    Ok(all)
+}
+
+/// Asks these nodes, and adds them in their order.
+fn ask_each<R: Net>(
+    rt: &R,
+    alloc: Global,
+    question: Question,
+    folder: &str,
+    nodes: &[u16],
+    all: &mut Vec<Asked>,
+) -> io::Result<()>
+    ensures { OnOk result (nodes_in all.new.items ≡ nodes_in all.old.items ++ nodes.now) }
+{
     for node in nodes {
         all.push(ask(rt, alloc, question, folder, *node)?)?;
     }
-    wait_for_all(rt, all.as_mut_slice(), looks)?;
-    Ok(all)
+    Ok(())
 }
 
 /// Waits until no line is missing, for at most this many looks.
@@ -181,13 +196,10 @@ impl Asked {
         let Contact::Open(stream) = &mut self.contact else {
             return Ok(matches!(self.contact, Contact::Closed));
         };
-        match stream.read(&mut piece) {
-            Ok(0) => self.contact = Contact::Closed,
-            Ok(count) => self.take(&piece[..count.min(PIECE)])?,
-            Err(error) => match error.kind() {
-                ErrorKind::WouldBlock | ErrorKind::Interrupted => {}
-                _ => self.contact = Contact::Closed,
-            },
+        match bytes_read(stream, &mut piece) {
+            Some(0) => self.contact = Contact::Closed,
+            Some(count) => self.take(&piece[..count])?,
+            None => {}
         }
         Ok(!matches!(self.contact, Contact::Done))
     }
@@ -202,6 +214,19 @@ impl Asked {
             self.contact = Contact::Done;
         }
         Ok(())
+    }
+}
+
+/// How many bytes were read; 0 if the connection was closed or broke. None if nothing has come since.
+fn bytes_read(stream: &mut UnixStream, piece: &mut [u8]) -> Option<usize>
+    ensures { IfSome result (λ count. count ≤ length piece.old) }
+{
+    match stream.read(piece) {
+        Ok(count) => Some(count.min(piece.len())),
+        Err(error) => match error.kind() {
+            ErrorKind::WouldBlock | ErrorKind::Interrupted => None,
+            _ => Some(0),
+        },
     }
 }
 

@@ -62,11 +62,15 @@ pub fn why_no_nodes<'a>(kind: ErrorKind, folder: &'a str) -> Notice<'a>
 pub fn was_never<R: Files + AllocGlobal>(rt: &R, folder: &str, node: u16) -> bool {
     match NodePaths::new(rt.alloc(), folder, node) {
         Ok(paths) => {
-            matches!(fs::exists(rt, paths.clients.as_str()), Ok(false))
-                && matches!(fs::exists(rt, paths.state.as_str()), Ok(false))
+            is_missing(rt, paths.clients.as_str()) && is_missing(rt, paths.state.as_str())
         }
         Err(_) => false,
     }
+}
+
+/// Whether the system says that there is no such file.
+fn is_missing<R: Files>(rt: &R, path: &str) -> bool {
+    matches!(fs::exists(rt, path), Ok(false))
 }
 
 /// The first of these nodes that a network of `count` nodes does not have.

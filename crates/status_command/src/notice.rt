@@ -55,25 +55,13 @@ impl fmt::Display for Notice<'_> {
 
     fn fmt<W: fmt::Write>(&self, f: &mut fmt::Formatter<W>) -> fmt::Result {
         match *self {
-            Notice::NoFolder(folder) => write!(f, "there is no folder {folder}"),
-            Notice::Forbidden(folder) => {
-                write!(f, "this user may not use the sockets in {folder}")
-            }
+            Notice::NoFolder(folder) => OfFolder(NO_FOLDER, folder).fmt(f),
+            Notice::Forbidden(folder) => OfFolder(FORBIDDEN, folder).fmt(f),
             Notice::NoSockets(folder) => {
                 write!(f, "no node has a socket in {folder}: start one there")
             }
-            Notice::NeverWas { folder, node } => {
-                write!(
-                    f,
-                    "node {node} never ran in {folder}, which has neither a socket nor a state of it"
-                )
-            }
-            Notice::OtherNetwork { file, folder, node } => {
-                write!(
-                    f,
-                    "{folder} has a node {node}, which the network of {file} has not"
-                )
-            }
+            Notice::NeverWas { folder, node } => NeverRan { folder, node }.fmt(f),
+            Notice::OtherNetwork { file, folder, node } => Foreign { file, folder, node }.fmt(f),
             Notice::NoNetwork { file, fault } => write!(f, "{file}: {fault}"),
             Notice::NoInterval => f.write_str(
                 "--every is no time from 0.1 to 3600 seconds, with at most 3 decimals",
@@ -81,10 +69,74 @@ impl fmt::Display for Notice<'_> {
             Notice::System => {
                 f.write_str("the system has no descriptor, poll or clock to give; try again")
             }
-            Notice::Memory => f.write_str("memory Refused"),
-            Notice::Output => f.write_str("output Refused"),
+            Notice::Memory => f.write_str("out of memory"),
+            Notice::Output => f.write_str("standard output cannot be written"),
             Notice::Closed => f.write_str("output Closed"),
         }
+    }
+}
+
+// What is said of a folder before its name.
+const NO_FOLDER: &str = "there is no folder ";
+
+const FORBIDDEN: &str = "this user may not use the sockets in ";
+
+/// What is said of a folder, and its name.
+#[derive(Drop)]
+struct OfFolder<'a>(&'static str, &'a str);
+
+impl fmt::Display for OfFolder<'_> {
+    ghost use Rattle.std.specs.Prelude.{Some, ◌++◌};
+
+    ghost output = { λ words. Some (words.0.now ++ words.1.now) };
+
+    fn fmt<W: fmt::Write>(&self, f: &mut fmt::Formatter<W>) -> fmt::Result {
+        write!(f, "{}{}", self.0, self.1)
+    }
+}
+
+/// Says that a node never ran in a folder.
+#[derive(Drop)]
+struct NeverRan<'a> {
+    folder: &'a str,
+    node: u16,
+}
+
+impl fmt::Display for NeverRan<'_> {
+    ghost use Rattle.std.specs.Prelude.{Some};
+    ghost use Rattle.status_command.specs.NoticeText.{never_ran_text};
+
+    ghost output = { λ n. Some (never_ran_text n.folder.now n.node) };
+
+    fn fmt<W: fmt::Write>(&self, f: &mut fmt::Formatter<W>) -> fmt::Result {
+        let (folder, node) = (self.folder, self.node);
+        write!(
+            f,
+            "node {node} never ran in {folder}, which has neither a socket nor a state of it"
+        )
+    }
+}
+
+/// Says that a folder has a node that is not in the file's network.
+#[derive(Drop)]
+struct Foreign<'a> {
+    file: &'a str,
+    folder: &'a str,
+    node: u16,
+}
+
+impl fmt::Display for Foreign<'_> {
+    ghost use Rattle.std.specs.Prelude.{Some};
+    ghost use Rattle.status_command.specs.NoticeText.{foreign_text};
+
+    ghost output = { λ n. Some (foreign_text n.file.now n.folder.now n.node) };
+
+    fn fmt<W: fmt::Write>(&self, f: &mut fmt::Formatter<W>) -> fmt::Result {
+        let (file, folder, node) = (self.file, self.folder, self.node);
+        write!(
+            f,
+            "{folder} has a node {node}, which the network of {file} has not"
+        )
     }
 }
 

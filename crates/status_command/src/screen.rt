@@ -134,15 +134,20 @@ fn stty<R: Processes>(rt: &R, alloc: Global, words: &[&str]) -> Option<String> {
 
 /// The same as bytes.
 fn stty_output<R: Processes>(rt: &R, alloc: Global, words: &[&str]) -> io::Result<Vec<u8>> {
-    let mut command = Command::new(alloc, "stty")?;
-    command.args(words.iter().copied())?;
-    command.stdin(Stdio::inherit()).stderr(Stdio::null());
-    let output = command.output(rt)?;
+    let output = stty_command(alloc, words)?.output(rt)?;
     if output.status.success() {
         Ok(output.stdout)
     } else {
         Err(io::Error::from(io::ErrorKind::Other))
     }
+}
+
+/// The command `stty` with these words, for the terminal on standard input.
+fn stty_command(alloc: Global, words: &[&str]) -> io::Result<Command> {
+    let mut command = Command::new(alloc, "stty")?;
+    command.args(words.iter().copied())?;
+    command.stdin(Stdio::inherit()).stderr(Stdio::null());
+    Ok(command)
 }
 
 /// A block written over the one before: from the top left, with each line, and all below the

@@ -4,7 +4,7 @@ ghost use Rattle.status_command.specs.Windows.{is_without_room, without_room, ow
 ghost use Rattle.status_command.specs.Asking.{nodes_in, nodes_of, answers_in};
 ghost use Rattle.status_command.specs.Windows.{filled_one, filled};
 
-use crate::answering::answers;
+use crate::answering::{answers, own_line};
 use crate::asking::Asked;
 use crate::looks::line_of;
 use node_texts::{NodeAnswer, StatusLine};
@@ -100,7 +100,7 @@ fn own_standing(alloc: Global, asked: &Asked) -> Result<Option<StatusLine>, Allo
     ensures { IfOk result (λ said. said ≡ own_standing asked.now) }
 {
     match read_standing(alloc, line_of(asked))? {
-        Some(said) if said.node == asked.node => Ok(Some(said)),
-        _ => Ok(None),
+        Some(said) => Ok(own_line(asked.node, said)),
+        None => Ok(None),
     }
 }

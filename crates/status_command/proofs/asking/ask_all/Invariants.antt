@@ -1,7 +1,0 @@
-use Rattle.std.proofs.Common.{◌≡◌, take}
-use Rattle.status_command.specs.Asking.{nodes_in}
-use Rattle.status_command.proofs.asking.ask_all.Given as goal
-
--- the nodes up to this one were asked
-abbrev pub invariant-loop-node : goal.invariant-loop-node
-invariant-loop-node g l = nodes_in l.all.items ≡ take l.node-index l.nodes
