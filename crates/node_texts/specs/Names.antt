@@ -16,20 +16,6 @@ AreNamed dir id paths =
     × (string_bytes paths.stop ≡ file_name dir (codes "stop-") id (codes ""))
     × (string_bytes paths.lock ≡ file_name dir (codes "lock-") id (codes ""))
 
--- the names of its sockets
-abbrev pub AreSockets : List ℕ → ℕ → List ℕ → List ℕ → List ℕ → Type 0
-AreSockets dir id links clients looks =
-    (links ≡ file_name dir (codes "node-") id (codes ".sock"))
-    × (clients ≡ file_name dir (codes "desk-") id (codes ".sock"))
-    × (looks ≡ file_name dir (codes "look-") id (codes ".sock"))
-
--- the names of the other files
-abbrev pub AreFiles : List ℕ → ℕ → List ℕ → List ℕ → List ℕ → Type 0
-AreFiles dir id state stop lock =
-    (state ≡ file_name dir (codes "state-") id (codes ".tkt"))
-    × (stop ≡ file_name dir (codes "stop-") id (codes ""))
-    × (lock ≡ file_name dir (codes "lock-") id (codes ""))
-
 -- a socket's name that no other of the network is longer than: that of the node of the greatest id
 abbrev pub longest_socket_name : List ℕ → ℕ → List ℕ
 longest_socket_name dir nodes = file_name dir (codes "node-") (nodes - 1) (codes ".sock")

@@ -6,7 +6,6 @@ ghost use Rattle.node_texts.specs.DeskFile.{desk_path, desk_name, look_path};
 
 use line_words::number;
 use std::alloc::{AllocError, Global};
-use std::fs::DirEntry;
 use std::rt::Files;
 use std::{fs, io};
 
@@ -54,21 +53,13 @@ pub fn nodes_in<R: Files + AllocGlobal>(rt: &R, folder: &str) -> io::Result<Vec<
 /// Adds the nodes of the sockets in a folder.
 fn add_nodes<R: Files + AllocGlobal>(rt: &R, folder: &str, nodes: &mut Vec<u16>) -> io::Result<()> {
     for entry in fs::read_dir(&rt, folder)? {
-        add_node(entry, nodes)?;
-    }
-    Ok(())
-}
-
-/// Adds the node of a socket in a folder. A name that is no text is not a desk's.
-fn add_node<R: Files + Drop>(
-    entry: io::Result<DirEntry<R>>,
-    nodes: &mut Vec<u16>,
-) -> Result<(), AllocError> {
-    let Ok(entry) = entry else {
-        return Ok(());
-    };
-    if let Some(node) = node_of(entry.file_name().as_bytes()) {
-        nodes.push(node)?;
+        // A name that is no text is not a desk's.
+        let Ok(entry) = entry else {
+            continue;
+        };
+        if let Some(node) = node_of(entry.file_name().as_bytes()) {
+            nodes.push(node)?;
+        }
     }
     Ok(())
 }

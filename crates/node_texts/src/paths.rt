@@ -1,6 +1,6 @@
 //! The names of a node's files.
 ghost use Rattle.std.specs.Prelude.{◌≡◌, IfOk, string_bytes, codes, length};
-ghost use Rattle.node_texts.specs.Names.{AreNamed, AreSockets, AreFiles, file_name, longest_socket_name};
+ghost use Rattle.node_texts.specs.Names.{AreNamed, file_name, longest_socket_name};
 
 use std::alloc::{AllocError, Global};
 
@@ -32,41 +32,15 @@ impl NodePaths {
     pub fn new(alloc: Global, dir: &str, id: u16) -> Result<NodePaths, AllocError>
         ensures { IfOk result (AreNamed dir.now id) }
     {
-        let (links, clients, looks) = sockets(alloc, dir, id)?;
-        let (state, stop, lock) = files(alloc, dir, id)?;
         Ok(NodePaths {
-            state,
-            links,
-            clients,
-            looks,
-            stop,
-            lock,
+            state: file_name(alloc, dir, "state-", id, ".tkt")?,
+            links: links_name(alloc, dir, id)?,
+            clients: file_name(alloc, dir, "desk-", id, ".sock")?,
+            looks: file_name(alloc, dir, "look-", id, ".sock")?,
+            stop: file_name(alloc, dir, "stop-", id, "")?,
+            lock: file_name(alloc, dir, "lock-", id, "")?,
         })
     }
-}
-
-/// The names of a node's sockets: for its neighbours, for clients, and for whoever looks.
-fn sockets(alloc: Global, dir: &str, id: u16) -> Result<(String, String, String), AllocError>
-    ensures { IfOk result (λ names. AreSockets dir.now id (string_bytes names.0)
-        (string_bytes names.1) (string_bytes names.2)) }
-{
-    Ok((
-        links_name(alloc, dir, id)?,
-        file_name(alloc, dir, "desk-", id, ".sock")?,
-        file_name(alloc, dir, "look-", id, ".sock")?,
-    ))
-}
-
-/// The names of a node's files: of its state, the one that ends it, and the one that it holds locked.
-fn files(alloc: Global, dir: &str, id: u16) -> Result<(String, String, String), AllocError>
-    ensures { IfOk result (λ names. AreFiles dir.now id (string_bytes names.0)
-        (string_bytes names.1) (string_bytes names.2)) }
-{
-    Ok((
-        file_name(alloc, dir, "state-", id, ".tkt")?,
-        file_name(alloc, dir, "stop-", id, "")?,
-        file_name(alloc, dir, "lock-", id, "")?,
-    ))
 }
 
 /// The name of the socket at which node `id` is connected to.

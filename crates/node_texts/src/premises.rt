@@ -1,7 +1,7 @@
 //! What a node's line for whoever looks says of its turns, and what `status --premises` prints of it.
 ghost use Rattle.std.specs.Prelude.{◌≡◌, ◌++◌, IfOk, OnOk, codes, string_bytes};
 ghost use Rattle.serde_json.specs.View.{view};
-ghost use Rattle.node_texts.specs.PremisesText.{member_number, members_said, turns_said, line_said};
+ghost use Rattle.node_texts.specs.PremisesText.{member_number, turns_said, line_said};
 ghost use Rattle.node_texts.specs.PremisesText.{premises_line, premises_text};
 
 use serde_json::Value;
@@ -43,13 +43,7 @@ impl TurnsSaid {
 fn turns_said(value: &Value) -> Option<TurnsSaid>
     ensures { result ≡ turns_said (view value.now) }
 {
-    members_said(value.get("turns")?)
-}
-
-/// What the member `turns` of a node's line says.
-fn members_said(turns: &Value) -> Option<TurnsSaid>
-    ensures { result ≡ members_said (view turns.now) }
-{
+    let turns = value.get("turns")?;
     Some(TurnsSaid {
         count: member_number(turns, "count")?,
         longest: member_number(turns, "longest_us")?,

@@ -53,22 +53,13 @@ fn checked<'a, R: std::net::Net + Files + Clock + AllocGlobal>(
     folder: &'a str,
     file: &'a str,
 ) -> Result<CheckLine, Notice<'a>> {
-    match read_network(rt, file) {
-        Ok(net) => checked_net(rt, folder, file, &net),
-        Err(fault) => Err(Notice::NoNetwork { file, fault }),
-    }
-}
-
-/// What is found of the network that the file gives.
-fn checked_net<'a, R: std::net::Net + Files + Clock + AllocGlobal>(
-    rt: &R,
-    folder: &'a str,
-    file: &'a str,
-    net: &Net,
-) -> Result<CheckLine, Notice<'a>> {
-    see_folder(rt, folder, file, net)?;
-    match nodes_of(rt.alloc(), net) {
-        Ok(nodes) => judged(rt, folder, net, nodes.as_slice()),
+    let net = match read_network(rt, file) {
+        Ok(net) => net,
+        Err(fault) => return Err(Notice::NoNetwork { file, fault }),
+    };
+    see_folder(rt, folder, file, &net)?;
+    match nodes_of(rt.alloc(), &net) {
+        Ok(nodes) => judged(rt, folder, &net, nodes.as_slice()),
         Err(_) => Err(Notice::Memory),
     }
 }
