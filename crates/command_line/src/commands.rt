@@ -1,10 +1,12 @@
 //! What each command line does.
 use crate::{cut, draw, gather, junk, measure, schedule, scramble, simulate, threads, worst};
 use clap::{ArgMatches, Command};
+use client_words::{lock, status, stop};
 use command_grammar::{Program, parser};
-use service_line::program::{ABOUT, NAME, Runtime, VERSION};
-use service_line::refusal::Refusal;
-use service_line::{bound, ends, is_of_service, lock, matches_of, network, node, status, stop, up};
+use network_words::program::{ABOUT, NAME, Runtime, VERSION};
+use network_words::refusal::Refusal;
+use network_words::{bound, ends, is_of_service, matches_of, network};
+use process_line::{node, up};
 use std::alloc::{AllocError, Global};
 use std::convert::AsStr;
 use std::process::ExitCode;
@@ -37,7 +39,7 @@ some lines of its events.";
 /// Shows progress if standard error is a terminal.
 pub fn run_words<R: Runtime, S: AsStr>(rt: &R, words: &[S], on_terminal: bool) -> ExitCode {
     if is_of_service(words) {
-        return service_line::run_words(rt, words);
+        return run_part(rt, words);
     }
     let matches = match matches_of(rt, words, program_parser(rt.alloc())) {
         Ok(matches) => matches,
@@ -45,6 +47,25 @@ pub fn run_words<R: Runtime, S: AsStr>(rt: &R, words: &[S], on_terminal: bool) -
     };
     let done = act(rt, &matches, on_terminal);
     ends(rt, done, &matches, false)
+}
+
+/// Does what a line says if a part of the program has its command.
+fn run_part<R: Runtime, S: AsStr>(rt: &R, words: &[S]) -> ExitCode {
+    match words {
+        [_, name, ..] if is_of_networks(name.as_str()) => network_words::run_words(rt, words),
+        [_, name, ..] if is_of_nodes(name.as_str()) => process_line::run_words(rt, words),
+        _ => client_words::run_words(rt, words),
+    }
+}
+
+/// Whether a command is one for networks.
+fn is_of_networks(name: &str) -> bool {
+    name == "bound" || name == "network"
+}
+
+/// Whether a command runs nodes.
+fn is_of_nodes(name: &str) -> bool {
+    name == "node" || name == "up"
 }
 
 /// Does what the words of a command say, and returns the exit status.

@@ -1,9 +1,9 @@
 //! The words of `cut`.
 use clap::{ArgMatches, Command};
+use client_words::stop::warn_of_runner;
 use command_grammar::{Grammar, Number, Parameter, given_number, with_command, word};
-use service_line::program::Runtime;
-use service_line::refusal::{Refusal, ended};
-use service_line::stop::warn_of_runner;
+use network_words::program::Runtime;
+use network_words::refusal::{Refusal, ended};
 use std::alloc::{AllocError, Global};
 use std::process::ExitCode;
 use subcommands::cut;

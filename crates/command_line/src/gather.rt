@@ -7,7 +7,7 @@ ghost use Rattle.command_line.specs.Gather.{IsStretchOf, IsStretchRefused};
 use clap::{ArgMatches, Command};
 use command_grammar::{Grammar, Number, Parameter, WordFault, number_if_given, with_command, word};
 use gather_command::{Stretch, command};
-use service_line::refusal::Refusal;
+use network_words::refusal::Refusal;
 use std::alloc::{AllocError, Global};
 use std::process::ExitCode;
 use std::rt::Files;

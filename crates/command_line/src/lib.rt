@@ -1,5 +1,6 @@
 //! The command lines of `tokentree`: what each command takes, its help, and what it does with its
-//! words. Each command has a file here, or in `service_line` if it serves a lock.
+//! words. Each command has a file here, or, if it serves a lock, in
+//! `network_words`, `client_words` or `process_words`.
 //!
 //! ```
 //! let status = run_words(rt, &["tokentree", "bound", "two-nodes.toml"], false); // prints, status 0
@@ -26,5 +27,5 @@ mod threads;
 mod worst;
 
 pub use commands::run_words;
-pub use service_line::program::Runtime;
-pub use service_line::{fill_standard_streams, own_words};
+pub use network_words::program::Runtime;
+pub use network_words::{fill_standard_streams, own_words};

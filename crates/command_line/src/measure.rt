@@ -12,8 +12,8 @@ use clap::{ArgMatches, Command};
 use command_grammar::{
     Grammar, Number, Parameter, given_number, number_if_given, with_command, word,
 };
-use service_line::program::NETWORK_FILE;
-use service_line::refusal::{Refusal, ScheduleFault, ended};
+use network_words::program::NETWORK_FILE;
+use network_words::refusal::{Refusal, ScheduleFault, ended};
 use std::alloc::{AllocError, Global};
 use std::process::ExitCode;
 use std::rt::Files;

@@ -10,8 +10,8 @@ use command_grammar::{
     Choice, Grammar, Number, Parameter, WordFault, given_number, number_if_given, with_command,
     word,
 };
-use service_line::program::NETWORK_FILE;
-use service_line::refusal::Refusal;
+use network_words::program::NETWORK_FILE;
+use network_words::refusal::Refusal;
 use std::alloc::{AllocError, Global};
 use std::process::ExitCode;
 use std::rt::Files;

@@ -1,10 +1,10 @@
 //! The words of `scramble`.
 use clap::{ArgMatches, Command};
+use client_words::stop::warn_of_runner;
 use command_grammar::{Grammar, Number, Parameter, given_number, with_command, word};
 use fault_hints::explain_id;
-use service_line::program::{NETWORK_FILE, Runtime};
-use service_line::refusal::{Refusal, ended};
-use service_line::stop::warn_of_runner;
+use network_words::program::{NETWORK_FILE, Runtime};
+use network_words::refusal::{Refusal, ended};
 use std::alloc::{AllocError, Global};
 use std::process::ExitCode;
 use subcommands::{Fault, PathFault, scramble};

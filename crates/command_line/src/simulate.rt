@@ -4,8 +4,8 @@ ghost use Rattle.std.specs.Process.{exit_status};
 
 use clap::{ArgMatches, Command};
 use command_grammar::{Grammar, Parameter, with_command, word};
-use service_line::program::{EVENTS_TEXT, NETWORK_FILE};
-use service_line::refusal::Refusal;
+use network_words::program::{EVENTS_TEXT, NETWORK_FILE};
+use network_words::refusal::Refusal;
 use std::alloc::{AllocError, Global};
 use std::io::Input;
 use std::process::ExitCode;

@@ -5,8 +5,8 @@ ghost use Rattle.std.specs.Process.{exit_status};
 use clap::{ArgMatches, Command};
 use command_grammar::{Grammar, Number, Parameter, given_number, with_command, word};
 use live_commands::threads;
-use service_line::program::{NETWORK_FILE, Runtime};
-use service_line::refusal::Refusal;
+use network_words::program::{NETWORK_FILE, Runtime};
+use network_words::refusal::Refusal;
 use std::alloc::{AllocError, Global};
 use std::process::ExitCode;
 

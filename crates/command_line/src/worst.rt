@@ -8,8 +8,8 @@ use clap::{ArgMatches, Command};
 use command_grammar::{
     Grammar, Number, Parameter, WordFault, given_number, number_if_given, with_command, word,
 };
-use service_line::program::{NETWORK_FILE, Runtime};
-use service_line::refusal::Refusal;
+use network_words::program::{NETWORK_FILE, Runtime};
+use network_words::refusal::Refusal;
 use std::alloc::{AllocError, Global};
 use std::process::ExitCode;
 use subcommands::worst::{self, Extent, Plan};

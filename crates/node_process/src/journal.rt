@@ -3,11 +3,11 @@ ghost use Rattle.std.specs.Prelude.{◌≡◌, None};
 ghost use Rattle.node_core.specs.View.{site_in, state_of};
 ghost use Rattle.node_process.specs.Places.{is_in_place};
 
-use crate::node::NodeWords;
 use node_core::Node;
 use node_log::{Event, LogLine, NodeLog, TurnSight};
 use node_loop::{Doors, NodeRun, Turned};
 use node_state_file::Store;
+use record_files::process_parts::NodeWords;
 use std::env;
 use std::rt::Env;
 use topology::Net;

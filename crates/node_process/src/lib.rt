@@ -30,6 +30,7 @@ mod observer;
 mod tape;
 mod window;
 
-pub use node::NodeWords;
-pub use record_files::process_parts::{NodeFault, RecordSize, Refusal, Rights, USUAL_SIZE};
+pub use record_files::process_parts::{
+    NodeFault, NodeWords, RecordSize, Refusal, Rights, USUAL_SIZE,
+};
 pub use turn_watch::USUAL_LIMIT;

@@ -15,13 +15,11 @@ use crate::window::Window;
 use held_signals::state_now;
 use look_window::{COMERS, is_let_in, show};
 use network_news::{FileNews, found_in, news_line};
-use node_log::Level;
 use node_loop::NodeRun;
 use node_state_file::{FileStore, start};
-use pace::Manner;
 use record_files::process_parts::{
-    AfterSave, Listeners, NetworkFault, NodeFault, NodePaths, Note, NoteLine, Place, RecordSize,
-    Rights, Sights, Stage, StopSight, addresses_of, after_save, check_names, fault_of, hold_place,
+    AfterSave, Listeners, NetworkFault, NodeFault, NodePaths, NodeWords, Note, NoteLine, Place,
+    Sights, Stage, StopSight, addresses_of, after_save, check_names, fault_of, hold_place,
     looks_for_stop, make_folder, make_sockets, read_network, remove, set_mode, warn_of_capacity,
 };
 use std::alloc::Global;
@@ -33,31 +31,6 @@ use std::os::unix::net::SocketAddr;
 use std::rt::{Clock, Env, Files};
 use topology::Net;
 use unix_doors::{Stopwatch, UnixDoors, tell_ready};
-
-/// What the command line says.
-#[derive(Clone, Copy)]
-pub struct NodeWords<'a> {
-    /// The network file.
-    pub file: &'a str,
-    /// The node.
-    pub id: u16,
-    /// The folder.
-    pub dir: &'a str,
-    /// How quiet or how fast the node is.
-    pub manner: Manner,
-    /// After how many microseconds a turn is late.
-    pub turn: u64,
-    /// The version of the program, in letters, digits and dots.
-    pub version: &'a str,
-    /// Who may use its folder and its sockets.
-    pub rights: Rights,
-    /// The lowest level of its log, if it has one.
-    pub log: Option<Level>,
-    /// The size of its record's files, if it keeps a record.
-    pub record_size: Option<RecordSize>,
-    /// Whether `up` started it: then its lines begin with its name, and it ends with its input.
-    pub is_child: bool,
-}
 
 /// A node that runs over sockets and a file.
 pub type Run<'a, R> = NodeRun<UnixDoors<'a, R>, FileStore<'a, R>>;

@@ -2,13 +2,12 @@
 ghost use Rattle.std.specs.Prelude.{◌≡◌, None, IfOk};
 
 use crate::journal::Journal;
-use crate::node::NodeWords;
 use crate::tape::Tape;
 use crate::window::Window;
 use node_log::Event;
 use node_loop::{Doors, NodeRun, Notes};
 use node_state_file::Store;
-use record_files::process_parts::NodeFault;
+use record_files::process_parts::{NodeFault, NodeWords};
 use std::fs::File;
 use std::rt::{Clock, Env, Files};
 use unix_doors::Stopwatch;

@@ -12,11 +12,10 @@ ghost use Rattle.node_process.specs.Noted.{is_linked, is_seen_up, link_changes, 
 ghost use Rattle.node_process.specs.Noted.{RecordsTurn};
 ghost use Rattle.record_files.specs.Files.{file_bytes, AreFirstPages};
 
-use crate::node::NodeWords;
 use node_loop::{Doors, NodeRun, Notes};
 use node_state_file::Store;
 use record_files::node_recorder::{Deed, NodeRecorder, is_quiet, network_mark};
-use record_files::process_parts::{NodeFault, RecordSize};
+use record_files::process_parts::{NodeFault, NodeWords, RecordSize};
 use record_files::{
     KeepWords, NotKept, RecordFiles, RecordNames, first_pages, keep_network, micros_now,
 };

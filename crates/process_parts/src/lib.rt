@@ -1,6 +1,6 @@
-//! What the processes of a network share, those of its nodes and the one that keeps these running: why
-//! they do not run, the folder and a place in it, in which order they start, and who may use what they
-//! make.
+//! What the processes of a network share, those of its nodes and the one that keeps these running: what their
+//! command lines say, why they do not run, the folder and a place in it, in which order they start, and who
+//! may use what they make.
 //!
 //! ```
 //! let mut stage = Stage::Checked;
@@ -23,6 +23,7 @@ mod note;
 mod record_size;
 mod rights;
 mod start;
+mod words;
 
 pub use capacity::warn_of_capacity;
 pub use fault::{NodeFault, Refusal, fault_of};
@@ -41,3 +42,4 @@ pub use record_size::{RecordSize, USUAL_SIZE};
 pub use rights::Rights;
 pub use start::Stage;
 pub use unix_ends::{InputSight, Listeners, read_input, watch_input};
+pub use words::{NodeWords, UpWords};

@@ -18,4 +18,5 @@ mod left;
 mod up;
 
 pub use left::LeftLine;
-pub use up::{NodeProgram, OwnProgram, UpWords, run};
+pub use process_parts::UpWords;
+pub use up::{NodeProgram, OwnProgram, run};

@@ -24,7 +24,7 @@ use node_log::Level;
 use pace::Manner;
 use process_parts::{
     Deed, End, EndLine, Keeper, NodeFault, Place, RecordSize, Rights, Seen, Stage, UpCourse,
-    check_names, fault_of, hold_place, make_folder, read_network, warn_of_capacity,
+    UpWords, check_names, fault_of, hold_place, make_folder, read_network, warn_of_capacity,
 };
 use std::alloc::{AllocError, Global};
 use std::fmt::Display;
@@ -56,25 +56,6 @@ pub trait NodeProgram {
 
     /// Who may use the folder and the nodes' sockets.
     fn rights(&self) -> Rights;
-}
-
-/// What the command line of `up` says.
-#[derive(Clone, Copy)]
-pub struct UpWords<'a> {
-    /// The network file.
-    pub file: &'a str,
-    /// The folder.
-    pub dir: &'a str,
-    /// How quiet or how fast each node is.
-    pub manner: Manner,
-    /// After how many microseconds a turn is late.
-    pub turn: u64,
-    /// Who may use the folder and the nodes' sockets.
-    pub rights: Rights,
-    /// The lowest level of the nodes' logs, if they have any.
-    pub log: Option<Level>,
-    /// The size of the files of the nodes' records, if they keep any.
-    pub record_size: Option<RecordSize>,
 }
 
 /// This very program, with the command `node`.

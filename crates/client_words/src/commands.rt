@@ -1,0 +1,76 @@
+//! What the lines of `lock`, `status` and `stop` do.
+use crate::lock::Surroundings;
+use crate::{lock, status, stop};
+use clap::{ArgMatches, Command};
+use command_grammar::{Program, parser};
+use network_words::program::{ABOUT, NAME, Runtime, VERSION};
+use network_words::refusal::{self, Refusal};
+use network_words::{asks_for_lock, asks_for_version, ends, matches_of, say_version};
+use std::alloc::{AllocError, Global};
+use std::convert::AsStr;
+use std::process::ExitCode;
+
+/// The part of the program that has these commands.
+const PART: Program<'static> = Program {
+    name: NAME,
+    about: ABOUT,
+    help: HELP,
+    version: VERSION,
+};
+
+/// What follows the commands in its help.
+const HELP: &str = "\
+Examples:
+  tokentree lock run any -- sleep 5
+  tokentree status run
+  tokentree stop run 1
+
+This is the part of tokentree that asks running nodes. Other parts run them, and
+know networks; the whole program also simulates, measures and draws.";
+
+/// Does what the words say, after the first, the program's name, and returns the exit status. A line
+/// of `lock` may leave out words that variables of the environment stand in for.
+pub fn run_words<R: Runtime, S: AsStr>(rt: &R, words: &[S]) -> ExitCode {
+    if asks_for_version(words) {
+        return say_version(rt);
+    }
+    if !asks_for_lock(words) {
+        return run_whole(rt, words);
+    }
+    let surroundings = Surroundings::of(rt);
+    match surroundings.whole_words(rt.alloc(), words) {
+        Ok(whole) => run_whole(rt, whole.as_slice()),
+        Err(refusal) => refusal::status(rt, Err(refusal), true, None),
+    }
+}
+
+/// The same, once it is known that no word is lost.
+fn run_whole<R: Runtime, S: AsStr>(rt: &R, words: &[S]) -> ExitCode {
+    let matches = match matches_of(rt, words, part_parser(rt.alloc())) {
+        Ok(matches) => matches,
+        Err(status) => return status,
+    };
+    let is_dashed = words.last().is_some_and(|word| word.as_str() == "--");
+    let done = act(rt, &matches, is_dashed);
+    ends(rt, done, &matches, asks_for_lock(words))
+}
+
+/// The parser of these commands.
+fn part_parser<'a>(alloc: Global) -> Result<Command<'a>, AllocError> {
+    let parser = parser(alloc, &PART);
+    let parser = lock::add_to(parser, alloc)?;
+    let parser = status::add_to(parser, alloc)?;
+    stop::add_to(parser, alloc)
+}
+
+/// Does what the words of a command say, and returns the exit status. It knows whether the last
+/// word is `--`.
+fn act<R: Runtime>(rt: &R, matches: &ArgMatches, is_dashed: bool) -> Result<ExitCode, Refusal> {
+    let (name, given) = matches.subcommand().ok_or(Refusal::NoCommand)?;
+    match name {
+        "lock" => lock::run(rt, given, is_dashed),
+        "status" => status::run(rt, given),
+        "stop" => stop::run(rt, given),
+        _ => Err(Refusal::NoCommand),
+    }
+}

@@ -1,0 +1,66 @@
+//! The words of `stop`.
+use crate::status::ids;
+use clap::{ArgMatches, Command};
+use command_grammar::{Grammar, Number, Parameter, given_number, with_command, word};
+use network_words::program::{Runtime, SOCKETS_FOLDER};
+use network_words::refusal::Refusal;
+pub use node_stopping::warn_of_runner;
+use std::alloc::{AllocError, Global};
+use std::process::ExitCode;
+
+/// What `stop` takes.
+const STOP: Grammar<'static> = Grammar {
+    name: "stop",
+    about: "Ends nodes that run as processes, and waits until they have ended",
+    help: HELP,
+    parameters: &[
+        Parameter::ValueOr(
+            "timeout",
+            "SECONDS",
+            "10",
+            "How long to wait for each, 0 to 65535",
+        ),
+        Parameter::Place("DIR", SOCKETS_FOLDER),
+        Parameter::Places(
+            "ID",
+            "The nodes, by their ids; none for each with a socket in DIR",
+        ),
+    ],
+    needs: &[],
+    excludes: &[],
+    choice: None,
+};
+
+/// Adds the command to the program's parser.
+pub fn add_to<'a>(parser: Command<'a>, alloc: Global) -> Result<Command<'a>, AllocError> {
+    with_command(parser, alloc, &STOP)
+}
+
+/// What follows the options in its help.
+const HELP: &str = "\
+Makes the file DIR/stop-ID for each node, as `help node` says, and waits until
+the node has saved its state and ended:
+
+  $ tokentree stop run 1
+  node 1 has ended
+
+Such a stop is no damage. To stop nodes that `up` keeps running, end `up`.
+
+Statuses: 0 each node ran, and has ended; 1 one did not run or has not ended in
+time, and a line on standard error says why; 2 invalid arguments.";
+
+/// How many seconds `stop` waits for a node.
+const TIMEOUT: Number<'static> = Number {
+    id: "timeout",
+    name: "--timeout",
+    least: 0,
+    most: 65_535,
+};
+
+/// Does what the words of `stop` say.
+pub fn run<R: Runtime>(rt: &R, given: &ArgMatches) -> Result<ExitCode, Refusal> {
+    let seconds = given_number(given, TIMEOUT)? as u16;
+    let nodes = ids(rt.alloc(), given.get_strs("ID").unwrap_or(&[]))?;
+    let status = node_stopping::run(rt, word(given, "DIR")?, nodes.as_slice(), seconds);
+    Ok(ExitCode::from(status))
+}

@@ -1,0 +1,55 @@
+//! What the lines of `bound` and `network` do.
+use crate::line::{asks_for_version, ends, matches_of, say_version};
+use crate::program::{ABOUT, NAME, Runtime, VERSION};
+use crate::refusal::Refusal;
+use crate::{bound, network};
+use clap::{ArgMatches, Command};
+use command_grammar::{Program, parser};
+use std::alloc::{AllocError, Global};
+use std::convert::AsStr;
+use std::process::ExitCode;
+
+/// The part of the program that has these commands.
+const PART: Program<'static> = Program {
+    name: NAME,
+    about: ABOUT,
+    help: HELP,
+    version: VERSION,
+};
+
+/// What follows the commands in its help.
+const HELP: &str = "\
+Examples:
+  tokentree network ring 3 --capacity 64 > ring.toml
+  tokentree bound ring.toml
+
+This is the part of tokentree that knows networks. Other parts run nodes, and ask
+them; the whole program also simulates, measures and draws.";
+
+/// Does what the words say, after the first, the program's name, and returns the exit status.
+pub fn run_words<R: Runtime, S: AsStr>(rt: &R, words: &[S]) -> ExitCode {
+    if asks_for_version(words) {
+        return say_version(rt);
+    }
+    match matches_of(rt, words, part_parser(rt.alloc())) {
+        Ok(matches) => ends(rt, act(rt, &matches), &matches, false),
+        Err(status) => status,
+    }
+}
+
+/// The parser of these commands.
+fn part_parser<'a>(alloc: Global) -> Result<Command<'a>, AllocError> {
+    let parser = parser(alloc, &PART);
+    let parser = bound::add_to(parser, alloc)?;
+    network::add_to(parser, alloc)
+}
+
+/// Does what the words of a command say, and returns the exit status.
+fn act<R: Runtime>(rt: &R, matches: &ArgMatches) -> Result<ExitCode, Refusal> {
+    let (name, given) = matches.subcommand().ok_or(Refusal::NoCommand)?;
+    match name {
+        "bound" => bound::run(rt, given),
+        "network" => network::run(rt, given),
+        _ => Err(Refusal::NoCommand),
+    }
+}

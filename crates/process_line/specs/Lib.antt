@@ -1,0 +1,1 @@
+pub use Rattle.process_words.specs as process_words

@@ -1,0 +1,26 @@
+//! What `node` does with its words.
+ghost use Rattle.std.specs.Prelude.{◌≡◌, ◌⊎◌, IfOk, IfErr};
+ghost use Rattle.std.specs.Process.{exit_status};
+ghost use Rattle.clap.specs.Matches.{found_of};
+ghost use Rattle.process_words.specs.NodeWords.{AreNodeWordsRefused};
+
+use clap::ArgMatches;
+use network_words::program::Runtime;
+use network_words::refusal::Refusal;
+pub use process_words::node::add_to;
+use process_words::node::asked;
+use process_words::options::ended;
+use std::process::ExitCode;
+
+/// Does what the words of `node` say.
+///
+/// # Errors
+/// If a word spells no number, or no time, in its range.
+pub fn run<R: Runtime>(rt: &R, given: &ArgMatches) -> Result<ExitCode, Refusal>
+    ensures ok { IfOk result (λ status. (exit_status status ≡ 0) ⊎ (exit_status status ≡ 1)) }
+    ensures err { IfErr result (AreNodeWordsRefused (found_of given.now)) }
+{
+    let words = asked(given)?;
+    let done = node_process::node::run(rt, &words);
+    Ok(ended(rt, words.file, words.dir, words.id, done))
+}

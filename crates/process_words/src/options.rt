@@ -1,0 +1,179 @@
+//! What `node` and `up` share: options, and how they end.
+ghost use Rattle.std.specs.Prelude.{◌≡◌, IfOk, IfErr, if◌then◌else◌, is_ok, codes};
+ghost use Rattle.std.specs.Process.{exit_status};
+ghost use Rattle.clap.specs.Matches.{found_of};
+ghost use Rattle.command_grammar.specs.Given.{IsRefused};
+ghost use Rattle.process_words.specs.GivenRights.{AreRightsOf};
+ghost use Rattle.process_words.specs.LogAndRecord.{IsLogOf, IsSizeOf};
+ghost use Rattle.process_words.specs.Manner.{IsMannerOf, IsMannerRefused};
+ghost use Rattle.process_words.specs.Manner.{IsLimitOf, IsLimitRefused};
+
+use clap::ArgMatches;
+use command_grammar::{Number, WordFault, number_if_given};
+use fault_hints::{explain_network, explain_swap};
+use node_log::Level;
+use pace::Manner;
+use process_parts::{NodeFault, RecordSize, Refusal, Rights, USUAL_SIZE};
+use recovery_times::{TimeFault, micros_of};
+use std::process::ExitCode;
+use std::rt::Files;
+use turn_watch::USUAL_LIMIT;
+
+/// The help of the folder of a network.
+pub const FOLDER: &str = "The folder of the network's files and sockets";
+
+/// How long a node holds quiet news, in microseconds.
+pub const HOLD: Number<'static> = Number {
+    id: "hold",
+    name: "--hold",
+    least: 0,
+    most: 2_000,
+};
+
+/// Its help.
+pub const HOLD_HELP: &str = "How long quiet news waits, 0-2000 [default: 2000]";
+
+/// After how many microseconds a frame is repeated.
+pub const REPEAT: Number<'static> = Number {
+    id: "repeat",
+    name: "--repeat",
+    least: 0,
+    most: 100_000,
+};
+
+/// Its help.
+pub const REPEAT_HELP: &str = "When to repeat a frame, 0-100000 [default: 8000]";
+
+/// The help of the time after which a turn is late.
+pub const TURN_HELP: &str = "When a turn counts as late [default: 2.2]";
+
+/// The lowest level of a node's log, by the numbers of syslog.
+pub const LOG: Number<'static> = Number {
+    id: "log",
+    name: "--log",
+    least: 4,
+    most: 6,
+};
+
+/// Its help.
+pub const LOG_HELP: &str = "Log 4 what is wrong, 5 links too, 6 grants too";
+
+/// The level of the log, by the words of `node` or `up`; none if they set none.
+///
+/// # Errors
+/// If a word spells no number from 4 to 6.
+pub fn log_level(given: &ArgMatches) -> Result<Option<Level>, WordFault<'static>>
+    ensures ok { IfOk result (IsLogOf (found_of given.now)) }
+    ensures err { IfErr result (IsRefused (found_of given.now) (codes "log") 4 6) }
+{
+    match number_if_given(given, LOG)? {
+        Some(priority) => Ok(Level::of_priority(priority)),
+        None => Ok(None),
+    }
+}
+
+/// The help of `--record`.
+pub const RECORD_HELP: &str = "Keep a record of what the node does";
+
+/// The size of each of the two files of a record, in bytes.
+pub const RECORD_SIZE: Number<'static> = Number {
+    id: "record-size",
+    name: "--record-size",
+    least: 65_536,
+    most: 1_073_741_824,
+};
+
+/// Its help.
+pub const RECORD_SIZE_HELP: &str = "Bytes in each of its files [default: 8388608]";
+
+/// The size of the files of a node's record, by the words of `node` or `up`; none if they ask for no
+/// record.
+///
+/// # Errors
+/// If a word spells no number from 65536 to 1073741824.
+pub fn record_size(given: &ArgMatches) -> Result<Option<RecordSize>, WordFault<'static>>
+    ensures ok { IfOk result (IsSizeOf (found_of given.now)) }
+    ensures err { IfErr result (IsRefused (found_of given.now) (codes "record-size") 65536 1073741824) }
+{
+    let size = match number_if_given(given, RECORD_SIZE)? {
+        Some(bytes) => RecordSize { bytes },
+        None => USUAL_SIZE,
+    };
+    Ok(given.get_flag("record").then_some(size))
+}
+
+/// The help of `--group-locks`.
+pub const GROUP_HELP: &str = "Let the group take the lock, and do nothing else";
+
+/// Who may use the folder and the sockets, by the words of `node` or `up`.
+pub fn rights(given: &ArgMatches) -> Rights
+    ensures { AreRightsOf (found_of given.now) result }
+{
+    if given.get_flag("group-locks") {
+        Rights::GroupLocks
+    } else {
+        Rights::Usual
+    }
+}
+
+/// After how many microseconds a turn is late, by the words of `node` or `up`; 2200 if they set
+/// none.
+///
+/// # Errors
+/// [`TimeFault::Turn`] if the word is no time from 0.001 milliseconds to an hour.
+pub fn late_after(given: &ArgMatches) -> Result<u64, TimeFault>
+    ensures ok { IfOk result (IsLimitOf (found_of given.now)) }
+    ensures err { IfErr result (IsLimitRefused (found_of given.now)) }
+{
+    match given.get_str("turn") {
+        None => Ok(USUAL_LIMIT),
+        Some(word) => match micros_of(word.as_bytes()) {
+            Some(micros) if micros > 0 => Ok(u64::from(micros)),
+            _ => Err(TimeFault::Turn),
+        },
+    }
+}
+
+/// The manner, by the words of `node` or `up`, with defaults for what they leave out.
+///
+/// # Errors
+/// If a word spells no number in its range.
+pub fn manner(given: &ArgMatches) -> Result<Manner, WordFault<'static>>
+    ensures ok { IfOk result (IsMannerOf (found_of given.now)) }
+    ensures err { IfErr result (IsMannerRefused (found_of given.now)) }
+{
+    let usual = Manner::usual();
+    Ok(Manner {
+        hold: number_if_given(given, HOLD)?.unwrap_or(usual.hold),
+        repeat: number_if_given(given, REPEAT)?.unwrap_or(usual.repeat),
+    })
+}
+
+/// The status of a finished command; after a fault, prints its line and returns 1.
+pub fn ended<R: Files + Eprint + AllocGlobal>(
+    rt: &R,
+    file: &str,
+    dir: &str,
+    id: u16,
+    done: Result<(), NodeFault>,
+) -> ExitCode
+    ensures { exit_status result ≡ (if is_ok done then 0 else 1) }
+{
+    match done {
+        Ok(()) => ExitCode::SUCCESS,
+        Err(fault) => {
+            if let NodeFault::Network(fault) = fault {
+                explain_network(rt, file, fault);
+                explain_swap(rt, file, dir);
+            }
+            let refusal = Refusal {
+                file,
+                dir,
+                id,
+                fault,
+            };
+            let _ = eprintln!(rt; "tokentree: {refusal}");
+            ExitCode::FAILURE
+        }
+    }
+}

@@ -1,0 +1,91 @@
+//! The words of `up`.
+ghost use Rattle.std.specs.Prelude.{IfOk, IfErr};
+ghost use Rattle.clap.specs.Matches.{found_of};
+ghost use Rattle.process_words.specs.NodeWords.{AreUpWordsRefused, IsUpOf};
+
+use crate::options::{
+    FOLDER, GROUP_HELP, HOLD_HELP, LOG_HELP, RECORD_HELP, RECORD_SIZE_HELP, REPEAT_HELP, TURN_HELP,
+    late_after, log_level, manner, record_size, rights,
+};
+use clap::{ArgMatches, Command};
+use command_grammar::{Grammar, Parameter, with_command, word};
+use network_words::program::NETWORK_FILE;
+use network_words::refusal::Refusal;
+use process_parts::UpWords;
+use std::alloc::{AllocError, Global};
+
+/// What `up` takes.
+const UP: Grammar<'static> = Grammar {
+    name: "up",
+    about: "Runs all nodes of a network, and restarts what ends, until Ctrl-C",
+    help: HELP,
+    parameters: &[
+        Parameter::Place("FILE", NETWORK_FILE),
+        Parameter::Place("DIR", FOLDER),
+        Parameter::Value("hold", "MICROSECONDS", HOLD_HELP),
+        Parameter::Value("repeat", "MICROSECONDS", REPEAT_HELP),
+        Parameter::Value("turn", "MILLISECONDS", TURN_HELP),
+        Parameter::Flag("group-locks", GROUP_HELP),
+        Parameter::Value("log", "LEVEL", LOG_HELP),
+        Parameter::Flag("record", RECORD_HELP),
+        Parameter::Value("record-size", "BYTES", RECORD_SIZE_HELP),
+    ],
+    needs: &[("record-size", "record")],
+    excludes: &[],
+    choice: None,
+};
+
+/// Adds the command to the program's parser.
+pub fn add_to<'a>(parser: Command<'a>, alloc: Global) -> Result<Command<'a>, AllocError> {
+    with_command(parser, alloc, &UP)
+}
+
+/// What follows the options in its help.
+const HELP: &str = "\
+Each node of the network of FILE runs as its own process, with its files in DIR
+(see `help node`):
+
+  $ tokentree up examples/ring-of-three.toml run
+  node 0 start default Absent
+  node 0 ready
+  node 1 start default Absent
+  ...
+
+A node that ends, for whatever reason, is started again within a second, and a
+line says so. Each node gets --hold, --repeat, --turn, --group-locks, --log,
+--record and --record-size (see `help node`).
+
+SIGINT (Ctrl-C), SIGTERM or SIGHUP ends it. So does the end of its standard
+input, if that is a terminal (Ctrl-D) or a pipe; with a file or /dev/null it
+runs on. Then the nodes save their states and end, with a line each. What has
+not ended after five seconds is killed. Ctrl-C or another signal meanwhile kills
+it at once. If `up` itself is killed, each node still ends well.
+
+The launcher ./tokentree holds signals back from up, and so does
+
+  env --block-signal=HUP,INT,TERM,TTIN tokentree up ..
+
+Then up waits for its nodes, and says that they have ended. Otherwise up ends at
+once, and the nodes within half a second.
+
+Statuses: 0 it was asked to end, and all nodes have ended; 1 it cannot run, or
+no node stays up, and a line on standard error says why; 2 invalid arguments.";
+
+/// What the words of `up` ask for.
+///
+/// # Errors
+/// If a word spells no number, or no time, in its range.
+pub fn asked<'a>(given: &ArgMatches<'a>) -> Result<UpWords<'a>, Refusal>
+    ensures ok { IfOk result (IsUpOf (found_of given.now)) }
+    ensures err { IfErr result (AreUpWordsRefused (found_of given.now)) }
+{
+    Ok(UpWords {
+        file: word(given, "FILE")?,
+        dir: word(given, "DIR")?,
+        manner: manner(given)?,
+        turn: late_after(given)?,
+        rights: rights(given),
+        log: log_level(given)?,
+        record_size: record_size(given)?,
+    })
+}

@@ -1,2 +1,0 @@
-pub use Rattle.service_words.specs as service_words
-pub mod NodeWords

@@ -1,0 +1,20 @@
+//! The part of `tokentree` that asks running nodes: `lock`, `status` and `stop`, as the whole program does
+//! them. It is built and proved without the nodes; the launcher runs it until the whole program is built.
+//!
+//! ```text
+//! $ tokentree_clients version
+//! tokentree 0.1.0
+//! ```
+#![tactic(auto)]
+
+use client_words::run_words;
+use network_words::{fill_standard_streams, own_words};
+use std::process::ExitCode;
+
+fn main(rt: HostRuntime) -> ExitCode {
+    fill_standard_streams(&rt);
+    match own_words(&rt) {
+        Ok(words) => run_words(&rt, words.as_slice()),
+        Err(status) => status,
+    }
+}

@@ -1,0 +1,23 @@
+//! The part of `tokentree` that knows networks: `bound` and `network`, as the whole program does them. It is
+//! built and proved without nodes and clients, and so in much less time; the launcher runs it until the
+//! whole program is built.
+//!
+//! ```text
+//! $ tokentree_networks bound two-nodes.toml
+//! nodes 2
+//! edges 1
+//! ...
+//! sweeps 69
+//! ```
+#![tactic(auto)]
+
+use network_words::{fill_standard_streams, own_words, run_words};
+use std::process::ExitCode;
+
+fn main(rt: HostRuntime) -> ExitCode {
+    fill_standard_streams(&rt);
+    match own_words(&rt) {
+        Ok(words) => run_words(&rt, words.as_slice()),
+        Err(status) => status,
+    }
+}

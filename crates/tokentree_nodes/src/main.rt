@@ -1,0 +1,20 @@
+//! The part of `tokentree` that runs nodes: `node` and `up`, as the whole program does them. It is built and
+//! proved without the clients; the launcher runs it until the whole program is built.
+//!
+//! ```text
+//! $ tokentree_nodes version
+//! tokentree 0.1.0
+//! ```
+#![tactic(auto)]
+
+use network_words::{fill_standard_streams, own_words};
+use process_line::run_words;
+use std::process::ExitCode;
+
+fn main(rt: HostRuntime) -> ExitCode {
+    fill_standard_streams(&rt);
+    match own_words(&rt) {
+        Ok(words) => run_words(&rt, words.as_slice()),
+        Err(status) => status,
+    }
+}
