@@ -4,8 +4,8 @@ ghost use Rattle.std.specs.Prelude.{IfOk, IfErr, IfSome, IsSome};
 ghost use Rattle.std.specs.Prelude.{ℕ, []};
 ghost use Rattle.node_core.specs.Site.{site_of};
 ghost use Rattle.node_core.specs.View.{site_in, state_of};
-ghost use Rattle.node_state_file.specs.Files.{file_of};
-ghost use Rattle.node_state_file.specs.Stores.{Saves};
+ghost use Rattle.state_writing.specs.Files.{file_of};
+ghost use Rattle.state_writing.specs.Stores.{Saves};
 ghost use Rattle.node_connections.specs.Clients.{is_connected};
 ghost use Rattle.node_connections.specs.Loose.{AreLoose};
 
@@ -23,8 +23,8 @@ use node_connections::lobby::Lobby;
 use node_connections::port::NodePort;
 use node_connections::{Doors, reserve};
 use node_core::{Node, Ticked};
-use node_state_file::Store;
 use pace::{Manner, Pace};
+use state_writing::Store;
 use std::alloc::{AllocError, Allocator, Global};
 use topology::Net;
 

@@ -4,7 +4,7 @@ ghost use Rattle.node_loop.specs.Answers.{grants};
 
 use lock_desk::DeskAct;
 use node_core::Ticked;
-use node_state_file::StoreFault;
+use state_writing::StoreFault;
 
 /// What a turn did, as far as its caller may need it.
 #[derive(Clone, Copy)]

@@ -9,16 +9,16 @@ use Rattle.topology.specs.Network.{Network, neighbours_of, IsAcceptedNetwork}
 use Rattle.topology.specs.Ranges.{parent_fits, ranges_of}
 use Rattle.topology.specs.declared.frame.Ranges.{Ranges}
 use Rattle.topology.specs.Laws.{Limits}
-use Rattle.node_core.specs.data_link.Port.{PortState, port_fits}
-use Rattle.node_core.specs.lock_desk.Desk.{no_desk}
-use Rattle.node_core.specs.registers.Rewire.{is_among, rewired_ports, rewired_values}
-use Rattle.node_core.specs.State.{LocalState}
-use Rattle.node_core.specs.Rewire.{rewired}
-use Rattle.node_state_file.specs.declared.layout.Layout.{Layout}
-use Rattle.node_state_file.specs.declared.layout.Layout.TheVariants.{Tkt1, Tkt2}
+use Rattle.state_writing.specs.node_core.data_link.Port.{PortState, port_fits}
+use Rattle.state_writing.specs.node_core.lock_desk.Desk.{no_desk}
+use Rattle.state_writing.specs.node_core.registers.Rewire.{is_among, rewired_ports, rewired_values}
+use Rattle.state_writing.specs.node_core.State.{LocalState}
+use Rattle.state_writing.specs.node_core.Rewire.{rewired}
+use Rattle.state_writing.specs.declared.layout.Layout.{Layout}
+use Rattle.state_writing.specs.declared.layout.Layout.TheVariants.{Tkt1, Tkt2}
 use Rattle.node_state_file.specs.declared.saved.Header.{Header}
 use Rattle.node_state_file.specs.declared.saved.SavedPort.{SavedPort}
-use Rattle.node_state_file.specs.Spelling.{header_numbers, parent_number, port_numbers, spelling}
+use Rattle.state_writing.specs.Spelling.{header_numbers, parent_number, port_numbers, spelling}
 use Rattle.node_state_file.specs.Reading.{are_ascending, are_others, decoded, fields_fit, first_fault, found, header_length, header_of, ids_of, is_header_of, layout_of, matched, parent_of, port_or_new, ports_in, saved_port_fits, value_or_new}
 use Rattle.node_state_file.specs.Laws.{IsSavable, MayBeNeighbours}
 use Rattle.node_state_file.proofs.ReadAgain.{IsSmall, bytes_of, parent_again, parent_small, plain, ports_long, ports_read, read_at, saved}

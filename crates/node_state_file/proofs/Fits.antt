@@ -2,9 +2,9 @@
 use Rattle.std.proofs.Common.{◌<◌, arith, IsTrue, List}
 use Rattle.topology.specs.Ranges.{payload_fits}
 use Rattle.topology.specs.declared.frame.Ranges.{Ranges}
-use Rattle.node_core.specs.data_link.Port.{counters_fit}
+use Rattle.state_writing.specs.node_core.data_link.Port.{counters_fit}
 use Rattle.node_state_file.specs.declared.saved.SavedPort.{SavedPort}
-use Rattle.node_core.specs.Writes.{own_fits}
+use Rattle.state_writing.specs.node_core.Writes.{own_fits}
 use Rattle.std.specs.List.{list_all}
 use Rattle.node_state_file.specs.declared.saved.Header.{Header}
 use Rattle.node_state_file.specs.Reading.{fields_fit, saved_port_fits}

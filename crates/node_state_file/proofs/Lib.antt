@@ -1,8 +1,6 @@
 pub mod Accepted
 pub mod Ascending
 pub mod Fits
-pub mod Neighbours
-pub mod Numbers
 pub mod Ports
 pub mod ReadAgain
 pub mod Restored

@@ -6,10 +6,10 @@ use Rattle.byteorder.specs.Endian.{big_bytes}
 use Rattle.byteorder.specs.Numbers.{big_number-reads_back}
 use Rattle.topology.specs.Ranges.{parent_fits, payload_fits}
 use Rattle.topology.specs.declared.frame.Ranges.{Ranges}
-use Rattle.node_core.specs.data_link.Port.{port_fits}
-use Rattle.node_core.specs.State.{LocalState}
+use Rattle.state_writing.specs.node_core.data_link.Port.{port_fits}
+use Rattle.state_writing.specs.node_core.State.{LocalState}
 use Rattle.node_state_file.specs.declared.saved.SavedPort.{SavedPort}
-use Rattle.node_state_file.specs.Spelling.{parent_number, port_numbers}
+use Rattle.state_writing.specs.Spelling.{parent_number, port_numbers}
 use Rattle.node_state_file.specs.Reading.{number_at, parent_of, port_in, ports_in}
 
 abbrev pub IsSmall : ℕ → Type 0

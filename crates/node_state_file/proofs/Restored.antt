@@ -7,10 +7,10 @@ use Rattle.std.proofs.lemmas.Bool.{cases_Bool, eqb-true}
 use Rattle.std.proofs.lemmas.List.Folds.{list_any-append}
 use Rattle.topology.specs.At.{at}
 use Rattle.topology.specs.declared.frame.Ranges.{Ranges}
-use Rattle.node_core.specs.data_link.Port.{PortState, default_port}
-use Rattle.node_core.specs.registers.Rewire.{is_among}
-use Rattle.node_core.specs.State.{LocalState, default_node}
-use Rattle.node_core.specs.Rewire.{rewired}
+use Rattle.state_writing.specs.node_core.data_link.Port.{PortState, default_port}
+use Rattle.state_writing.specs.node_core.registers.Rewire.{is_among}
+use Rattle.state_writing.specs.node_core.State.{LocalState, default_node}
+use Rattle.state_writing.specs.node_core.Rewire.{rewired}
 use Rattle.node_state_file.specs.declared.saved.Header.{Header}
 use Rattle.node_state_file.specs.declared.saved.SavedPort.{SavedPort}
 use Rattle.node_state_file.specs.Reading.{ids_of, found, port_or_new, state_saved, saved_port_fits}

@@ -3,11 +3,11 @@ use Rattle.std.proofs.Common.{◌≡◌, refl, Bool, true, false, ℕ, List, [],
 use Rattle.std.specs.List.{list_all, range_with_len}
 use Rattle.topology.specs.Network.{Network}
 use Rattle.topology.specs.Ranges.{ranges_of}
-use Rattle.node_core.specs.State.{LocalState, default_node}
+use Rattle.state_writing.specs.node_core.State.{LocalState, default_node}
 use Rattle.node_state_file.specs.declared.fault.FileFault.{FileFault}
 use Rattle.node_state_file.specs.declared.fault.FileFault.TheVariants.{Short, Magic, Shape, Range, Long}
-use Rattle.node_state_file.specs.declared.layout.Layout.TheVariants.{Tkt1, Tkt2}
-use Rattle.node_state_file.specs.Spelling.{spelling}
+use Rattle.state_writing.specs.declared.layout.Layout.TheVariants.{Tkt1, Tkt2}
+use Rattle.state_writing.specs.Spelling.{spelling}
 use Rattle.node_state_file.specs.Reading.{decoded, first_fault, header_of, matched, ports_in}
 
 -- two nodes with links of capacity 1, and three that are all joined

@@ -1,16 +1,12 @@
 -- The parts of a state file: its numbers, its header, its ports, and when they are refused.
-use Rattle.std.proofs.Common.{◌≡◌, ◌≢◌, ℕ, ◌+◌, true, false, List, [], ◌∷◌, Some, None, Ok, Err, refl, arith}
-use Rattle.topology.specs.Network.{Network}
+use Rattle.std.proofs.Common.{◌≡◌, ◌≢◌, ℕ, ◌+◌, true, false, List, [], ◌∷◌, Some, None, Err, refl, arith}
 use Rattle.topology.specs.Ranges.{ranges_of}
 use Rattle.topology.specs.declared.frame.Payload.{Payload}
-use Rattle.node_core.specs.data_link.Port.{default_port}
-use Rattle.node_core.specs.State.{LocalState, default_node}
+use Rattle.state_writing.specs.node_core.data_link.Port.{default_port}
 use Rattle.node_state_file.specs.declared.fault.FileFault.TheVariants.{Short, Magic, Range}
-use Rattle.node_state_file.specs.declared.layout.Layout.TheVariants.{Tkt1, Tkt2}
+use Rattle.state_writing.specs.declared.layout.Layout.TheVariants.{Tkt1, Tkt2}
 use Rattle.node_state_file.specs.declared.saved.Header.{Header}
 use Rattle.node_state_file.specs.declared.saved.SavedPort.{SavedPort}
-use Rattle.node_state_file.specs.Files.{file_of}
-use Rattle.node_state_file.specs.Spelling.{magic, capacity_numbers, parent_number, header_numbers, payload_numbers, port_numbers, written}
 use Rattle.node_state_file.specs.Reading.{layout_of, header_length, number_at, parent_of, payload_at, port_in, ids_of, is_capacity, is_header_of, are_ascending, are_others, saved_port_fits, fields_fit, found, port_or_new, value_or_new, state_saved, decoded_as, decoded_by}
 use Rattle.node_state_file.proofs.Rows.{two, triangle, newer}
 
@@ -22,21 +18,9 @@ names-layout = refl
 names_not-layout : layout_of (84 ∷ 75 ∷ 84 ∷ 57 ∷ []) ≡ None
 names_not-layout = refl
 
-spells-word : magic Tkt1 ≡ 84 ∷ 75 ∷ 84 ∷ 49 ∷ []
-spells-word = refl
-
-spells_not-word : magic Tkt2 ≢ magic Tkt1
-spells_not-word = grind arith
-
 -- the older layout has no capacity, so its header is two bytes shorter
 is-longer : header_length Tkt2 ≡ header_length Tkt1 + 2
 is-longer = refl
-
-no-capacity : capacity_numbers Tkt1 36 ≡ []
-no-capacity = refl
-
-a-capacity : capacity_numbers Tkt2 36 ≡ 36 ∷ []
-a-capacity = refl
 
 -- the higher byte comes first
 reads-number : number_at (7 ∷ 1 ∷ 2 ∷ []) 1 ≡ 258
@@ -52,29 +36,10 @@ parent-none = refl
 parent_not-none : parent_of 65534 ≡ Some 65534
 parent_not-none = refl
 
-number-none : parent_number None ≡ 65535
-number-none = refl
-
-number_not-none : parent_number (Some 0) ≢ 65535
-number_not-none = grind arith
-
 -- ---- a header and ports
-
--- node 1 of two, with one neighbour, the distance 1 and the parent 0
-abbrev near_root : LocalState
-near_root = record (default_node (ranges_of two)) { distance = 1; parent = Some 0 }
-
-header-numbers : header_numbers Tkt2 two 1 1 near_root ≡ 2 ∷ 1 ∷ 1 ∷ 1 ∷ 1 ∷ 0 ∷ []
-header-numbers = refl
-
-header_not-distance : header_numbers Tkt1 two 1 1 near_root ≢ 2 ∷ 1 ∷ 1 ∷ 2 ∷ 0 ∷ []
-header_not-distance = grind arith
 
 abbrev payload : Payload
 payload = record { distance = 1; parent = Some 0; ring = 6 }
-
-payload-numbers : payload_numbers payload ≡ 1 ∷ 0 ∷ 6 ∷ []
-payload-numbers = refl
 
 payload-read : payload_at (9 ∷ 0 ∷ 1 ∷ 0 ∷ 0 ∷ 0 ∷ 6 ∷ []) 1 ≡ payload
 payload-read = refl
@@ -101,10 +66,6 @@ port-state = refl
 
 port-new : port_or_new (ranges_of two) None ≡ default_port (ranges_of two)
 port-new = refl
-
-port-numbers : port_numbers (record near_root { port = λ w. port_or_new (ranges_of two) (Some port); value = λ w. 5 }) 0
-    ≡ 0 ∷ 3 ∷ 2 ∷ 1 ∷ 0 ∷ 6 ∷ 1 ∷ 0 ∷ 4 ∷ 5 ∷ []
-port-numbers = refl
 
 -- of two ports to one node the first counts
 abbrev another : SavedPort
@@ -200,14 +161,3 @@ decodes_not-short = refl
 -- a fault is answered, and no state beside it
 decodes-fault : decoded_as two 1 newer Tkt2 (Some Range) ≡ Err Range
 decodes-fault = refl
-
--- ---- what is written
-
-writes-newer : written two 1 (0 ∷ []) (default_node (ranges_of two)) ≡ newer
-writes-newer = refl
-
-file-newer : file_of two 1 (default_node (ranges_of two)) ≡ newer
-file-newer = refl
-
-file_not-older : file_of two 1 near_root ≢ newer
-file_not-older = grind arith

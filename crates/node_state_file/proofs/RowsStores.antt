@@ -1,65 +1,20 @@
--- What is stored, how a node starts from it, and of which states bytes are the spelling.
-use Rattle.std.proofs.Common.{◌≡◌, ◌≢◌, ℕ, ◌<◌, ◌≤◌, IsTrue, List, [], ◌∷◌, ◌++◌, All, subst, Some, None, Ok, Err, refl, inl, inr, arith}
+-- How a node starts from what is stored, and of which states bytes are the spelling.
+use Rattle.std.proofs.Common.{◌≡◌, ℕ, ◌<◌, IsTrue, List, [], ◌∷◌, ◌++◌, subst, Some, None, Ok, Err, refl, arith}
 use Rattle.std.proofs.lemmas.List.Elements.{All-nil, All-cons}
 use Rattle.topology.specs.Ranges.{ranges_of}
-use Rattle.node_core.specs.data_link.Port.{port_fits}
-use Rattle.node_core.specs.lock_desk.Desk.{no_desk}
-use Rattle.node_core.specs.Rewire.{rewired}
-use Rattle.node_core.specs.State.{LocalState, default_node}
+use Rattle.state_writing.specs.node_core.data_link.Port.{port_fits}
+use Rattle.state_writing.specs.node_core.lock_desk.Desk.{no_desk}
+use Rattle.state_writing.specs.node_core.Rewire.{rewired}
+use Rattle.state_writing.specs.node_core.State.{LocalState, default_node}
 use Rattle.node_state_file.specs.declared.fault.FileFault.TheVariants.{Long, Short}
-use Rattle.node_state_file.specs.declared.layout.Layout.TheVariants.{Tkt1, Tkt2}
-use Rattle.node_state_file.specs.declared.layout.Layout.{Layout}
+use Rattle.state_writing.specs.declared.layout.Layout.TheVariants.{Tkt1, Tkt2}
+use Rattle.state_writing.specs.declared.layout.Layout.{Layout}
 use Rattle.node_state_file.specs.declared.starting.StartFault.TheVariants as start
-use Rattle.node_state_file.specs.declared.store.StoreFault.TheVariants as store
 use Rattle.node_state_file.specs.Laws.{MayBeNeighbours, IsSavable, IsSpelled}
 use Rattle.node_state_file.specs.Reading.{decoded}
-use Rattle.node_state_file.specs.Spelling.{magic}
-use Rattle.node_state_file.specs.Stores.{MayBeAbsent, AreStored, Loads, Saves, Starts}
+use Rattle.state_writing.specs.Spelling.{magic}
+use Rattle.node_state_file.specs.Stores.{Starts}
 use Rattle.node_state_file.proofs.Rows.{two, newer}
-
--- ---- stores
-
-absent : MayBeAbsent (Some None)
-absent = tt
-
-absent_not-stored : ¬ MayBeAbsent (Some (Some []))
-absent_not-stored out = out
-
-stored : AreStored (1 ∷ 2 ∷ []) (Some (Some (1 ∷ 2 ∷ [])))
-stored = refl
-
-stored_not-other : ¬ AreStored (1 ∷ []) (Some (Some (1 ∷ 2 ∷ [])))
-stored_not-other are = grind (arith, are)
-
-stored_not-nothing : ¬ AreStored [] (Some None)
-stored_not-nothing out = out
-
--- a load gives what is stored, and leaves it
-loads : Loads (Ok 2) (Some (Some (1 ∷ 2 ∷ []))) (Some (Some (1 ∷ 2 ∷ []))) (1 ∷ 2 ∷ 9 ∷ []) 3 3
-loads = (omega arith, refl, refl, omega arith)
-
-loads_not-less : ¬ Loads (Ok 1) (Some (Some (1 ∷ 2 ∷ []))) (Some (Some (1 ∷ 2 ∷ []))) (1 ∷ 2 ∷ 9 ∷ []) 3 3
-loads_not-less gives = grind (arith, gives.1)
-
-loads_not-taken : ¬ Loads (Ok 2) (Some (Some (1 ∷ 2 ∷ []))) (Some None) (1 ∷ 2 ∷ 9 ∷ []) 3 3
-loads_not-taken gives = grind (arith, gives.2)
-
--- something stored is not absent, and a failure is counted
-loads_not-absent : ¬ Loads (Err store.Absent) (Some (Some [])) (Some (Some [])) [] 3 3
-loads_not-absent gives = gives.0
-
-loads_not-uncounted : ¬ Loads (Err store.Device) (Some None) (Some None) [] 3 3
-loads_not-uncounted gives = grind (arith, gives.2)
-
--- a save puts its bytes in place of what was there
-saves : Saves (Ok tt) (7 ∷ []) (Some (Some (1 ∷ []))) (Some (Some (7 ∷ []))) 3 3
-saves = (refl, omega arith)
-
-saves_not-kept : ¬ Saves (Ok tt) (7 ∷ []) (Some (Some (1 ∷ []))) (Some (Some (1 ∷ []))) 3 3
-saves_not-kept gives = grind (arith, gives.0)
-
-saves_not-absent : ¬ Saves (Err store.Absent) (7 ∷ []) (Some None) (Some None) 3 4
-saves_not-absent out = out
 
 -- ---- how a node starts
 

@@ -11,18 +11,18 @@ use Rattle.byteorder.specs.Endian.{big_bytes, big_number}
 use Rattle.topology.specs.Network.{Network, neighbours_of}
 use Rattle.topology.specs.Ranges.{ranges_of}
 use Rattle.topology.specs.declared.frame.Ranges.{Ranges}
-use Rattle.node_core.specs.data_link.Port.{port_fits}
-use Rattle.node_core.specs.lock_desk.Desk.{no_desk}
-use Rattle.node_core.specs.registers.Rewire.{is_among}
-use Rattle.node_core.specs.State.{LocalState}
-use Rattle.node_core.specs.Rewire.{rewired}
+use Rattle.state_writing.specs.node_core.data_link.Port.{port_fits}
+use Rattle.state_writing.specs.node_core.lock_desk.Desk.{no_desk}
+use Rattle.state_writing.specs.node_core.registers.Rewire.{is_among}
+use Rattle.state_writing.specs.node_core.State.{LocalState}
+use Rattle.state_writing.specs.node_core.Rewire.{rewired}
 use Rattle.node_state_file.specs.declared.fault.FileFault.{FileFault}
 use Rattle.node_state_file.specs.declared.fault.FileFault.TheVariants.{Short, Shape, Range, Long}
-use Rattle.node_state_file.specs.declared.layout.Layout.{Layout}
-use Rattle.node_state_file.specs.declared.layout.Layout.TheVariants.{Tkt1, Tkt2}
+use Rattle.state_writing.specs.declared.layout.Layout.{Layout}
+use Rattle.state_writing.specs.declared.layout.Layout.TheVariants.{Tkt1, Tkt2}
 use Rattle.node_state_file.specs.declared.saved.Header.{Header}
 use Rattle.node_state_file.specs.declared.saved.SavedPort.{SavedPort}
-use Rattle.node_state_file.specs.Spelling.{header_numbers, magic, parent_number, payload_numbers, port_numbers, spelling}
+use Rattle.state_writing.specs.Spelling.{header_numbers, magic, parent_number, payload_numbers, port_numbers, spelling}
 use Rattle.node_state_file.specs.Reading.{are_ascending, are_others, decoded, decoded_as, decoded_by, fields_fit, first_fault, found, header_length, header_of, ids_of, is_header_of, layout_of, matched, number_at, parent_of, port_in, port_or_new, ports_in, saved_port_fits, state_saved}
 use Rattle.node_state_file.specs.Laws.{IsSpelled}
 use Rattle.node_state_file.proofs.ReadAgain.{bytes_of}

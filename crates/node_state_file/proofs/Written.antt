@@ -3,9 +3,9 @@ use Rattle.std.proofs.Common.{◌≡◌, ◌∙◌, ap, Result, Ok, Err, IsOk, O
 use Rattle.std.proofs.Math.Path.{fun_ext}
 use Rattle.std.proofs.lemmas.Grind.{common_steps}
 use Rattle.topology.specs.At.{at}
-use Rattle.node_core.specs.data_link.Port.{PortState}
-use Rattle.node_core.specs.State.{LocalState}
-use Rattle.node_core.specs.Writes.{with_port}
+use Rattle.state_writing.specs.node_core.data_link.Port.{PortState}
+use Rattle.state_writing.specs.node_core.State.{LocalState}
+use Rattle.state_writing.specs.node_core.Writes.{with_port}
 use Rattle.node_state_file.specs.declared.saved.SavedPort.{SavedPort}
 
 -- if a call that answers Ok does something, it is done

@@ -3,15 +3,15 @@ use Rattle.std.specs.Prelude.{◌≡◌, ℕ, ◌<◌, ◌≤◌, ◌&&◌, IsTr
 use Rattle.std.specs.List.{list_all}
 use Rattle.topology.specs.Network.{Network, neighbours_of, IsAcceptedNetwork}
 use Rattle.topology.specs.Ranges.{ranges_of}
-use Rattle.node_core.specs.data_link.Port.{port_fits}
-use Rattle.node_core.specs.lock_desk.Desk.{no_desk}
-use Rattle.node_core.specs.State.{LocalState}
-use Rattle.node_core.specs.Writes.{own_fits}
-use Rattle.node_core.specs.Rewire.{rewired}
-use Rattle.node_state_file.specs.Spelling.{spelling, written}
+use Rattle.state_writing.specs.node_core.data_link.Port.{port_fits}
+use Rattle.state_writing.specs.node_core.lock_desk.Desk.{no_desk}
+use Rattle.state_writing.specs.node_core.State.{LocalState}
+use Rattle.state_writing.specs.node_core.Writes.{own_fits}
+use Rattle.state_writing.specs.node_core.Rewire.{rewired}
+use Rattle.state_writing.specs.Spelling.{spelling, written}
 use Rattle.node_state_file.specs.Reading.{are_ascending, decoded}
-use Rattle.node_state_file.specs.declared.layout.Layout.{Layout}
-use Rattle.node_state_file.specs.declared.layout.Layout.TheVariants.{Tkt2}
+use Rattle.state_writing.specs.declared.layout.Layout.{Layout}
+use Rattle.state_writing.specs.declared.layout.Layout.TheVariants.{Tkt2}
 
 -- These may have been a node's neighbours: ascending other nodes, at least one, and fewer than there
 -- are nodes.

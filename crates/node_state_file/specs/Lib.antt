@@ -1,6 +1,6 @@
-pub use Rattle.node_core.specs as node_core
-pub mod Spelling
+pub use Rattle.state_writing.specs.node_core as node_core
+pub use Rattle.state_writing.specs.Spelling
+pub use Rattle.state_writing.specs.Files
 pub mod Reading
 pub mod Stores
 pub mod Laws
-pub mod Files

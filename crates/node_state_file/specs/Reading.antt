@@ -7,16 +7,16 @@ use Rattle.topology.specs.Network.{Network, neighbours_of}
 use Rattle.topology.specs.Ranges.{payload_fits, ranges_of}
 use Rattle.topology.specs.declared.frame.Payload.{Payload}
 use Rattle.topology.specs.declared.frame.Ranges.{Ranges}
-use Rattle.node_core.specs.data_link.Port.{PortState, counters_fit, default_port}
-use Rattle.node_core.specs.lock_desk.Desk.{no_desk}
-use Rattle.node_core.specs.State.{LocalState}
-use Rattle.node_core.specs.Writes.{own_fits}
-use Rattle.node_core.specs.Rewire.{rewired}
-use Rattle.node_state_file.specs.Spelling.{magic}
+use Rattle.state_writing.specs.node_core.data_link.Port.{PortState, counters_fit, default_port}
+use Rattle.state_writing.specs.node_core.lock_desk.Desk.{no_desk}
+use Rattle.state_writing.specs.node_core.State.{LocalState}
+use Rattle.state_writing.specs.node_core.Writes.{own_fits}
+use Rattle.state_writing.specs.node_core.Rewire.{rewired}
+use Rattle.state_writing.specs.Spelling.{magic}
 use Rattle.node_state_file.specs.declared.fault.FileFault.{FileFault}
 use Rattle.node_state_file.specs.declared.fault.FileFault.TheVariants.{Short, Magic, Shape, Range, Long}
-use Rattle.node_state_file.specs.declared.layout.Layout.{Layout}
-use Rattle.node_state_file.specs.declared.layout.Layout.TheVariants.{Tkt1, Tkt2}
+use Rattle.state_writing.specs.declared.layout.Layout.{Layout}
+use Rattle.state_writing.specs.declared.layout.Layout.TheVariants.{Tkt1, Tkt2}
 use Rattle.node_state_file.specs.declared.saved.Header.{Header}
 use Rattle.node_state_file.specs.declared.saved.SavedPort.{SavedPort}
 

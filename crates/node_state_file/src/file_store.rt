@@ -1,8 +1,7 @@
 //! A store over a file, which is written in place.
 ghost use Rattle.std.specs.Prelude.{◌≡◌, ◌≤◌, ◌<◌, length, IfOk};
 
-use crate::layout::LOADED_BYTES;
-use crate::store::{Store, StoreFault};
+use state_writing::{LOADED_BYTES, Store, StoreFault};
 use std::fs::{OpenFile, OpenOptions};
 use std::io::{ErrorKind, Read, Write};
 use std::os::unix::fs::OpenOptionsExt;

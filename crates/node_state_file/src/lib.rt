@@ -1,10 +1,7 @@
 //! A node's state as the bytes of a file, and where it is kept.
 //!
-//! [`encode`] writes a state: `TKT2`, then numbers of two bytes, the higher byte first: the number
-//! of nodes, the node's id, the capacity of links, how many neighbours, distance, parent (`ffff` is
-//! none), and for each neighbour, ascending, its id, the port's number, the last number accepted,
-//! the payloads staged and copied, and the machine's value. The desk is not kept: a lock that was
-//! lent is forgotten. [`decode`] reads those bytes, and the older `TKT1`, which has no capacity;
+//! [`encode`] writes a state, in the layout `TKT2`, which the crate `state_writing` has, as it has
+//! the trait [`Store`]. [`decode`] reads those bytes, and the older `TKT1`, which has no capacity;
 //! whatever else stands there is reported by a [`FileFault`].
 //!
 //! [`start`] gives a node at its start: the state that a [`Store`] holds, or the default state and
@@ -34,15 +31,10 @@ mod number;
 mod reading;
 mod saved;
 mod starting;
-mod store;
-mod writing;
 
 pub use fault::FileFault;
 pub use file_store::FileStore;
-pub use layout::{LOADED_BYTES, MOST_BYTES};
 pub use memory_store::{FusedStore, MemoryStore};
-pub use node_core::Node;
 pub use reading::decode;
 pub use starting::{StartFault, Started, start};
-pub use store::{Store, StoreFault};
-pub use writing::encode;
+pub use state_writing::{LOADED_BYTES, MOST_BYTES, Node, Store, StoreFault, encode};

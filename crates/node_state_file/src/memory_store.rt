@@ -5,9 +5,8 @@ ghost use Rattle.std.specs.Prelude.{option_map};
 ghost use Rattle.byte_streams.specs.Fuse.{failures_of, left_after};
 ghost use Rattle.node_state_file.specs.Stores.{Loads, Saves};
 
-use crate::layout::LOADED_BYTES;
-use crate::store::{Store, StoreFault};
 use byte_streams::Fuse;
+use state_writing::{LOADED_BYTES, Store, StoreFault};
 use std::alloc::{AllocError, Allocator, Global};
 
 /// A store over memory, with room that its maker reserved. It fails if that is too small.

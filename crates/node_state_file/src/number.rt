@@ -1,12 +1,9 @@
 //! Numbers of two bytes, the higher byte first.
 ghost use Rattle.std.specs.Prelude.{◌≡◌, ◌≤◌, ◌+◌, length};
-ghost use Rattle.node_state_file.specs.Spelling.{parent_number};
 ghost use Rattle.node_state_file.specs.Reading.{number_at, parent_of};
 
 use byteorder::{BigEndian, ByteOrder};
-
-/// What stands for no parent.
-const NO_PARENT: u16 = 0xffff;
+use state_writing::NO_PARENT;
 
 /// The number at a place.
 pub(crate) fn number_at(bytes: &[u8], at: usize) -> u16
@@ -27,11 +24,4 @@ pub(crate) fn parent_at(bytes: &[u8], at: usize) -> Option<u16>
     } else {
         Some(number)
     }
-}
-
-/// A parent as a number.
-pub(crate) fn parent_number(parent: Option<u16>) -> u16
-    ensures { result ≡ parent_number parent }
-{
-    parent.unwrap_or(NO_PARENT)
 }

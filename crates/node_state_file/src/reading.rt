@@ -5,19 +5,19 @@ ghost use Rattle.std.specs.List.{list_all};
 ghost use Rattle.topology.specs.Network.{neighbours_of};
 ghost use Rattle.topology.specs.Ranges.{ranges_of};
 ghost use Rattle.topology.specs.At.{at};
-ghost use Rattle.node_core.specs.Site.{site_of};
-ghost use Rattle.node_core.specs.State.{default_node};
-ghost use Rattle.node_core.specs.View.{site_in, state_of};
+ghost use Rattle.state_writing.specs.node_core.Site.{site_of};
+ghost use Rattle.state_writing.specs.node_core.State.{default_node};
+ghost use Rattle.state_writing.specs.node_core.View.{site_in, state_of};
 ghost use Rattle.node_state_file.specs.Reading.{decoded, ids_of, ports_in, are_ascending};
 ghost use Rattle.node_state_file.specs.Reading.{are_others, fields_fit, found, matched};
 ghost use Rattle.node_state_file.specs.Reading.{port_or_new, saved_port_fits};
 ghost use Rattle.node_state_file.specs.declared.fault.FileFault.TheVariants.{Memory};
 
 use crate::fault::FileFault;
-use crate::layout::Layout;
+use crate::layout::{header_length, layout_of};
 use crate::saved::{Header, SavedPort};
 use arrayvec::ArrayVec;
-use node_core::NodeState;
+use state_writing::NodeState;
 use std::alloc::Allocator;
 use topology::{Net, Ranges};
 
@@ -68,21 +68,21 @@ pub(crate) fn read_file<N: Allocator + Copy>(
         (λ saved. IsTrue (fields_fit (ranges_of net.now) saved.header saved.ports.items)) }
     ensures err { IfErr result (λ fault. decoded net.now id bytes.now ≡ Err fault) }
 {
-    let Some(layout) = Layout::of(bytes) else {
+    let Some(layout) = layout_of(bytes) else {
         return Err(if bytes.len() < 4 {
             FileFault::Short
         } else {
             FileFault::Magic
         });
     };
-    if bytes.len() < layout.header_length() {
+    if bytes.len() < header_length(layout) {
         return Err(FileFault::Short);
     }
     let header = Header::read(layout, bytes);
     if !header.is_of(net, id) {
         return Err(FileFault::Shape);
     }
-    let rest = &bytes[layout.header_length()..];
+    let rest = &bytes[header_length(layout)..];
     let needed = 20 * usize::from(header.degree);
     if rest.len() < needed {
         return Err(FileFault::Short);

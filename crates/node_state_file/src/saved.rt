@@ -1,13 +1,13 @@
 //! What a state file says, before anything is believed of it.
 ghost use Rattle.std.specs.Prelude.{IsTrue, ◌≡◌, ◌≤◌, ◌+◌, ◌*◌, length};
 ghost use Rattle.topology.specs.Ranges.{ranges_of};
-ghost use Rattle.node_core.specs.Writes.{own_fits};
+ghost use Rattle.state_writing.specs.node_core.Writes.{own_fits};
 ghost use Rattle.node_state_file.specs.Reading.{header_of, header_length, is_header_of, payload_at};
 ghost use Rattle.node_state_file.specs.Reading.{port_in, ports_in, ids_of, are_others};
 ghost use Rattle.node_state_file.specs.Reading.{saved_port_fits, fields_fit};
 
-use crate::layout::Layout;
 use crate::number::{number_at, parent_at};
+use state_writing::Layout;
 use std::alloc::Allocator;
 use topology::{Net, Payload, Ranges};
 

@@ -2,17 +2,15 @@
 ghost use Rattle.std.specs.Prelude.{◌≡◌, ℕ, ◌<◌, ◌≤◌, List, Ok, Err, IfOk, IfErr, IsTrue, None};
 ghost use Rattle.std.specs.Prelude.{Some};
 ghost use Rattle.topology.specs.Ranges.{ranges_of};
-ghost use Rattle.node_core.specs.Site.{site_of};
-ghost use Rattle.node_core.specs.State.{default_node};
-ghost use Rattle.node_core.specs.View.{site_in, state_of};
+ghost use Rattle.state_writing.specs.node_core.Site.{site_of};
+ghost use Rattle.state_writing.specs.node_core.State.{default_node};
+ghost use Rattle.state_writing.specs.node_core.View.{site_in, state_of};
 ghost use Rattle.node_state_file.specs.Reading.{decoded, fields_fit, matched};
 ghost use Rattle.node_state_file.specs.Stores.{AreStored, Starts};
 
 use crate::fault::FileFault;
-use crate::layout::LOADED_BYTES;
 use crate::reading::{SavedState, read_file, restore};
-use crate::store::{Store, StoreFault};
-use node_core::NodeState;
+use state_writing::{LOADED_BYTES, NodeState, Store, StoreFault};
 use std::alloc::{AllocError, Allocator};
 use thiserror::Error;
 use topology::Net;

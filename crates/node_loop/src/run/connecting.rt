@@ -7,7 +7,7 @@ ghost use Rattle.node_connections.specs.Ports.{AtBoth};
 
 use crate::run::NodeRun;
 use node_connections::{Door, Doors};
-use node_state_file::Store;
+use state_writing::Store;
 use std::alloc::Allocator;
 
 impl<D: Doors, S: Store + Drop, A: Allocator + Copy> NodeRun<D, S, A> {

@@ -9,7 +9,7 @@ use crate::notes::Notes;
 use crate::run::NodeRun;
 use crate::service;
 use node_connections::{Door, Doors, lobby};
-use node_state_file::Store;
+use state_writing::Store;
 use std::alloc::Allocator;
 
 /// At most so many connections are accepted at each door in a turn.

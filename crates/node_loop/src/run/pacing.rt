@@ -5,8 +5,8 @@ ghost use Rattle.pace.specs.Nodes.{may_tick};
 use crate::run::NodeRun;
 use crate::sight;
 use node_connections::Doors;
-use node_state_file::Store;
 use pace::{Pace, Plan};
+use state_writing::Store;
 use std::alloc::Allocator;
 
 impl<D: Doors, S: Store + Drop, A: Allocator + Copy> NodeRun<D, S, A> {

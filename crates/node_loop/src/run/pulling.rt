@@ -8,8 +8,8 @@ use crate::run::NodeRun;
 use crate::sight;
 use node_connections::Doors;
 use node_core::Item;
-use node_state_file::Store;
 use socket_links::Pull;
+use state_writing::Store;
 use std::alloc::Allocator;
 
 /// At most so many frames are taken at each port in a turn.

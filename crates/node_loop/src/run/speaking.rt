@@ -16,9 +16,9 @@ use crate::sight::{self, NODES};
 use node_connections::Doors;
 use node_connections::port::NodePort;
 use node_core::Ticked;
-use node_state_file::Store;
 use pace::Pace;
 use socket_links::Pipe;
+use state_writing::Store;
 use std::alloc::Allocator;
 use topology::Frame;
 

@@ -2,10 +2,10 @@ use Rattle.std.proofs.Common.{◌≡◌, ◌∙◌, ap, sym, subst, IsTrue, take
 use Rattle.std.proofs.lemmas.List.{take_more}
 use Rattle.topology.specs.Ranges.{ranges_of}
 use Rattle.topology.specs.declared.frame.Ranges.{Ranges}
-use Rattle.node_core.specs.Site.{Site}
-use Rattle.node_core.specs.State.{LocalState}
-use Rattle.node_core.specs.View.{site_in, state_of}
-use Rattle.node_core.specs.Writes.{own_fits}
+use Rattle.state_writing.specs.node_core.Site.{Site}
+use Rattle.state_writing.specs.node_core.State.{LocalState}
+use Rattle.state_writing.specs.node_core.View.{site_in, state_of}
+use Rattle.state_writing.specs.node_core.Writes.{own_fits}
 use Rattle.node_state_file.specs.Reading.{found, saved_port_fits}
 use Rattle.node_state_file.proofs.Fits.{own_of, ports_of}
 use Rattle.node_state_file.proofs.Restored.{at_first, found_fits, matched_to, none_more, written_more}

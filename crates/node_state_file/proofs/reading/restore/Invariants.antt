@@ -1,6 +1,6 @@
 use Rattle.std.proofs.Common.{◌≡◌, take}
 use Rattle.topology.specs.Ranges.{ranges_of}
-use Rattle.node_core.specs.View.{site_in, state_of}
+use Rattle.state_writing.specs.node_core.View.{site_in, state_of}
 use Rattle.node_state_file.proofs.Restored.{matched_to}
 use Rattle.node_state_file.proofs.reading.restore.Given as goal
 

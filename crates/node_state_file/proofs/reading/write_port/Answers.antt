@@ -1,7 +1,7 @@
 use Rattle.std.proofs.Common.{◌<◌, ◌∙◌, sym, subst, IsTrue}
 use Rattle.topology.specs.Ranges.{payload_fits}
-use Rattle.node_core.specs.Site.{Site}
-use Rattle.node_core.specs.View.{site_in, state_of}
+use Rattle.state_writing.specs.node_core.Site.{Site}
+use Rattle.state_writing.specs.node_core.View.{site_in, state_of}
 use Rattle.node_state_file.proofs.Fits.{counters_of, staged_of, copy_of, value_of}
 use Rattle.node_state_file.proofs.Written.{on_ok, written}
 use Rattle.node_state_file.proofs.reading.write_port.Goals as goal

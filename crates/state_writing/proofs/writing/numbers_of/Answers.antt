@@ -4,11 +4,10 @@ use Rattle.arrayvec.specs.ArrayVec.{array_vec_len}
 use Rattle.topology.specs.Network.{neighbours_of}
 use Rattle.node_core.specs.Site.{Site}
 use Rattle.node_core.specs.View.{site_in, state_of}
-use Rattle.node_state_file.specs.Spelling.{header_numbers, port_numbers}
-use Rattle.node_state_file.specs.declared.layout.Layout.TheVariants.{Tkt2}
-use Rattle.node_state_file.proofs.Numbers.{neighbour_below, port_more}
-use Rattle.node_state_file.proofs.Written.{on_ok}
-use Rattle.node_state_file.proofs.writing.numbers_of.Goals as goal
+use Rattle.state_writing.specs.Spelling.{header_numbers, port_numbers}
+use Rattle.state_writing.specs.declared.layout.Layout.TheVariants.{Tkt2}
+use Rattle.state_writing.proofs.Numbers.{neighbour_below, on_ok, port_more}
+use Rattle.state_writing.proofs.writing.numbers_of.Goals as goal
 
 pub port_numbers-requires : goal.port_numbers-requires
 port_numbers-requires g c =

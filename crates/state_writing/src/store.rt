@@ -1,6 +1,6 @@
 //! Where a node's state is kept.
 ghost use Rattle.std.specs.Prelude.{◌≡◌, ℕ, List, Option};
-ghost use Rattle.node_state_file.specs.Stores.{Loads, Saves};
+ghost use Rattle.state_writing.specs.Stores.{Loads, Saves};
 
 use crate::layout::LOADED_BYTES;
 use thiserror::Error;

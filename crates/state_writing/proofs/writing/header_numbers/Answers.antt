@@ -1,7 +1,7 @@
 use Rattle.std.proofs.Common.{rules, arith, ◌<◌, length}
 use Rattle.node_core.specs.View.{site_in}
-use Rattle.node_state_file.proofs.Neighbours.{fewer_than_nodes}
-use Rattle.node_state_file.proofs.writing.header_numbers.Goals as goal
+use Rattle.state_writing.proofs.Neighbours.{fewer_than_nodes}
+use Rattle.state_writing.proofs.writing.header_numbers.Goals as goal
 
 pub overflow_cast-result : goal.overflow_cast-result
 overflow_cast-result g c =

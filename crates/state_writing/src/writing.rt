@@ -5,8 +5,8 @@ ghost use Rattle.topology.specs.Network.{neighbours_of};
 ghost use Rattle.arrayvec.specs.ArrayVec.{array_vec_len};
 ghost use Rattle.node_core.specs.Site.{site_of};
 ghost use Rattle.node_core.specs.View.{site_in, state_of};
-ghost use Rattle.node_state_file.specs.Spelling.{spelling, header_numbers, port_numbers};
-ghost use Rattle.node_state_file.specs.declared.layout.Layout.TheVariants.{Tkt2};
+ghost use Rattle.state_writing.specs.Spelling.{spelling, header_numbers, port_numbers};
+ghost use Rattle.state_writing.specs.declared.layout.Layout.TheVariants.{Tkt2};
 
 use crate::layout::{Layout, MOST_BYTES};
 use crate::number::parent_number;

@@ -1,5 +1,5 @@
 -- The numbers of a file, port by port.
-use Rattle.std.proofs.Common.{◌≡◌, ◌<◌, ◌+◌, ◌∙◌, ap, sym, ℕ, List, [], ◌∷◌, ◌++◌, length, take, slice_index_or, Contains, append_assoc, append-nil}
+use Rattle.std.proofs.Common.{◌≡◌, ◌<◌, ◌+◌, ◌∙◌, ap, sym, ℕ, List, [], ◌∷◌, ◌++◌, length, take, slice_index_or, Contains, append_assoc, append-nil, Result, Ok, Err, IsOk, OnOk, arith}
 use Rattle.std.specs.List.{flat_map}
 use Rattle.std.proofs.lemmas.List.{take_more, get_or_default}
 use Rattle.std.proofs.lemmas.Grind.{flat_map-append}
@@ -22,3 +22,8 @@ port_more f front ns i below =
     ∙ ap (λ xs. front ++ (flat_map f (take i ns) ++ xs)) (sym (append-nil (f (slice_index_or ns i 0))))
     ∙ ap (λ xs. front ++ xs) (sym (flat_map-append f (take i ns) (slice_index_or ns i 0 ∷ [])))
     ∙ ap (λ xs. front ++ flat_map f xs) (sym (take_more ns i 0 below))
+
+-- if a call that answers Ok does something, it is done
+pub on_ok : {T E P : Type 0} (r : Result T E) → IsOk r → OnOk r P → P
+on_ok (Ok x) ok done = done
+on_ok (Err e) ok done = absurd (grind arith)

@@ -1,6 +1,6 @@
 use Rattle.std.proofs.Common.{rules, arith, ◌≡◌, ◌≤◌, ◌+◌, ◌-◌, ◌*◌, ◌++◌, ◌∙◌, length, drop}
 use Rattle.std.proofs.lemmas.Slice.{overwrites, drop-put_mid, drop-append-drop}
-use Rattle.node_state_file.proofs.writing.encode.Goals as goal
+use Rattle.state_writing.proofs.writing.encode.Goals as goal
 
 pub returns-clause-spelling : goal.returns-clause-spelling
 returns-clause-spelling g c = search (rules, overwrites)

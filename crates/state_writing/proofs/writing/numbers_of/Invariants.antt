@@ -2,9 +2,9 @@ use Rattle.std.proofs.Common.{◌≡◌, ◌++◌, ◌+◌, ◌*◌, take, lengt
 use Rattle.std.specs.List.{flat_map}
 use Rattle.arrayvec.specs.ArrayVec.{array_vec_len}
 use Rattle.node_core.specs.View.{site_in, state_of}
-use Rattle.node_state_file.specs.Spelling.{header_numbers, port_numbers}
-use Rattle.node_state_file.specs.declared.layout.Layout.TheVariants.{Tkt2}
-use Rattle.node_state_file.proofs.writing.numbers_of.Given as goal
+use Rattle.state_writing.specs.Spelling.{header_numbers, port_numbers}
+use Rattle.state_writing.specs.declared.layout.Layout.TheVariants.{Tkt2}
+use Rattle.state_writing.proofs.writing.numbers_of.Given as goal
 
 -- the numbers of the header and of the ports so far
 abbrev pub invariant-loop-w : goal.invariant-loop-w

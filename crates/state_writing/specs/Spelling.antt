@@ -6,8 +6,8 @@ use Rattle.byteorder.specs.Endian.{big_bytes}
 use Rattle.topology.specs.Network.{Network}
 use Rattle.topology.specs.declared.frame.Payload.{Payload}
 use Rattle.node_core.specs.State.{LocalState}
-use Rattle.node_state_file.specs.declared.layout.Layout.{Layout}
-use Rattle.node_state_file.specs.declared.layout.Layout.TheVariants.{Tkt1, Tkt2}
+use Rattle.state_writing.specs.declared.layout.Layout.{Layout}
+use Rattle.state_writing.specs.declared.layout.Layout.TheVariants.{Tkt1, Tkt2}
 
 -- the magic word of a layout
 abbrev pub magic : Layout → List ℕ

@@ -1,0 +1,4 @@
+pub mod Neighbours
+pub mod Numbers
+mod Rows
+mod RowsStores
