@@ -1,5 +1,6 @@
 -- The numbers of a file, port by port.
-use Rattle.std.proofs.Common.{◌≡◌, ◌<◌, ◌+◌, ◌∙◌, ap, sym, ℕ, List, [], ◌∷◌, ◌++◌, length, take, slice_index_or, Contains, append_assoc, append-nil, Result, Ok, Err, IsOk, OnOk, arith}
+use Rattle.std.proofs.Common.{◌≡◌, ◌<◌, ◌+◌, ◌∙◌, ap, sym, ℕ, List, [], ◌∷◌, ◌++◌, length, take, slice_index_or, Contains, append_assoc, append-nil}
+use Rattle.std.proofs.Common.{Result, Ok, Err, IsOk, OnOk, arith}
 use Rattle.std.specs.List.{flat_map}
 use Rattle.std.proofs.lemmas.List.{take_more, get_or_default}
 use Rattle.std.proofs.lemmas.Grind.{flat_map-append}

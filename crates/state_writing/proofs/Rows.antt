@@ -3,10 +3,12 @@ use Rattle.std.proofs.Common.{◌≡◌, ◌≢◌, ℕ, List, [], ◌∷◌, So
 use Rattle.topology.specs.Network.{Network}
 use Rattle.topology.specs.Ranges.{ranges_of}
 use Rattle.topology.specs.declared.frame.Payload.{Payload}
+use Rattle.node_core.specs.data_link.Port.{PortState}
 use Rattle.node_core.specs.State.{LocalState, default_node}
 use Rattle.state_writing.specs.declared.layout.Layout.TheVariants.{Tkt1, Tkt2}
 use Rattle.state_writing.specs.Files.{file_of}
-use Rattle.state_writing.specs.Spelling.{magic, capacity_numbers, parent_number, header_numbers, payload_numbers, port_numbers, spelling, written}
+use Rattle.state_writing.specs.Spelling.{magic, capacity_numbers, parent_number, header_numbers}
+use Rattle.state_writing.specs.Spelling.{payload_numbers, port_numbers, spelling, written}
 
 -- two nodes with a link of capacity 1
 abbrev two : Network
@@ -14,7 +16,9 @@ two = record { nodes = 2; root = 0; capacity = 1; lease = 0; edges = (0, 1) ∷ 
 
 -- the default state of node 1 of the two, in the layout that is written
 abbrev newer : List ℕ
-newer = 84 ∷ 75 ∷ 84 ∷ 50 ∷ 0 ∷ 2 ∷ 0 ∷ 1 ∷ 0 ∷ 1 ∷ 0 ∷ 1 ∷ 0 ∷ 2 ∷ 255 ∷ 255 ∷ 0 ∷ 0 ∷ 0 ∷ 0 ∷ 0 ∷ 0 ∷ 0 ∷ 2 ∷ 255 ∷ 255 ∷ 0 ∷ 0 ∷ 0 ∷ 2 ∷ 255 ∷ 255 ∷ 0 ∷ 0 ∷ 0 ∷ 0 ∷ []
+newer =
+    84 ∷ 75 ∷ 84 ∷ 50 ∷ 0 ∷ 2 ∷ 0 ∷ 1 ∷ 0 ∷ 1 ∷ 0 ∷ 1 ∷ 0 ∷ 2 ∷ 255 ∷ 255
+    ∷ 0 ∷ 0 ∷ 0 ∷ 0 ∷ 0 ∷ 0 ∷ 0 ∷ 2 ∷ 255 ∷ 255 ∷ 0 ∷ 0 ∷ 0 ∷ 2 ∷ 255 ∷ 255 ∷ 0 ∷ 0 ∷ 0 ∷ 0 ∷ []
 
 -- ---- words and numbers
 
@@ -54,10 +58,16 @@ payload = record { distance = 1; parent = Some 0; ring = 6 }
 payload-numbers : payload_numbers payload ≡ 1 ∷ 0 ∷ 6 ∷ []
 payload-numbers = refl
 
--- a port to node 0: number 3, last 2, staged with the ring value 6, copied with 4, the value 5
-port-numbers : port_numbers (record near_root { port = λ w. record { seq = 3; last = 2; staged = payload; copy = record payload { ring = 4 } }; value = λ w. 5 }) 0
-    ≡ 0 ∷ 3 ∷ 2 ∷ 1 ∷ 0 ∷ 6 ∷ 1 ∷ 0 ∷ 4 ∷ 5 ∷ []
+-- the number 3, the last one 2, staged with the ring value 6, copied with 4; and the value 5 comes in there
+abbrev port : PortState
+port = record { seq = 3; last = 2; staged = payload; copy = record payload { ring = 4 } }
+
+port-numbers : port_numbers (record near_root { port = λ w. port; value = λ w. 5 }) 0 ≡ 0 ∷ 3 ∷ 2 ∷ 1 ∷ 0 ∷ 6 ∷ 1 ∷ 0 ∷ 4 ∷ 5 ∷ []
 port-numbers = refl
+
+-- what is staged stands in front of what was copied
+port_not-turned : port_numbers (record near_root { port = λ w. port; value = λ w. 5 }) 0 ≢ 0 ∷ 3 ∷ 2 ∷ 1 ∷ 0 ∷ 4 ∷ 1 ∷ 0 ∷ 6 ∷ 5 ∷ []
+port_not-turned = grind arith
 
 -- ---- what is written
 
