@@ -23,6 +23,7 @@
 //! owner can enter it.
 #![tactic(auto)]
 
+mod doors;
 mod journal;
 mod names;
 pub mod node;

@@ -1,14 +1,15 @@
 //! The names of a running node's sockets: a name that leads elsewhere is taken back.
 ghost use Rattle.std.specs.Prelude.{◌≡◌, ◌↔◌, true, false, IfOk, IsErr, IsTrue};
+ghost use Rattle.record_files.specs.process_parts.Rights.{own_mode, clients_mode};
 
+use crate::doors::ProcessDoors;
 use network_news::FileNews;
 use record_files::process_parts::{
-    Complaint, FileId, FileSight, Lost, NodePaths, Place, bind_again, sight_at,
+    Complaint, FileId, FileSight, Lost, NodePaths, Place, Rights, bind_again, sight_at,
 };
 use std::net::Net as Sockets;
 use std::rt::Files;
 use std::{fmt, io};
-use unix_doors::UnixDoors;
 
 /// The name of a socket.
 #[derive(Drop)]
@@ -40,6 +41,22 @@ impl<'a> Name<'a> {
         sight_at(files, self.path, self.file)
     }
 
+    /// Makes a new socket for it, if it is lost.
+    fn take_back<R: Files + Sockets + Eprint, D: ProcessDoors>(
+        &mut self,
+        rt: &R,
+        doors: &mut D,
+        whom: Whom,
+        is_lost: bool,
+    )
+        ensures { is_lost ≡ false → self.new ≡ self.old }
+    {
+        if is_lost {
+            let heard = hear(rt, doors, self, whom);
+            self.note(rt, heard);
+        }
+    }
+
     /// Takes note of the file of a socket that was made again. If none could be made, it says so
     /// the first time.
     fn note<R: Eprint>(&mut self, rt: &R, made: io::Result<FileId>)
@@ -55,6 +72,17 @@ impl<'a> Name<'a> {
             let _ = rt.eprintln(Blocked { path: self.path });
         }
     }
+}
+
+/// The files of a node's sockets.
+#[derive(Clone, Copy)]
+pub struct NameFiles {
+    /// Of that for neighbours.
+    pub links: FileId,
+    /// Of that for clients.
+    pub clients: FileId,
+    /// Of that for whoever looks.
+    pub looks: FileId,
 }
 
 /// The names of a running node.
@@ -75,12 +103,34 @@ pub struct Names<'a> {
 }
 
 impl<'a> Names<'a> {
+    /// The names of sockets that were just made with these rights, and lead to these files.
+    pub fn new(
+        paths: &'a NodePaths,
+        place: &'a Place,
+        rights: Rights,
+        files: NameFiles,
+    ) -> Names<'a>
+        ensures files { (result.links.file ≡ files.links) × (result.clients.file ≡ files.clients)
+            × (result.looks.file ≡ files.looks) }
+        ensures modes { (result.links.mode ≡ own_mode rights)
+            × (result.clients.mode ≡ clients_mode rights) × (result.looks.mode ≡ own_mode rights) }
+    {
+        Names {
+            paths,
+            place,
+            links: Name::new(paths.links.as_str(), rights.own(), files.links),
+            clients: Name::new(paths.clients.as_str(), rights.clients(), files.clients),
+            looks: Name::new(paths.looks.as_str(), rights.own(), files.looks),
+            news: FileNews::new(),
+        }
+    }
+
     /// Makes a new socket for each name that is lost. What fails now is tried again at the next
     /// look.
-    pub fn take_back<R: Files + Sockets + Eprint>(
+    pub fn take_back<R: Files + Sockets + Eprint, D: ProcessDoors>(
         &mut self,
-        rt: &'a R,
-        doors: &mut UnixDoors<'a, R>,
+        rt: &R,
+        doors: &mut D,
         lost: Lost,
     )
         ensures place { (self.new.paths ≡ self.old.paths) × (self.new.place ≡ self.old.place)
@@ -89,43 +139,34 @@ impl<'a> Names<'a> {
         ensures clients { lost.clients ≡ false → self.new.clients ≡ self.old.clients }
         ensures looks { lost.looks ≡ false → self.new.looks ≡ self.old.looks }
     {
-        if lost.links {
-            let heard = hear(rt, doors, &self.links, Whom::Neighbours);
-            self.links.note(rt, heard);
-        }
-        if lost.clients {
-            let heard = hear(rt, doors, &self.clients, Whom::Clients);
-            self.clients.note(rt, heard);
-        }
-        if lost.looks {
-            let heard = hear(rt, doors, &self.looks, Whom::Lookers);
-            self.looks.note(rt, heard);
-        }
+        self.links
+            .take_back(rt, doors, Whom::Neighbours, lost.links);
+        self.clients
+            .take_back(rt, doors, Whom::Clients, lost.clients);
+        self.looks.take_back(rt, doors, Whom::Lookers, lost.looks);
     }
 }
 
 /// For whom a socket is.
 #[derive(Clone, Copy)]
-enum Whom {
+pub enum Whom {
+    /// Its neighbours.
     Neighbours,
+    /// Its clients.
     Clients,
+    /// Whoever looks.
     Lookers,
 }
 
 /// Makes a socket of this name, and listens at it.
-fn hear<'a, R: Files + Sockets>(
-    rt: &'a R,
-    doors: &mut UnixDoors<'a, R>,
+fn hear<R: Files + Sockets, D: ProcessDoors>(
+    rt: &R,
+    doors: &mut D,
     name: &Name<'_>,
     whom: Whom,
 ) -> io::Result<FileId> {
     let made = bind_again(rt, name.path, name.mode)?;
-    match whom {
-        Whom::Neighbours => doors.listen_for_links(made.socket)?,
-        Whom::Clients => doors.listen_for_clients(made.socket)?,
-        Whom::Lookers => doors.listen_for_looks(made.socket)?,
-    }
-    Ok(made.file)
+    doors.listen(whom, made)
 }
 
 /// The line which says that a socket of a running node is gone, and cannot be made again.

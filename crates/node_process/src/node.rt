@@ -1,5 +1,8 @@
 //! `node FILE ID DIR`: a node of a network as a process.
 ghost use Rattle.std.specs.Prelude.{◌≡◌, ◌↔◌, ◌<◌, ◌≤◌, ◌⊎◌, true, false, Some, None, IfOk, IfErr, IsTrue};
+ghost use Rattle.std.specs.Prelude.{length};
+ghost use Rattle.node_core.specs.Site.{site_of};
+ghost use Rattle.node_core.specs.View.{site_in};
 ghost use Rattle.topology.specs.Change.{is_same_frame};
 ghost use Rattle.record_files.specs.process_parts.node_keeping.AfterSave.{looks_for_stop};
 ghost use Rattle.record_files.specs.process_parts.node_keeping.declared.saved.StopSight.TheVariants.{Absent};
@@ -9,14 +12,16 @@ ghost use Rattle.record_files.specs.process_parts.declared.fault.NodeFault.TheVa
 ghost use Rattle.record_files.specs.process_parts.declared.start.Stage.TheVariants.{Begun, Checked, Held};
 ghost use Rattle.record_files.specs.process_parts.declared.start.Stage.TheVariants.{Listening, Ready};
 
-use crate::names::{Name, Names};
+use crate::doors::ProcessDoors;
+use crate::names::{NameFiles, Names};
 use crate::observer::Observer;
 use crate::window::Window;
 use held_signals::state_now;
 use look_window::{COMERS, is_let_in, show};
 use network_news::{FileNews, found_in, news_line};
-use node_loop::NodeRun;
-use node_state_file::{FileStore, start};
+use node_core::Node;
+use node_loop::{Doors, NodeRun};
+use node_state_file::{FileStore, StartFault, Started, Store, start};
 use record_files::process_parts::{
     AfterSave, Listeners, NetworkFault, NodeFault, NodePaths, NodeWords, Note, NoteLine, Place,
     Sights, Stage, StopSight, addresses_of, after_save, check_names, fault_of, hold_place,
@@ -109,25 +114,48 @@ where
     requires node { words.now.id < net.nodes }
     requires held { stage ≡ Held }
 {
-    let (mut run, mut names) = start_node(rt, words, paths, place, net, &mut stage)?;
-    let end = match watched(rt, words, &run) {
-        Ok(mut observer) => run_turns(rt, words, &mut observer, &mut names, &mut run),
-        Err(fault) => return Err(fault),
-    };
-    if end != AfterSave::Displaced {
-        remove_sockets(rt, paths);
+    match start_node(rt, words, paths, place, net, &mut stage) {
+        Ok((mut run, mut names)) => {
+            let ended = run_started(rt, words, paths, &mut names, &mut run);
+            drop(names);
+            drop(run);
+            ended
+        }
+        Err(fault) => Err(fault),
     }
-    fault_of_end(end)
+}
+
+/// Runs a node that has started, until it must end. Then its sockets are removed, unless they may be
+/// another's.
+fn run_started<R, D: ProcessDoors, S: Store + Drop>(
+    rt: &R,
+    words: &NodeWords<'_>,
+    paths: &NodePaths,
+    names: &mut Names<'_>,
+    run: &mut NodeRun<D, S>,
+) -> Result<(), NodeFault>
+where
+    R: Files<File = File> + Sockets + Clock + Env + Input + Eprint + AllocGlobal,
+{
+    match watched(rt, words, run) {
+        Ok(mut observer) => {
+            let end = run_turns(rt, words, &mut observer, names, run);
+            drop(observer);
+            remove_own_sockets(rt, paths, end);
+            fault_of_end(end)
+        }
+        Err(fault) => Err(fault),
+    }
 }
 
 /// What watches a node that starts now with these words.
 ///
 /// # Errors
 /// If the system gives no clock, or it keeps a record and memory runs out.
-fn watched<'a, 'w, R>(
+fn watched<'a, 'w, R, D: Doors, S: Store + Drop>(
     rt: &'a R,
     words: &NodeWords<'w>,
-    run: &Run<'a, R>,
+    run: &NodeRun<D, S>,
 ) -> Result<Observer<'a, 'w, R>, NodeFault>
 where
     R: Files<File = File> + Sockets + Clock + Env + Eprint + AllocGlobal,
@@ -137,6 +165,13 @@ where
     match Stopwatch::start(rt) {
         Ok(watch) => Observer::open(rt, words, watch, run),
         Err(_) => Err(NodeFault::System),
+    }
+}
+
+/// Removes the sockets of a node that ends like this, unless they may be another's.
+fn remove_own_sockets<F: Files>(files: &F, paths: &NodePaths, end: AfterSave) {
+    if end != AfterSave::Displaced {
+        remove_sockets(files, paths);
     }
 }
 
@@ -175,28 +210,83 @@ where
     ensures ok { IfOk result (λ _. stage.new ≡ Ready) }
     ensures err { IfErr result (λ fault. may_end stage.new fault ≡ true) }
 {
-    let alloc: Global = rt.alloc();
     let mut store = FileStore::new(rt, paths.state.as_str());
-    let started = start(alloc, &mut store, &net, words.id)?;
-    let (doors, names) = open_doors(rt, words, paths, place, &net, stage)?;
-    let Ok(run) = NodeRun::new(alloc, net, started.state, doors, store, words.manner) else {
-        return Err(NodeFault::Memory);
-    };
-    say(rt, words, Note::Started(started.fault));
-    say_ready(rt, words, stage);
-    Ok((run, names))
+    match start(rt.alloc(), &mut store, &net, words.id) {
+        Ok(started) => open_node(rt, words, paths, place, net, started, store, stage),
+        Err(_) => {
+            drop(net);
+            Err(NodeFault::Memory)
+        }
+    }
 }
 
-/// Makes the node's sockets. A child then watches its input; any other node warns here if its
-/// links are small.
-fn open_doors<'a, R>(
+/// Opens the doors of a node that starts so, and says both.
+fn open_node<'a, R>(
     rt: &'a R,
     words: &NodeWords<'_>,
     paths: &'a NodePaths,
     place: &'a Place,
+    net: Net,
+    started: Started<Global>,
+    store: FileStore<'a, R>,
+    stage: &mut Stage,
+) -> Result<(Run<'a, R>, Names<'a>), NodeFault>
+where
+    R: Files + Sockets + Env + Print + Eprint + AllocGlobal,
+    requires wired { site_in started.state ≡ site_of net words.now.id }
+    requires held { stage.old ≡ Held }
+    ensures ok { IfOk result (λ _. stage.new ≡ Ready) }
+    ensures err { IfErr result (λ fault. may_end stage.new fault ≡ true) }
+{
+    match open_doors(rt, words, paths, &net, stage) {
+        Ok((doors, files)) => {
+            let fault = started.fault;
+            match made_run(rt.alloc(), words, net, started.state, doors, store) {
+                Ok(run) => {
+                    say_ready(rt, words, fault, stage);
+                    Ok((run, Names::new(paths, place, words.rights, files)))
+                }
+                Err(fault) => Err(fault),
+            }
+        }
+        Err(fault) => {
+            drop(started);
+            drop(net);
+            Err(fault)
+        }
+    }
+}
+
+/// A node of this network over these doors, in the manner of these words.
+fn made_run<D: Doors, S: Store + Drop>(
+    alloc: Global,
+    words: &NodeWords<'_>,
+    net: Net,
+    state: Node,
+    doors: D,
+    store: S,
+) -> Result<NodeRun<D, S>, NodeFault>
+    requires { site_in state ≡ site_of net (site_in state).id }
+    ensures { IfErr result (λ fault. fault ≡ Memory) }
+{
+    match NodeRun::new(alloc, net, state, doors, store, words.manner) {
+        Ok(run) => Ok(run),
+        Err(unmade) => {
+            drop(unmade);
+            Err(NodeFault::Memory)
+        }
+    }
+}
+
+/// Makes the node's sockets. A child then watches its input; any other node warns here if its
+/// links are small. Answers also the sockets' files.
+fn open_doors<'a, R>(
+    rt: &'a R,
+    words: &NodeWords<'_>,
+    paths: &NodePaths,
     net: &Net,
     stage: &mut Stage,
-) -> Result<(UnixDoors<'a, R>, Names<'a>), NodeFault>
+) -> Result<(UnixDoors<'a, R>, NameFiles), NodeFault>
 where
     R: Files + Sockets + Eprint + AllocGlobal,
     requires { stage.old ≡ Held }
@@ -204,23 +294,44 @@ where
     ensures err { IfErr result (λ fault. may_end stage.new fault ≡ true) }
 {
     let addresses = addresses_of(rt.alloc(), words.dir, net.nodes())?;
-    let rights = words.rights;
-    let made = make_sockets(rt, paths, rights, stage)?;
-    let names = Names {
-        paths,
-        place,
-        links: Name::new(paths.links.as_str(), rights.own(), made.links),
-        clients: Name::new(paths.clients.as_str(), rights.clients(), made.clients),
-        looks: Name::new(paths.looks.as_str(), rights.own(), made.looks),
-        news: FileNews::new(),
-    };
-    let mut doors = make_doors(rt, made.listeners, addresses)?;
+    match make_sockets(rt, paths, words.rights, stage) {
+        Ok(made) => {
+            let files = NameFiles {
+                links: made.links,
+                clients: made.clients,
+                looks: made.looks,
+            };
+            match heedful(rt, words, net, made.listeners, addresses) {
+                Ok(doors) => Ok((doors, files)),
+                Err(fault) => Err(fault),
+            }
+        }
+        Err(fault) => {
+            drop(addresses);
+            Err(fault)
+        }
+    }
+}
+
+/// Doors over sockets that listen, which watch the input of a child. Any other node warns here if its
+/// links are small.
+fn heedful<'a, R: Sockets + Eprint + AllocGlobal>(
+    rt: &'a R,
+    words: &NodeWords<'_>,
+    net: &Net,
+    listeners: Listeners,
+    addresses: Vec<SocketAddr>,
+) -> Result<UnixDoors<'a, R>, NodeFault>
+    ensures { IfErr result (λ fault. may_end Listening fault ≡ true) }
+{
+    let mut doors = make_doors(rt, listeners, addresses)?;
     if !words.is_child {
         warn_of_capacity(rt, net.capacity());
     } else if doors.watch_input().is_err() {
+        drop(doors);
         return Err(NodeFault::Input);
     }
-    Ok((doors, names))
+    Ok(doors)
 }
 
 /// Doors over sockets that listen.
@@ -238,20 +349,20 @@ fn make_doors<'a, R: Sockets + AllocGlobal>(
 }
 
 /// Takes turns until the node must end, and says how it ends.
-fn run_turns<'a, R: Files<File = File> + Sockets + Clock + Input + Eprint + AllocGlobal>(
-    rt: &'a R,
+fn run_turns<R, D: ProcessDoors, S: Store + Drop>(
+    rt: &R,
     words: &NodeWords<'_>,
-    observer: &mut Observer<'a, '_, R>,
-    names: &mut Names<'a>,
-    run: &mut Run<'a, R>,
-) -> AfterSave {
+    observer: &mut Observer<'_, '_, R>,
+    names: &mut Names<'_>,
+    run: &mut NodeRun<D, S>,
+) -> AfterSave
+where
+    R: Files<File = File> + Sockets + Clock + Input + Eprint + AllocGlobal,
+{
     for _ in 0..u64::MAX {
-        run.wait(observer.watch.last());
-        let now = observer.watch.now();
-        if !run.is_turn_due(now) {
-            run.attend(now, &mut observer.notes);
-            observer.attended(run, now);
-        } else if take_turn(rt.alloc(), observer, run, now) {
+        if let Some(now) = observer.awaits_turn(run)
+            && take_turn(rt.alloc(), observer, run, now)
+        {
             let next = look(rt, words, names, run);
             observer.rewired(words, run);
             if ends(next) {
@@ -267,12 +378,14 @@ fn run_turns<'a, R: Files<File = File> + Sockets + Clock + Input + Eprint + Allo
 /// stands then.
 /// Returns whether to look at the node's files now: after each 256th turn, whatever the store
 /// answered.
-fn take_turn<'a, R: Files<File = File> + Sockets + Clock + Eprint + AllocGlobal>(
+fn take_turn<R, D: ProcessDoors, S: Store + Drop>(
     alloc: Global,
-    observer: &mut Observer<'a, '_, R>,
-    run: &mut Run<'a, R>,
+    observer: &mut Observer<'_, '_, R>,
+    run: &mut NodeRun<D, S>,
     now: u64,
 ) -> bool
+where
+    R: Files<File = File> + Clock + Eprint + AllocGlobal,
     ensures { IsTrue result ↔ (run.old.turns ≡ 255) }
 {
     let turned = run.turn(now, &mut observer.notes);
@@ -288,21 +401,27 @@ fn take_turn<'a, R: Files<File = File> + Sockets + Clock + Eprint + AllocGlobal>
 }
 
 /// Shows all lookers how the node stands. If memory is refused, they wait.
-fn show_all<'a, R: Files + Sockets>(
+fn show_all<D: ProcessDoors, S: Store + Drop>(
     alloc: Global,
     window: &Window<'_>,
-    run: &mut Run<'a, R>,
+    run: &mut NodeRun<D, S>,
     now: u64,
 ) {
-    let Ok(line) = window.line(alloc, run, now) else {
-        return;
-    };
+    if let Ok(line) = window.line(alloc, run, now) {
+        show_line(run.doors(), line.as_bytes());
+    }
+}
+
+/// Shows a line to all lookers.
+fn show_line<D: ProcessDoors>(doors: &mut D, line: &[u8])
+    requires { 0 < length line.now }
+{
     for place in 0..COMERS {
-        let Some(mut looker) = run.doors().looker() else {
+        let Some(mut looker) = doors.looker() else {
             return;
         };
         if is_let_in(place) {
-            let _whole = show(&mut looker, line.as_bytes());
+            let _whole = show(&mut looker, line);
         }
     }
 }
@@ -316,14 +435,14 @@ fn ends(next: AfterSave) -> bool
 
 /// Looks at the node's files after a turn that saved, and does what it must if it runs on. Returns
 /// what it does next.
-fn look<'a, R>(
-    rt: &'a R,
+fn look<R, D: ProcessDoors, S: Store + Drop>(
+    rt: &R,
     words: &NodeWords<'_>,
-    names: &mut Names<'a>,
-    run: &mut Run<'a, R>,
+    names: &mut Names<'_>,
+    run: &mut NodeRun<D, S>,
 ) -> AfterSave
 where
-    R: Files + Sockets + Clock + Input + Eprint + AllocGlobal,
+    R: Files + Sockets + Input + Eprint + AllocGlobal,
     ensures { IsTrue (ends_by result) → names.new ≡ names.old }
 {
     let next = after_save(see(rt, words, names, run.doors()));
@@ -337,14 +456,12 @@ where
 
 /// What a node sees after a turn that saved. It touches no file in another's folder. A node that
 /// `up` started is asked to end by the end of its input, or by a SIGTERM, which it holds back.
-fn see<'a, R>(
-    rt: &'a R,
+fn see<R: Files + Input + AllocGlobal, D: ProcessDoors>(
+    rt: &R,
     words: &NodeWords<'_>,
-    names: &Names<'a>,
-    doors: &mut UnixDoors<'a, R>,
+    names: &Names<'_>,
+    doors: &mut D,
 ) -> Sights
-where
-    R: Files + Sockets + Input + AllocGlobal,
     ensures { looks_for_stop result.place ≡ false → result.stop ≡ Absent }
 {
     let place = names.place.sight(rt, names.paths.lock.as_str());
@@ -375,11 +492,11 @@ fn look_for_stop<F: Files>(files: &F, stop: &str) -> StopSight {
 /// Reads the network file again, takes over its edges, and says what is new in it. An invalid
 /// file, a network that differs in more than edges, and edges that the node already has change
 /// nothing.
-fn rewire_by_file<'a, R: Files + Sockets + Eprint + AllocGlobal>(
+fn rewire_by_file<R: Files + Eprint + AllocGlobal, D: Doors, S: Store + Drop>(
     rt: &R,
     words: &NodeWords<'_>,
     news: &mut FileNews,
-    run: &mut Run<'a, R>,
+    run: &mut NodeRun<D, S>,
 )
     // Nothing but its edges ever changes.
     ensures { IsTrue (is_same_frame run.old.net run.new.net) }
@@ -405,12 +522,18 @@ fn say_news<R: Eprint + AllocGlobal>(
     }
 }
 
-/// Says that the node is ready: its sockets listen. A service manager that started it learns it
-/// too.
-fn say_ready<R: Env + Print + AllocGlobal>(rt: &R, words: &NodeWords<'_>, stage: &mut Stage)
+/// Says with which state the node starts, and that it is ready: its sockets listen. A service manager
+/// that started it learns that it is.
+fn say_ready<R: Env + Print + AllocGlobal>(
+    rt: &R,
+    words: &NodeWords<'_>,
+    fault: Option<StartFault>,
+    stage: &mut Stage,
+)
     requires { stage.old ≡ Listening }
     ensures { stage.new ≡ Ready }
 {
+    say(rt, words, Note::Started(fault));
     say(rt, words, Note::Ready);
     if !words.is_child {
         tell_ready(rt);

@@ -57,6 +57,21 @@ impl<'a, 'w, R: Files<File = File> + Clock + Eprint + AllocGlobal> Observer<'a, 
         })
     }
 
+    /// Waits until something may have come to the node. If its next turn is due then, answers when that
+    /// begins; else the node does what it must between turns.
+    pub fn awaits_turn<D: Doors, S: Store + Drop>(&mut self, run: &mut NodeRun<D, S>) -> Option<u64>
+        ensures off { self.old.tape ≡ None → self.new.tape ≡ None }
+    {
+        run.wait(self.watch.last());
+        let now = self.watch.now();
+        if run.is_turn_due(now) {
+            return Some(now);
+        }
+        run.attend(now, &mut self.notes);
+        self.attended(run, now);
+        None
+    }
+
     /// The node did something that is no turn, and began it at this time.
     pub fn attended<D: Doors, S: Store + Drop>(&mut self, run: &NodeRun<D, S>, now: u64)
         ensures journal { self.new.journal ≡ self.old.journal }
@@ -122,5 +137,11 @@ fn recording<'a, R: Files<File = File> + Clock + Eprint + AllocGlobal, D: Doors,
         return Ok((Notes::none(), None));
     };
     let tape = Tape::open(rt, words, size, run, now)?;
-    Ok((Notes::with_room(rt.alloc())?, Some(tape)))
+    match Notes::with_room(rt.alloc()) {
+        Ok(notes) => Ok((notes, Some(tape))),
+        Err(_) => {
+            drop(tape);
+            Err(NodeFault::Memory)
+        }
+    }
 }

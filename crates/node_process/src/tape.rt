@@ -12,6 +12,7 @@ ghost use Rattle.node_process.specs.Noted.{is_linked, is_seen_up, link_changes, 
 ghost use Rattle.node_process.specs.Noted.{RecordsTurn};
 ghost use Rattle.record_files.specs.Files.{file_bytes, AreFirstPages};
 
+use node_core::Node;
 use node_loop::{Doors, NodeRun, Notes};
 use node_state_file::Store;
 use record_files::node_recorder::{Deed, NodeRecorder, is_quiet, network_mark};
@@ -19,6 +20,7 @@ use record_files::process_parts::{NodeFault, NodeWords, RecordSize};
 use record_files::{
     KeepWords, NotKept, RecordFiles, RecordNames, first_pages, keep_network, micros_now,
 };
+use std::alloc::AllocError;
 use std::fmt::Display;
 use std::fs::File;
 use std::rt::{Clock, Files};
@@ -59,20 +61,25 @@ impl<'a, R: Files<File = File> + Clock + Eprint + AllocGlobal> Tape<'a, R> {
     ) -> Result<Tape<'a, R>, NodeFault>
         ensures { IfOk result (λ tape. AreFirstPages (file_bytes size) tape.recorder.pages) }
     {
-        let (alloc, id) = (rt.alloc(), run.node().id());
+        let id = run.node().id();
         if id >= run.net().nodes() {
             return Err(NodeFault::NoNode(run.net().nodes()));
         }
         keep(rt, words, run.net());
-        let names = RecordNames::new(alloc, words.dir, id)?;
-        let pages = first_pages(rt, &names, size, network_mark(run.net()), id)?;
-        Ok(Tape {
-            rt,
-            recorder: NodeRecorder::new(alloc, run.net(), run.node(), pages)?,
-            files: RecordFiles::new(names),
-            start: micros_now(rt).unwrap_or(0).saturating_sub(now),
-            linked: [false; NODES],
-        })
+        let names = RecordNames::new(rt.alloc(), words.dir, id)?;
+        match first_recorder(rt, &names, size, run.net(), run.node()) {
+            Ok(recorder) => Ok(Tape {
+                rt,
+                recorder,
+                files: RecordFiles::new(names),
+                start: micros_now(rt).unwrap_or(0).saturating_sub(now),
+                linked: [false; NODES],
+            }),
+            Err(_) => {
+                drop(names);
+                Err(NodeFault::Memory)
+            }
+        }
     }
 
     /// The node took a turn, or did something between two turns, and noted its deeds. `now` is when
@@ -116,6 +123,17 @@ impl<'a, R: Files<File = File> + Clock + Eprint + AllocGlobal> Tape<'a, R> {
             instant,
         );
         self.note_links(run, may_wait, instant);
+        self.write_if_due(is_quiet);
+    }
+
+    /// Writes the page if it is due after a turn that was quiet, or was not. A record that has stopped in the
+    /// turn says so.
+    fn write_if_due(&mut self, is_quiet: bool)
+        ensures written { is_due is_quiet self.new.recorder.pages ≡ false }
+        ensures backlog { self.new.recorder.backlog ≡ self.old.recorder.backlog }
+        ensures recorder { IsWrittenOrNot self.old.recorder self.new.recorder }
+        ensures linked { self.new.linked ≡ self.old.linked }
+    {
         if self.recorder.pages().is_stopped() {
             self.stop(&"a turn has no room in a page");
         } else if self.recorder.pages().is_due(is_quiet) {
@@ -225,6 +243,21 @@ impl<'a, R: Files<File = File> + Clock + Eprint + AllocGlobal> Tape<'a, R> {
             "tokentree: {path}: the record ends, and the node runs on: {why}"
         );
     }
+}
+
+/// The recorder of a node that starts, in files of these names. `AllocError` comes only if memory runs out.
+fn first_recorder<R: Files + AllocGlobal>(
+    rt: &R,
+    names: &RecordNames,
+    size: RecordSize,
+    net: &Net,
+    node: &Node,
+) -> Result<NodeRecorder, AllocError>
+    requires { (site_in node.now).id < net.now.nodes }
+    ensures { IfOk result (λ recorder. AreFirstPages (file_bytes size) recorder.pages) }
+{
+    let pages = first_pages(rt, names, size, network_mark(net), node.id())?;
+    NodeRecorder::new(rt.alloc(), net, node, pages)
 }
 
 /// Whether a link is seen and up.
