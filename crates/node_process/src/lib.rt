@@ -28,6 +28,7 @@ mod journal;
 mod names;
 pub mod node;
 mod observer;
+mod start;
 mod tape;
 mod window;
 

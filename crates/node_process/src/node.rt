@@ -1,44 +1,32 @@
 //! `node FILE ID DIR`: a node of a network as a process.
-ghost use Rattle.std.specs.Prelude.{◌≡◌, ◌↔◌, ◌<◌, ◌≤◌, ◌⊎◌, true, false, Some, None, IfOk, IfErr, IsTrue};
-ghost use Rattle.std.specs.Prelude.{length};
-ghost use Rattle.node_core.specs.Site.{site_of};
-ghost use Rattle.node_core.specs.View.{site_in};
+ghost use Rattle.std.specs.Prelude.{◌≡◌, ◌↔◌, ◌<◌, false, Some, None, IfOk, IfErr, IsTrue, length};
 ghost use Rattle.topology.specs.Change.{is_same_frame};
 ghost use Rattle.record_files.specs.process_parts.node_keeping.AfterSave.{looks_for_stop};
 ghost use Rattle.record_files.specs.process_parts.node_keeping.declared.saved.StopSight.TheVariants.{Absent};
-ghost use Rattle.record_files.specs.process_parts.Start.{may_end};
+ghost use Rattle.record_files.specs.process_parts.declared.start.Stage.TheVariants.{Held};
 ghost use Rattle.node_process.specs.Ends.{end_fault, ends_by};
-ghost use Rattle.record_files.specs.process_parts.declared.fault.NodeFault.TheVariants.{NoNode, Memory, System};
-ghost use Rattle.record_files.specs.process_parts.declared.start.Stage.TheVariants.{Begun, Checked, Held};
-ghost use Rattle.record_files.specs.process_parts.declared.start.Stage.TheVariants.{Listening, Ready};
 
 use crate::doors::ProcessDoors;
-use crate::names::{NameFiles, Names};
+use crate::names::Names;
 use crate::observer::Observer;
-use crate::window::Window;
+use crate::start::{FolderOpener, Opener, Seat, check_words, start_node, take_place};
 use held_signals::state_now;
 use look_window::{COMERS, is_let_in, show};
 use network_news::{FileNews, found_in, news_line};
-use node_core::Node;
 use node_loop::{Doors, NodeRun};
-use node_state_file::{FileStore, StartFault, Started, Store, start};
+use node_state_file::{FileStore, Store};
 use record_files::process_parts::{
-    AfterSave, Listeners, NetworkFault, NodeFault, NodePaths, NodeWords, Note, NoteLine, Place,
-    Sights, Stage, StopSight, addresses_of, after_save, check_names, fault_of, hold_place,
-    looks_for_stop, make_folder, make_sockets, read_network, remove, set_mode, warn_of_capacity,
+    AfterSave, NetworkFault, NodeFault, NodePaths, NodeWords, Sights, Stage, StopSight, after_save,
+    looks_for_stop, read_network, remove, set_mode,
 };
 use std::alloc::Global;
 use std::fs;
 use std::fs::File;
 use std::io::Input;
 use std::net::Net as Sockets;
-use std::os::unix::net::SocketAddr;
 use std::rt::{Clock, Env, Files};
 use topology::Net;
-use unix_doors::{Stopwatch, UnixDoors, tell_ready};
-
-/// A node that runs over sockets and a file.
-pub type Run<'a, R> = NodeRun<UnixDoors<'a, R>, FileStore<'a, R>>;
+use unix_doors::Stopwatch;
 
 /// Runs node ID of the network of FILE in DIR, until its stop file is there.
 ///
@@ -57,66 +45,59 @@ where
 {
     let mut stage = Stage::Begun;
     let net = check_words(rt, words, &mut stage)?;
-    make_folder(rt, words.dir, words.rights, &mut stage)?;
-    let paths = NodePaths::new(rt.alloc(), words.dir, words.id)?;
-    // Held until the node ends.
-    let place = hold_place(rt, paths.lock.as_str(), &mut stage)?;
-    run_in_place(rt, words, &paths, &place, net, stage)
-}
-
-/// Reads the network. Refuses an invalid file, an id that is no node's, and a folder whose name is
-/// too long.
-///
-/// # Errors
-/// Which of these it is; then nothing is made.
-fn check_words<R: Files + AllocGlobal>(
-    rt: &R,
-    words: &NodeWords<'_>,
-    stage: &mut Stage,
-) -> Result<Net, NodeFault>
-    requires { stage.old ≡ Begun }
-    ensures ok { IfOk result (λ net. (words.now.id < net.nodes) × (stage.new ≡ Checked)) }
-    ensures err { IfErr result (λ fault. (may_end Begun fault ≡ true) × (stage.new ≡ Begun)) }
-{
-    let net = match read_network(rt, words.file) {
-        Ok(net) => net,
-        Err(fault) => return Err(NodeFault::Network(fault)),
-    };
-    check_id(words.id, &net)?;
-    check_names(rt.alloc(), words.dir, net.nodes())?;
-    *stage = Stage::Checked;
-    Ok(net)
-}
-
-/// Refuses an id that is no node's.
-fn check_id(id: u16, net: &Net) -> Result<(), NodeFault>
-    ensures ok { IfOk result (λ _. id < net.now.nodes) }
-    ensures err { IfErr result (λ fault. (fault ≡ NoNode net.now.nodes) × (net.now.nodes ≤ id)) }
-{
-    if id < net.nodes() {
-        Ok(())
-    } else {
-        Err(NodeFault::NoNode(net.nodes()))
+    match take_place(rt, words, &mut stage) {
+        // The place is held until the node ends.
+        Ok((paths, place)) => {
+            let seat = Seat {
+                words,
+                paths: &paths,
+                place: &place,
+            };
+            let ended = run_over_files(rt, &seat, net, stage);
+            drop(place);
+            drop(paths);
+            ended
+        }
+        Err(fault) => {
+            drop(net);
+            Err(fault)
+        }
     }
 }
 
+/// Runs the node whose place is held, over sockets and a file of the folder.
+fn run_over_files<R>(rt: &R, seat: &Seat<'_, '_>, net: Net, stage: Stage) -> Result<(), NodeFault>
+where
+    R: Files<File = File> + Sockets + Clock + Env + Input + Print + Eprint + AllocGlobal,
+    requires node { seat.now.words.now.id < net.nodes }
+    requires held { stage ≡ Held }
+{
+    let opener = FolderOpener {
+        rt,
+        words: seat.words,
+        paths: seat.paths,
+    };
+    let store = FileStore::new(rt, seat.paths.state.as_str());
+    run_in_place(rt, seat, &opener, store, net, stage)
+}
+
 /// Runs the node whose place in the folder is held.
-fn run_in_place<'a, R>(
-    rt: &'a R,
-    words: &NodeWords<'_>,
-    paths: &'a NodePaths,
-    place: &'a Place,
+fn run_in_place<R, O: Opener, S: Store + Drop>(
+    rt: &R,
+    seat: &Seat<'_, '_>,
+    opener: &O,
+    store: S,
     net: Net,
     mut stage: Stage,
 ) -> Result<(), NodeFault>
 where
     R: Files<File = File> + Sockets + Clock + Env + Input + Print + Eprint + AllocGlobal,
-    requires node { words.now.id < net.nodes }
+    requires node { seat.now.words.now.id < net.nodes }
     requires held { stage ≡ Held }
 {
-    match start_node(rt, words, paths, place, net, &mut stage) {
+    match start_node(rt, seat, opener, store, net, &mut stage) {
         Ok((mut run, mut names)) => {
-            let ended = run_started(rt, words, paths, &mut names, &mut run);
+            let ended = run_started(rt, seat.words, seat.paths, &mut names, &mut run);
             drop(names);
             drop(run);
             ended
@@ -194,160 +175,6 @@ fn fault_of_end(end: AfterSave) -> Result<(), NodeFault>
     }
 }
 
-/// Loads the state, opens the doors, and says both.
-fn start_node<'a, R>(
-    rt: &'a R,
-    words: &NodeWords<'_>,
-    paths: &'a NodePaths,
-    place: &'a Place,
-    net: Net,
-    stage: &mut Stage,
-) -> Result<(Run<'a, R>, Names<'a>), NodeFault>
-where
-    R: Files + Sockets + Env + Print + Eprint + AllocGlobal,
-    requires node { words.now.id < net.nodes }
-    requires held { stage.old ≡ Held }
-    ensures ok { IfOk result (λ _. stage.new ≡ Ready) }
-    ensures err { IfErr result (λ fault. may_end stage.new fault ≡ true) }
-{
-    let mut store = FileStore::new(rt, paths.state.as_str());
-    match start(rt.alloc(), &mut store, &net, words.id) {
-        Ok(started) => open_node(rt, words, paths, place, net, started, store, stage),
-        Err(_) => {
-            drop(net);
-            Err(NodeFault::Memory)
-        }
-    }
-}
-
-/// Opens the doors of a node that starts so, and says both.
-fn open_node<'a, R>(
-    rt: &'a R,
-    words: &NodeWords<'_>,
-    paths: &'a NodePaths,
-    place: &'a Place,
-    net: Net,
-    started: Started<Global>,
-    store: FileStore<'a, R>,
-    stage: &mut Stage,
-) -> Result<(Run<'a, R>, Names<'a>), NodeFault>
-where
-    R: Files + Sockets + Env + Print + Eprint + AllocGlobal,
-    requires wired { site_in started.state ≡ site_of net words.now.id }
-    requires held { stage.old ≡ Held }
-    ensures ok { IfOk result (λ _. stage.new ≡ Ready) }
-    ensures err { IfErr result (λ fault. may_end stage.new fault ≡ true) }
-{
-    match open_doors(rt, words, paths, &net, stage) {
-        Ok((doors, files)) => {
-            let fault = started.fault;
-            match made_run(rt.alloc(), words, net, started.state, doors, store) {
-                Ok(run) => {
-                    say_ready(rt, words, fault, stage);
-                    Ok((run, Names::new(paths, place, words.rights, files)))
-                }
-                Err(fault) => Err(fault),
-            }
-        }
-        Err(fault) => {
-            drop(started);
-            drop(net);
-            Err(fault)
-        }
-    }
-}
-
-/// A node of this network over these doors, in the manner of these words.
-fn made_run<D: Doors, S: Store + Drop>(
-    alloc: Global,
-    words: &NodeWords<'_>,
-    net: Net,
-    state: Node,
-    doors: D,
-    store: S,
-) -> Result<NodeRun<D, S>, NodeFault>
-    requires { site_in state ≡ site_of net (site_in state).id }
-    ensures { IfErr result (λ fault. fault ≡ Memory) }
-{
-    match NodeRun::new(alloc, net, state, doors, store, words.manner) {
-        Ok(run) => Ok(run),
-        Err(unmade) => {
-            drop(unmade);
-            Err(NodeFault::Memory)
-        }
-    }
-}
-
-/// Makes the node's sockets. A child then watches its input; any other node warns here if its
-/// links are small. Answers also the sockets' files.
-fn open_doors<'a, R>(
-    rt: &'a R,
-    words: &NodeWords<'_>,
-    paths: &NodePaths,
-    net: &Net,
-    stage: &mut Stage,
-) -> Result<(UnixDoors<'a, R>, NameFiles), NodeFault>
-where
-    R: Files + Sockets + Eprint + AllocGlobal,
-    requires { stage.old ≡ Held }
-    ensures ok { IfOk result (λ _. stage.new ≡ Listening) }
-    ensures err { IfErr result (λ fault. may_end stage.new fault ≡ true) }
-{
-    let addresses = addresses_of(rt.alloc(), words.dir, net.nodes())?;
-    match make_sockets(rt, paths, words.rights, stage) {
-        Ok(made) => {
-            let files = NameFiles {
-                links: made.links,
-                clients: made.clients,
-                looks: made.looks,
-            };
-            match heedful(rt, words, net, made.listeners, addresses) {
-                Ok(doors) => Ok((doors, files)),
-                Err(fault) => Err(fault),
-            }
-        }
-        Err(fault) => {
-            drop(addresses);
-            Err(fault)
-        }
-    }
-}
-
-/// Doors over sockets that listen, which watch the input of a child. Any other node warns here if its
-/// links are small.
-fn heedful<'a, R: Sockets + Eprint + AllocGlobal>(
-    rt: &'a R,
-    words: &NodeWords<'_>,
-    net: &Net,
-    listeners: Listeners,
-    addresses: Vec<SocketAddr>,
-) -> Result<UnixDoors<'a, R>, NodeFault>
-    ensures { IfErr result (λ fault. may_end Listening fault ≡ true) }
-{
-    let mut doors = make_doors(rt, listeners, addresses)?;
-    if !words.is_child {
-        warn_of_capacity(rt, net.capacity());
-    } else if doors.watch_input().is_err() {
-        drop(doors);
-        return Err(NodeFault::Input);
-    }
-    Ok(doors)
-}
-
-/// Doors over sockets that listen.
-fn make_doors<'a, R: Sockets + AllocGlobal>(
-    rt: &'a R,
-    listeners: Listeners,
-    addresses: Vec<SocketAddr>,
-) -> Result<UnixDoors<'a, R>, NodeFault>
-    ensures { IfErr result (λ fault. (fault ≡ Memory) ⊎ (fault ≡ System)) }
-{
-    match UnixDoors::new(rt, rt.alloc(), listeners, addresses) {
-        Ok(doors) => Ok(doors),
-        Err(error) => Err(fault_of(error.kind())),
-    }
-}
-
 /// Takes turns until the node must end, and says how it ends.
 fn run_turns<R, D: ProcessDoors, S: Store + Drop>(
     rt: &R,
@@ -388,26 +215,25 @@ where
     R: Files<File = File> + Clock + Eprint + AllocGlobal,
     ensures { IsTrue result ↔ (run.old.turns ≡ 255) }
 {
-    let turned = run.turn(now, &mut observer.notes);
-    let ended = observer.watch.now();
-    observer.window.turn_ended(run, &turned, ended);
+    let turned = observer.take_turn(run, now);
     let clients = run.doors().look_at_clients();
-    observer.journal.turn_ended(run, &turned, clients, ended);
-    observer.record(run, turned.is_to_look(), now);
+    observer.turn_ended(run, &turned, clients, now);
     if run.doors().may_be_looked_at() {
-        show_all(alloc, &observer.window, run, ended);
+        show_all(alloc, observer, run);
     }
     turned.is_to_look()
 }
 
 /// Shows all lookers how the node stands. If memory is refused, they wait.
-fn show_all<D: ProcessDoors, S: Store + Drop>(
+fn show_all<R, D: ProcessDoors, S: Store + Drop>(
     alloc: Global,
-    window: &Window<'_>,
+    observer: &Observer<'_, '_, R>,
     run: &mut NodeRun<D, S>,
-    now: u64,
-) {
-    if let Ok(line) = window.line(alloc, run, now) {
+)
+where
+    R: Files<File = File> + Clock + Eprint + AllocGlobal,
+{
+    if let Ok(line) = observer.window.line(alloc, run, observer.watch.last()) {
         show_line(run.doors(), line.as_bytes());
     }
 }
@@ -519,33 +345,5 @@ fn say_news<R: Eprint + AllocGlobal>(
 ) {
     if let Ok(line) = news_line(rt.alloc(), words.id, words.file, own, read) {
         let _ = rt.eprintln(line);
-    }
-}
-
-/// Says with which state the node starts, and that it is ready: its sockets listen. A service manager
-/// that started it learns that it is.
-fn say_ready<R: Env + Print + AllocGlobal>(
-    rt: &R,
-    words: &NodeWords<'_>,
-    fault: Option<StartFault>,
-    stage: &mut Stage,
-)
-    requires { stage.old ≡ Listening }
-    ensures { stage.new ≡ Ready }
-{
-    say(rt, words, Note::Started(fault));
-    say(rt, words, Note::Ready);
-    if !words.is_child {
-        tell_ready(rt);
-    }
-    *stage = Stage::Ready;
-}
-
-/// Prints a note as one line, in one write. A node whose output is closed runs on.
-fn say<R: Print + AllocGlobal>(rt: &R, words: &NodeWords<'_>, note: Note) {
-    let named = words.is_child.then_some(words.id);
-    let line = NoteLine { named, note };
-    if let Ok(text) = format!(in rt.alloc(); "{line}\n") {
-        let _ = rt.print(text.as_str());
     }
 }

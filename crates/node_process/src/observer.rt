@@ -1,16 +1,16 @@
 //! What watches a node while it runs.
-ghost use Rattle.std.specs.Prelude.{◌≡◌, None, IfOk};
+ghost use Rattle.std.specs.Prelude.{◌≡◌, ◌↔◌, None, IfOk, IsSome};
 
 use crate::journal::Journal;
 use crate::tape::Tape;
 use crate::window::Window;
 use node_log::Event;
-use node_loop::{Doors, NodeRun, Notes};
+use node_loop::{Doors, NodeRun, Notes, Turned};
 use node_state_file::Store;
 use record_files::process_parts::{NodeFault, NodeWords};
 use std::fs::File;
 use std::rt::{Clock, Env, Files};
-use unix_doors::Stopwatch;
+use unix_doors::{ClientSight, Stopwatch};
 
 /// What watches a node while it runs.
 #[derive(Drop)]
@@ -70,6 +70,37 @@ impl<'a, 'w, R: Files<File = File> + Clock + Eprint + AllocGlobal> Observer<'a, 
         run.attend(now, &mut self.notes);
         self.attended(run, now);
         None
+    }
+
+    /// The node takes a turn that begins at this time. Its deeds are noted, and what lookers are shown.
+    pub fn take_turn<D: Doors, S: Store + Drop>(
+        &mut self,
+        run: &mut NodeRun<D, S>,
+        now: u64,
+    ) -> Turned
+        ensures looks { IsSome result.saved ↔ (run.old.turns ≡ 255) }
+        ensures others { (self.new.tape ≡ self.old.tape) × (self.new.journal ≡ self.old.journal) }
+    {
+        let turned = run.turn(now, &mut self.notes);
+        let ended = self.watch.now();
+        self.window.turn_ended(run, &turned, ended);
+        turned
+    }
+
+    /// What happened in a turn, and with the clients that came until its end, is said, and the turn, which
+    /// began at this time, is recorded.
+    pub fn turn_ended<D: Doors, S: Store + Drop>(
+        &mut self,
+        run: &NodeRun<D, S>,
+        turned: &Turned,
+        clients: ClientSight,
+        now: u64,
+    )
+        ensures off { self.old.tape ≡ None → self.new.tape ≡ None }
+    {
+        self.journal
+            .turn_ended(run, turned, clients, self.watch.last());
+        self.record(run, turned.is_to_look(), now);
     }
 
     /// The node did something that is no turn, and began it at this time.
