@@ -15,14 +15,19 @@ use std::alloc::AllocError;
 use std::convert::AsStr;
 use std::process::ExitCode;
 
-/// What this parser made of the words, or the status of a line that showed help or was invalid.
+/// What this parser made of the words, or the status of a line that showed help or was invalid. Its
+/// texts name the program `tokentree`, whatever its file is called.
 pub fn matches_of<'a, R: Print + Eprint + AllocGlobal, S: AsStr>(
     rt: &R,
     words: &'a [S],
     parser: Result<Command<'a>, AllocError>,
 ) -> Result<ArgMatches<'a>, ExitCode> {
     let is_lock = asks_for_lock(words);
-    let Ok(parser) = parser else {
+    let named = match parser {
+        Ok(parser) => parser.bin_name(NAME),
+        Err(error) => Err(error),
+    };
+    let Ok(parser) = named else {
         return Err(fails(rt, Fault::Memory, fault_status(is_lock)));
     };
     let command = match words {
