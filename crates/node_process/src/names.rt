@@ -1,5 +1,5 @@
 //! The names of a running node's sockets: a name that leads elsewhere is taken back.
-ghost use Rattle.std.specs.Prelude.{◌≡◌, ◌↔◌, true, false, IfOk, IsErr, IsTrue};
+ghost use Rattle.std.specs.Prelude.{◌≡◌, ◌↔◌, true, false, IfOk, IsErr, IsTrue, string_bytes};
 ghost use Rattle.record_files.specs.process_parts.Rights.{own_mode, clients_mode};
 
 use crate::doors::ProcessDoors;
@@ -110,6 +110,10 @@ impl<'a> Names<'a> {
         rights: Rights,
         files: NameFiles,
     ) -> Names<'a>
+        ensures places { (result.paths ≡ paths.entry) × (result.place ≡ place.entry) }
+        ensures paths { (result.links.path.now ≡ string_bytes paths.now.links)
+            × (result.clients.path.now ≡ string_bytes paths.now.clients)
+            × (result.looks.path.now ≡ string_bytes paths.now.looks) }
         ensures files { (result.links.file ≡ files.links) × (result.clients.file ≡ files.clients)
             × (result.looks.file ≡ files.looks) }
         ensures modes { (result.links.mode ≡ own_mode rights)

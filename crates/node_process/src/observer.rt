@@ -61,6 +61,10 @@ impl<'a, 'w, R: Files<File = File> + Clock + Eprint + AllocGlobal> Observer<'a, 
     /// begins; else the node does what it must between turns.
     pub fn awaits_turn<D: Doors, S: Store + Drop>(&mut self, run: &mut NodeRun<D, S>) -> Option<u64>
         ensures off { self.old.tape ≡ None → self.new.tape ≡ None }
+        ensures journal { self.new.journal ≡ self.old.journal }
+        // Until a turn begins nothing is noted.
+        ensures due { IsSome result → (self.new.tape ≡ self.old.tape) × (self.new.window ≡ self.old.window)
+            × (self.new.notes ≡ self.old.notes) }
     {
         run.wait(self.watch.last());
         let now = self.watch.now();
@@ -97,6 +101,8 @@ impl<'a, 'w, R: Files<File = File> + Clock + Eprint + AllocGlobal> Observer<'a, 
         now: u64,
     )
         ensures off { self.old.tape ≡ None → self.new.tape ≡ None }
+        ensures others { (self.new.window ≡ self.old.window) × (self.new.watch ≡ self.old.watch)
+            × (self.new.notes ≡ self.old.notes) }
     {
         self.journal
             .turn_ended(run, turned, clients, self.watch.last());
