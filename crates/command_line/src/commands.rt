@@ -1,4 +1,7 @@
 //! What each command line does.
+ghost use Rattle.std.specs.Prelude.{◌≡◌, ◌||◌, codes};
+ghost use Rattle.std.specs.Str.{bytes_eq};
+
 use crate::{cut, draw, gather, junk, measure, schedule, scramble, simulate, threads, worst};
 use clap::{ArgMatches, Command};
 use client_words::{lock, status, stop};
@@ -59,12 +62,16 @@ fn run_part<R: Runtime, S: AsStr>(rt: &R, words: &[S]) -> ExitCode {
 }
 
 /// Whether a command is one for networks.
-fn is_of_networks(name: &str) -> bool {
+fn is_of_networks(name: &str) -> bool
+    ensures { result ≡ (bytes_eq name.now (codes "bound") || bytes_eq name.now (codes "network")) }
+{
     name == "bound" || name == "network"
 }
 
 /// Whether a command runs nodes.
-fn is_of_nodes(name: &str) -> bool {
+fn is_of_nodes(name: &str) -> bool
+    ensures { result ≡ (bytes_eq name.now (codes "node") || bytes_eq name.now (codes "up")) }
+{
     name == "node" || name == "up"
 }
 
