@@ -1,16 +1,10 @@
 -- Small examples of each definition, with some that fail.
-use Rattle.std.proofs.Common.{◌≡◌, ◌≢◌, true, false, Some, None, [], ◌∷◌, refl, codes, arith}
+use Rattle.std.proofs.Common.{◌≡◌, ◌≢◌, true, false, Some, None, [], ◌∷◌, refl, arith}
 use Rattle.record_files.specs.process_parts.node_keeping.declared.saved.AfterSave.TheVariants as save
 use Rattle.record_files.specs.process_parts.declared.fault.NodeFault.TheVariants.{Displaced, StopStays}
 use Rattle.node_process.specs.Ends.{end_fault, ends_by}
 use Rattle.node_process.specs.Places.{same_id, is_in_place}
 use Rattle.topology.specs.Network.{Network}
-use Rattle.node_process.specs.Texts.{blocked_line}
-
--- what is said
-says-blocked : blocked_line (codes "run/desk-1.sock")
-    ≡ codes "tokentree: run/desk-1.sock: cannot be made again; remove what stands there: the node runs on, and tries again"
-says-blocked = refl
 
 -- a displaced node ends with its own fault, a stopped one with none
 fault-displaced : end_fault save.Displaced ≡ Some Displaced

@@ -1,5 +1,4 @@
 pub use Rattle.record_files.specs.process_parts as process_parts
-pub mod Texts
 pub mod Ends
 pub mod Places
 pub mod Noted

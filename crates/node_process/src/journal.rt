@@ -4,6 +4,7 @@ ghost use Rattle.node_core.specs.View.{site_in, state_of};
 ghost use Rattle.node_process.specs.Places.{is_in_place};
 
 use node_core::Node;
+use node_folder::ClientSight;
 use node_log::{Event, LogLine, NodeLog, TurnSight};
 use node_loop::{Doors, NodeRun, Turned};
 use node_state_file::Store;
@@ -11,7 +12,6 @@ use record_files::process_parts::NodeWords;
 use std::env;
 use std::rt::Env;
 use topology::Net;
-use unix_doors::ClientSight;
 
 /// A node's log, which goes to standard error.
 #[derive(Drop)]

@@ -12,9 +12,9 @@
 //! `record-U.0` and `record-U.1` in turn, and its network's text to `record.toml`, at its start and when it
 //! has other neighbours, under the name `record.toml.U` first.
 //!
-//! The crate `node_loop` has the turn of a node, over doors; `unix_doors` has those over Unix
-//! sockets, `record_files` the files of a record, `process_parts` what else a start makes, and
-//! `node_texts` the names of files and the lines that are printed. `node_keeping` decides what a node
+//! The crate `node_loop` has the turn of a node, over doors; `node_folder` has the node's place, its
+//! sockets and its doors, `record_files` the files of a record, and `node_texts` the names of files and
+//! the lines that are printed. `node_keeping` decides what a node
 //! does after each 256th turn; `look_window` decides what lookers are shown. Contracts know nothing of
 //! the system's answers, so the functions that call it promise little: in which order a start goes,
 //! which fault ends it, and what a node notes of a turn.
@@ -23,9 +23,7 @@
 //! owner can enter it.
 #![tactic(auto)]
 
-mod doors;
 mod journal;
-mod names;
 pub mod node;
 mod observer;
 mod start;

@@ -1,32 +1,27 @@
 //! `node FILE ID DIR`: a node of a network as a process.
-ghost use Rattle.std.specs.Prelude.{◌≡◌, ◌↔◌, ◌<◌, false, Some, None, IfOk, IfErr, IsTrue, length};
+ghost use Rattle.std.specs.Prelude.{◌≡◌, ◌↔◌, ◌<◌, Some, None, IfOk, IfErr, IsTrue, length};
 ghost use Rattle.topology.specs.Change.{is_same_frame};
-ghost use Rattle.record_files.specs.process_parts.node_keeping.AfterSave.{looks_for_stop};
-ghost use Rattle.record_files.specs.process_parts.node_keeping.declared.saved.StopSight.TheVariants.{Absent};
 ghost use Rattle.record_files.specs.process_parts.declared.start.Stage.TheVariants.{Held};
 ghost use Rattle.node_process.specs.Ends.{end_fault, ends_by};
 
-use crate::doors::ProcessDoors;
-use crate::names::Names;
 use crate::observer::Observer;
-use crate::start::{FolderOpener, Opener, Seat, check_words, start_node, take_place};
-use held_signals::state_now;
+use crate::start::start_node;
 use look_window::{COMERS, is_let_in, show};
-use network_news::{FileNews, found_in, news_line};
+use node_folder::{
+    FileNews, FolderOpener, Names, Opener, ProcessDoors, Seat, Stopwatch, check_words, found_in,
+    remove_own_sockets, say_news, see, take_place,
+};
 use node_loop::{Doors, NodeRun};
 use node_state_file::{FileStore, Store};
 use record_files::process_parts::{
-    AfterSave, NetworkFault, NodeFault, NodePaths, NodeWords, Sights, Stage, StopSight, after_save,
-    looks_for_stop, read_network, remove, set_mode,
+    AfterSave, NodeFault, NodePaths, NodeWords, Stage, after_save, read_network, set_mode,
 };
 use std::alloc::Global;
-use std::fs;
 use std::fs::File;
 use std::io::Input;
 use std::net::Net as Sockets;
 use std::rt::{Clock, Env, Files};
 use topology::Net;
-use unix_doors::Stopwatch;
 
 /// Runs node ID of the network of FILE in DIR, until its stop file is there.
 ///
@@ -149,20 +144,6 @@ where
     }
 }
 
-/// Removes the sockets of a node that ends like this, unless they may be another's.
-fn remove_own_sockets<F: Files>(files: &F, paths: &NodePaths, end: AfterSave) {
-    if end != AfterSave::Displaced {
-        remove_sockets(files, paths);
-    }
-}
-
-/// Removes a node's sockets. What cannot be removed is removed by the next start.
-fn remove_sockets<F: Files>(files: &F, paths: &NodePaths) {
-    let _ = remove(files, paths.links.as_str());
-    let _ = remove(files, paths.clients.as_str());
-    let _ = remove(files, paths.looks.as_str());
-}
-
 /// The fault of a node that ends like this.
 fn fault_of_end(end: AfterSave) -> Result<(), NodeFault>
     ensures ok { IfOk result (λ _. end_fault end ≡ None) }
@@ -280,41 +261,6 @@ where
     next
 }
 
-/// What a node sees after a turn that saved. It touches no file in another's folder. A node that
-/// `up` started is asked to end by the end of its input, or by a SIGTERM, which it holds back.
-fn see<R: Files + Input + AllocGlobal, D: ProcessDoors>(
-    rt: &R,
-    words: &NodeWords<'_>,
-    names: &Names<'_>,
-    doors: &mut D,
-) -> Sights
-    ensures { looks_for_stop result.place ≡ false → result.stop ≡ Absent }
-{
-    let place = names.place.sight(rt, names.paths.lock.as_str());
-    let stop = if looks_for_stop(place) {
-        look_for_stop(rt, names.paths.stop.as_str())
-    } else {
-        StopSight::Absent
-    };
-    Sights {
-        place,
-        stop,
-        is_asked: words.is_child && (doors.has_input_ended(rt) || state_now(rt).heeded().terminate),
-        links: names.links.sight(rt),
-        clients: names.clients.sight(rt),
-        looks: names.looks.sight(rt),
-    }
-}
-
-/// Looks for the stop file, and removes it.
-fn look_for_stop<F: Files>(files: &F, stop: &str) -> StopSight {
-    match fs::remove_file(files, stop) {
-        Ok(()) => StopSight::Removed,
-        Err(_) if fs::symlink_metadata(files, stop).is_ok() => StopSight::Stays,
-        Err(_) => StopSight::Absent,
-    }
-}
-
 /// Reads the network file again, takes over its edges, and says what is new in it. An invalid
 /// file, a network that differs in more than edges, and edges that the node already has change
 /// nothing.
@@ -333,17 +279,5 @@ fn rewire_by_file<R: Files + Eprint + AllocGlobal, D: Doors, S: Store + Drop>(
     }
     if let Ok(net) = &read {
         let _ = run.rewire(net);
-    }
-}
-
-/// Says what a node of this network found in its file.
-fn say_news<R: Eprint + AllocGlobal>(
-    rt: &R,
-    words: &NodeWords<'_>,
-    own: &Net,
-    read: &Result<Net, NetworkFault>,
-) {
-    if let Ok(line) = news_line(rt.alloc(), words.id, words.file, own, read) {
-        let _ = rt.eprintln(line);
     }
 }

@@ -4,13 +4,13 @@ ghost use Rattle.std.specs.Prelude.{◌≡◌, ◌↔◌, None, IfOk, IsSome};
 use crate::journal::Journal;
 use crate::tape::Tape;
 use crate::window::Window;
+use node_folder::{ClientSight, Stopwatch};
 use node_log::Event;
 use node_loop::{Doors, NodeRun, Notes, Turned};
 use node_state_file::Store;
 use record_files::process_parts::{NodeFault, NodeWords};
 use std::fs::File;
 use std::rt::{Clock, Env, Files};
-use unix_doors::{ClientSight, Stopwatch};
 
 /// What watches a node while it runs.
 #[derive(Drop)]

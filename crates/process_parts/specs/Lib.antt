@@ -5,4 +5,3 @@ pub mod Rights
 pub mod Start
 pub mod Texts
 pub mod Said
-pub mod NoteText

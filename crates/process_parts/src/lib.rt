@@ -19,7 +19,6 @@
 mod capacity;
 mod fault;
 mod folder;
-mod note;
 mod record_size;
 mod rights;
 mod start;
@@ -37,7 +36,6 @@ pub use node_keeping::{
     UpSights, after_save, looks_for_stop,
 };
 pub use node_texts::{End, EndLine, NodePaths, ProcessPart};
-pub use note::{Note, NoteLine};
 pub use record_size::{RecordSize, USUAL_SIZE};
 pub use rights::Rights;
 pub use start::Stage;

@@ -1,10 +1,10 @@
 //! The names of a running node's sockets: a name that leads elsewhere is taken back.
 ghost use Rattle.std.specs.Prelude.{◌≡◌, ◌↔◌, true, false, IfOk, IsErr, IsTrue, string_bytes};
-ghost use Rattle.record_files.specs.process_parts.Rights.{own_mode, clients_mode};
+ghost use Rattle.process_parts.specs.Rights.{own_mode, clients_mode};
 
 use crate::doors::ProcessDoors;
 use network_news::FileNews;
-use record_files::process_parts::{
+use process_parts::{
     Complaint, FileId, FileSight, Lost, NodePaths, Place, Rights, bind_again, sight_at,
 };
 use std::net::Net as Sockets;
@@ -181,7 +181,7 @@ struct Blocked<'a> {
 
 impl fmt::Display for Blocked<'_> {
     ghost use Rattle.std.specs.Prelude.{Some};
-    ghost use Rattle.node_process.specs.Texts.{blocked_line};
+    ghost use Rattle.node_folder.specs.Texts.{blocked_line};
 
     ghost output = { λ line. Some (blocked_line line.path.now) };
 

@@ -3,8 +3,8 @@ use Rattle.std.proofs.Common.{◌≡◌, ◌≢◌, Some, None, codes, refl, ari
 use Rattle.std.specs.Fmt.{digits}
 use Rattle.node_state_file.specs.declared.fault.FileFault.TheVariants as read
 use Rattle.node_state_file.specs.declared.starting.StartFault.TheVariants.{File, Absent}
-use Rattle.process_parts.specs.declared.note.Note.TheVariants.{Started, Ready}
-use Rattle.process_parts.specs.NoteText.{note_line}
+use Rattle.node_folder.specs.declared.note.Note.TheVariants.{Started, Ready}
+use Rattle.node_folder.specs.NoteText.{note_line}
 
 says-loaded : note_line None (Started None) ≡ codes "start loaded"
 says-loaded = refl

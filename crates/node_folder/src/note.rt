@@ -1,6 +1,6 @@
 //! What a node's process prints of its start.
 ghost use Rattle.std.specs.Prelude.{◌≡◌};
-ghost use Rattle.process_parts.specs.NoteText.{start_fault_name};
+ghost use Rattle.node_folder.specs.NoteText.{start_fault_name};
 
 use node_state_file::{FileFault, StartFault};
 use std::fmt;
@@ -16,7 +16,7 @@ pub enum Note {
 
 impl fmt::Display for Note {
     ghost use Rattle.std.specs.Prelude.{Some};
-    ghost use Rattle.process_parts.specs.NoteText.{note_text};
+    ghost use Rattle.node_folder.specs.NoteText.{note_text};
 
     ghost output = { λ note. Some (note_text note) };
 
@@ -60,7 +60,7 @@ pub struct NoteLine {
 
 impl fmt::Display for NoteLine {
     ghost use Rattle.std.specs.Prelude.{Some};
-    ghost use Rattle.process_parts.specs.NoteText.{note_line};
+    ghost use Rattle.node_folder.specs.NoteText.{note_line};
 
     ghost output = { λ line. Some (note_line line.named line.note) };
 

@@ -3,8 +3,8 @@
 //! What runs a node is generic in its doors: a proof over sockets takes three times as long.
 
 use crate::names::Whom;
-use node_loop::Doors;
-use record_files::process_parts::{FileId, Listener};
+use node_connections::Doors;
+use process_parts::{FileId, Listener};
 use std::io;
 use std::io::Input;
 use std::net::Net;

@@ -4,8 +4,8 @@ use Rattle.node_state_file.specs.declared.fault.FileFault.{FileFault}
 use Rattle.node_state_file.specs.declared.fault.FileFault.TheVariants as read
 use Rattle.node_state_file.specs.declared.starting.StartFault.{StartFault}
 use Rattle.node_state_file.specs.declared.starting.StartFault.TheVariants.{File, Absent, Device}
-use Rattle.process_parts.specs.declared.note.Note.{Note}
-use Rattle.process_parts.specs.declared.note.Note.TheVariants.{Started, Ready}
+use Rattle.node_folder.specs.declared.note.Note.{Note}
+use Rattle.node_folder.specs.declared.note.Note.TheVariants.{Started, Ready}
 
 -- the name of a fault of a stored state
 abbrev pub file_fault_name : FileFault → List ℕ

@@ -1,0 +1,2 @@
+pub mod NoteText
+pub mod Texts
