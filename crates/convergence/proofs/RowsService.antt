@@ -1,6 +1,6 @@
 -- A run on two nodes in which all premises of the service law hold and a client gets the lock; and
 -- what is lent, visited and given up in it.
-use Rattle.std.proofs.Common.{◌≡◌, ℕ, ◌<◌, zero, suc, List, [], ◌∷◌, ◌++◌, length, Bool, true, false, IsTrue, IsFalse, Some, None, refl, sym, subst, ap, inl, arith}
+use Rattle.std.proofs.Common.{◌≡◌, ℕ, ◌<◌, List, [], ◌∷◌, ◌++◌, length, Bool, true, false, IsTrue, IsFalse, None, refl, subst, inl, arith}
 use Rattle.std.specs.Prelude.{◌&&◌, ◌==◌, if◌then◌else◌, not, All}
 use Rattle.std.proofs.lemmas.Bool.{false≢true}
 use Rattle.std.proofs.lemmas.List.Elements.{All-nil, All-cons}
@@ -16,7 +16,7 @@ use Rattle.run_model.specs.declared.event.Event.{Event}
 use Rattle.run_model.specs.declared.event.Event.TheVariants.{Send, Take, Tick, Ask, Leave}
 use Rattle.topology.specs.Ranges.{ranges_of}
 use Rattle.run_model.specs.node_core.State.{IsNodeInRange}
-use Rattle.run_model.proofs.RowsTwo.{two_nodes, is-accepted, each-node, each-link, node_with, calm, calm-links_stable, calm-tree_reached}
+use Rattle.run_model.proofs.RowsTwo.{two_nodes, is-accepted, each-node, each-link, node_with, calm-links_stable, calm-tree_reached}
 use Rattle.convergence.specs.Legitimate.{IsLegitimate}
 use Rattle.convergence.specs.Service.{IsAtPlace, is_lent_once, gives_up}
 

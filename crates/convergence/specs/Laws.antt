@@ -8,7 +8,7 @@ use Rattle.run_model.specs.Run.{run, is_damage, IsUndamaged}
 use Rattle.run_model.specs.Sweep.{Sweeps}
 use Rattle.run_model.specs.Tree.{IsTreeReached}
 use Rattle.convergence.specs.Ring.{IsTokenRingGood}
-use Rattle.run_model.specs.Links.{AreLinksStable}
+use Rattle.tree_convergence.specs.Laws.{LinksTurnStable}
 use Rattle.run_model.specs.Privilege.{is_privileged, is_lending}
 use Rattle.convergence.specs.Legitimate.{IsLegitimate}
 use Rattle.convergence.specs.Settled.{IsSettled}
@@ -50,9 +50,7 @@ LegitimateServes = (w : World) → IsWorldInRange w → IsLegitimate w → IsSer
 
 -- after 4(C + 1) sweeps every link is stable
 abbrev pub LinksConverge : Type 0
-LinksConverge =
-    (w : World) (es : List Event) → IsWorldInRange w → IsUndamaged w es
-    → Sweeps w (4 * (w.net.capacity + 1)) es → AreLinksStable (run w es)
+LinksConverge = LinksTurnStable
 
 -- from then on, after any three more sweeps, what u has staged for v, and what v has copied from
 -- u, is what u would have said to v at some moment of these three

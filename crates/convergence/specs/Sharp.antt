@@ -5,7 +5,7 @@ use Rattle.topology.specs.Eccentricity.{eccentricity_of, sharp_of}
 use Rattle.run_model.specs.World.{World, IsWorldInRange}
 use Rattle.run_model.specs.Run.{run, IsUndamaged}
 use Rattle.run_model.specs.Sweep.{Sweeps}
-use Rattle.run_model.specs.Links.{AreLinksStable}
+use Rattle.tree_convergence.specs.Laws.{LinksTurnStableInSix}
 use Rattle.run_model.specs.Tree.{IsTreeReached}
 use Rattle.run_model.specs.Headline.{IsServing}
 use Rattle.run_model.specs.declared.event.Event.{Event}
@@ -14,9 +14,7 @@ use Rattle.convergence.specs.Legitimate.{IsLegitimate}
 
 -- after 6 sweeps every link is stable, whatever its capacity
 abbrev pub LinksConvergeSooner : Type 0
-LinksConvergeSooner =
-    (w : World) (es : List Event) → IsWorldInRange w → IsUndamaged w es → Sweeps w 6 es
-    → AreLinksStable (run w es)
+LinksConvergeSooner = LinksTurnStableInSix
 
 -- after 4(e + 2) more the tree is reached
 abbrev pub TreeConvergesSooner : Type 0

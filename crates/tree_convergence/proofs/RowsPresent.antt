@@ -1,11 +1,10 @@
 -- What is said and staged throughout a run on two nodes, with examples that fail.
-use Rattle.std.proofs.Common.{◌≡◌, ℕ, List, [], ◌∷◌, Bool, true, false, refl}
+use Rattle.std.proofs.Common.{◌≡◌, [], ◌∷◌, Bool, refl}
 use Rattle.std.proofs.lemmas.Bool.{false≢true}
 use Rattle.std.specs.Prelude.{◌==◌}
 use Rattle.topology.specs.declared.frame.Payload.{Payload}
 use Rattle.run_model.specs.World.{World}
 use Rattle.run_model.specs.Start.{default_world}
-use Rattle.run_model.specs.declared.event.Event.{Event}
 use Rattle.run_model.specs.declared.event.Event.TheVariants.{Send, Take, Tick}
 use Rattle.run_model.proofs.RowsTwo.{two_nodes}
 use Rattle.tree_convergence.specs.Present.{AlwaysPresent, AlwaysStaged, number_moves}
