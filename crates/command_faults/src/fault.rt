@@ -1,4 +1,8 @@
 //! Why a command fails.
+ghost use Rattle.std.specs.Prelude.{Some, ◌≡◌};
+ghost use Rattle.command_faults.specs.FaultText.{fault_text};
+ghost use Rattle.command_faults.specs.declared.fault.Fault.TheVariants.{Network};
+
 use network_file::NetworkFault;
 use std::fmt;
 
@@ -27,9 +31,6 @@ pub enum Fault {
 }
 
 impl fmt::Display for Fault {
-    ghost use Rattle.std.specs.Prelude.{Some};
-    ghost use Rattle.command_faults.specs.FaultText.{fault_text};
-
     ghost output = { λ fault. Some (fault_text fault) };
 
     fn fmt<W: fmt::Write>(&self, f: &mut fmt::Formatter<W>) -> fmt::Result {
@@ -50,9 +51,6 @@ impl fmt::Display for Fault {
 impl std::error::Error for Fault {}
 
 impl From<NetworkFault> for Fault {
-    ghost use Rattle.std.specs.Prelude.{◌≡◌};
-    ghost use Rattle.command_faults.specs.declared.fault.Fault.TheVariants.{Network};
-
     ghost from_gives = { λ refused fault. fault ≡ Network refused };
 
     fn from(refused: NetworkFault) -> Fault {

@@ -1,4 +1,9 @@
 //! Why a command that changes a file fails.
+ghost use Rattle.std.specs.Prelude.{Some, ◌≡◌};
+ghost use Rattle.command_faults.specs.PathFaultText.{path_fault_text};
+ghost use Rattle.command_faults.specs.declared.fault.Fault.TheVariants.{Network};
+ghost use Rattle.command_faults.specs.declared.path_fault.PathFault.TheVariants.{Fault as Said};
+
 use crate::fault::Fault;
 use network_file::NetworkFault;
 use std::fmt;
@@ -14,9 +19,6 @@ pub enum PathFault<'a> {
 }
 
 impl fmt::Display for PathFault<'_> {
-    ghost use Rattle.std.specs.Prelude.{Some};
-    ghost use Rattle.command_faults.specs.PathFaultText.{path_fault_text};
-
     ghost output = { λ fault. Some (path_fault_text fault) };
 
     fn fmt<W: fmt::Write>(&self, f: &mut fmt::Formatter<W>) -> fmt::Result {
@@ -33,10 +35,6 @@ impl fmt::Display for PathFault<'_> {
 impl std::error::Error for PathFault<'_> {}
 
 impl From<NetworkFault> for PathFault<'_> {
-    ghost use Rattle.std.specs.Prelude.{◌≡◌};
-    ghost use Rattle.command_faults.specs.declared.fault.Fault.TheVariants.{Network};
-    ghost use Rattle.command_faults.specs.declared.path_fault.PathFault.TheVariants.{Fault as Said};
-
     ghost from_gives = { λ refused said. said ≡ Said (Network refused) };
 
     fn from(refused: NetworkFault) -> Self {
@@ -45,9 +43,6 @@ impl From<NetworkFault> for PathFault<'_> {
 }
 
 impl From<Fault> for PathFault<'_> {
-    ghost use Rattle.std.specs.Prelude.{◌≡◌};
-    ghost use Rattle.command_faults.specs.declared.path_fault.PathFault.TheVariants.{Fault as Said};
-
     ghost from_gives = { λ fault said. said ≡ Said fault };
 
     fn from(fault: Fault) -> Self {

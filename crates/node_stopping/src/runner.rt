@@ -1,6 +1,6 @@
 //! Whether the node runs whose state file was changed beside it.
-ghost use Rattle.std.specs.Prelude.{◌≡◌, IfOk, IfSome};
-ghost use Rattle.node_stopping.specs.Lines.{state_path};
+ghost use Rattle.std.specs.Prelude.{◌≡◌, IfOk, IfSome, Some};
+ghost use Rattle.node_stopping.specs.Lines.{state_path, runner_line};
 
 use crate::stopping::is_held;
 use node_texts::NodePaths;
@@ -22,9 +22,6 @@ pub struct RunnerLine<'a> {
 }
 
 impl fmt::Display for RunnerLine<'_> {
-    ghost use Rattle.std.specs.Prelude.{Some};
-    ghost use Rattle.node_stopping.specs.Lines.{runner_line};
-
     ghost output = { λ line. Some (runner_line line.path.now line.id) };
 
     fn fmt<W: fmt::Write>(&self, f: &mut fmt::Formatter<W>) -> fmt::Result {
