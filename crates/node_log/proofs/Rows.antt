@@ -2,20 +2,7 @@
 use Rattle.std.proofs.Common.{◌≡◌, ◌≢◌, true, false, Some, None, [], ◌∷◌, refl, codes, arith}
 use Rattle.std.specs.Fmt.{digits}
 use Rattle.lock_desk.specs.declared.act.DeskAct.TheVariants as act
-use Rattle.node_log.specs.declared.event.Event.TheVariants.{
-  Begins,
-  Up,
-  Down,
-  Granted,
-  Lost,
-  GivenBack,
-  Full,
-  Room,
-  Crowded,
-  Seats,
-  Astray,
-  InPlace,
-}
+use Rattle.node_log.specs.declared.event.Event.TheVariants as event
 use Rattle.node_log.specs.declared.event.Level.TheVariants.{Warning, Notice, Info}
 use Rattle.node_log.specs.declared.rate.LineRate.{LineRate}
 use Rattle.node_log.specs.Events.{level_of, priority_of, level_with, is_said_at}
@@ -26,10 +13,10 @@ use Rattle.node_log.specs.Places.{by_place, place_after}
 use Rattle.node_log.specs.Line.{event_text, priority_text, left_out_text, log_line}
 use Rattle.node_log.specs.Laws.{is_said}
 
-urgent-lost : level_of (Lost 7) ≡ Warning
+urgent-lost : level_of (event.Lost 7) ≡ Warning
 urgent-lost = refl
 
-urgent_not-grant : level_of (Granted 7) ≢ Notice
+urgent_not-grant : level_of (event.Granted 7) ≢ Notice
 urgent_not-grant = grind arith
 
 number-info : priority_of Info ≡ 6
@@ -92,26 +79,26 @@ is_not-said : is_said false ≡ false
 is_not-said = refl
 
 -- the lock: given back and granted in one turn, lost, given back alone, still lent
-back-granted : gave_back (Some 3) (act.Granted 4) (Some 4) ≡ Some (GivenBack 3)
+back-granted : gave_back (Some 3) (act.Granted 4) (Some 4) ≡ Some (event.GivenBack 3)
 back-granted = refl
 
 back_not-lost : gave_back (Some 3) (act.Lost 3) None ≡ None
 back_not-lost = refl
 
-back-gone : gave_back (Some 3) act.Quiet None ≡ Some (GivenBack 3)
+back-gone : gave_back (Some 3) act.Quiet None ≡ Some (event.GivenBack 3)
 back-gone = refl
 
 back_not-lent : gave_back (Some 3) act.Quiet (Some 3) ≡ None
 back_not-lent = refl
 
-act-granted : by_act (act.Granted 4) ≡ Some (Granted 4)
+act-granted : by_act (act.Granted 4) ≡ Some (event.Granted 4)
 act-granted = refl
 
 act_not-quiet : by_act act.Quiet ≡ None
 act_not-quiet = refl
 
 -- links: node 1 was up
-link-down : by_link 1 false (false ∷ true ∷ []) ≡ Some (Down 1)
+link-down : by_link 1 false (false ∷ true ∷ []) ≡ Some (event.Down 1)
 link-down = refl
 
 link_not-again : by_link 1 true (false ∷ true ∷ []) ≡ None
@@ -120,11 +107,11 @@ link_not-again = refl
 link_not-beyond : by_link 64 true [] ≡ None
 link_not-beyond = refl
 
-change-up : changed 2 true false ≡ Some (Up 2)
+change-up : changed 2 true false ≡ Some (event.Up 2)
 change-up = refl
 
 -- clients: a desk is full, and has room when 32 wait
-desk-full : by_desk 64 false ≡ Some Full
+desk-full : by_desk 64 false ≡ Some event.Full
 desk-full = refl
 
 desk_not-full : by_desk 63 false ≡ None
@@ -136,7 +123,7 @@ desk_not-again = refl
 desk_not-soon : by_desk 33 true ≡ None
 desk_not-soon = refl
 
-desk-room : by_desk 32 true ≡ Some Room
+desk-room : by_desk 32 true ≡ Some event.Room
 desk-room = refl
 
 full-once : full_after 64 false ≡ true
@@ -151,17 +138,17 @@ full-still = refl
 full_not-half : full_after 32 true ≡ false
 full_not-half = refl
 
-urgent-full : level_of Full ≡ Warning
+urgent-full : level_of event.Full ≡ Warning
 urgent-full = refl
 
-urgent-room : level_of Room ≡ Notice
+urgent-room : level_of event.Room ≡ Notice
 urgent-room = refl
 
-words-full : event_text Full ≡ codes "64 clients wait, and further ones are refused"
+words-full : event_text event.Full ≡ codes "64 clients wait, and further ones are refused"
 words-full = refl
 
 -- clients: one is closed, and they may connect again when 64 are connected
-crowd-closed : by_crowd 1 128 false ≡ Some Crowded
+crowd-closed : by_crowd 1 128 false ≡ Some event.Crowded
 crowd-closed = refl
 
 -- 128 are connected, and no further one has come
@@ -174,7 +161,7 @@ crowd_not-again = refl
 crowd_not-soon : by_crowd 0 65 true ≡ None
 crowd_not-soon = refl
 
-crowd-room : by_crowd 0 64 true ≡ Some Seats
+crowd-room : by_crowd 0 64 true ≡ Some event.Seats
 crowd-room = refl
 
 -- one was closed in this turn, in which many left later
@@ -193,14 +180,14 @@ crowded-still = refl
 crowded_not-half : crowded_after 0 64 true ≡ false
 crowded_not-half = refl
 
-urgent-crowded : level_of Crowded ≡ Warning
+urgent-crowded : level_of event.Crowded ≡ Warning
 urgent-crowded = refl
 
-words-crowded : event_text Crowded ≡ codes "128 clients are connected, and further ones are closed"
+words-crowded : event_text event.Crowded ≡ codes "128 clients are connected, and further ones are closed"
 words-crowded = refl
 
 -- out of its place since second 1
-place-astray : by_place false 3000000 (WrongSince 1000000) ≡ Some Astray
+place-astray : by_place false 3000000 (WrongSince 1000000) ≡ Some event.Astray
 place-astray = refl
 
 place_not-soon : by_place false 2999999 (WrongSince 1000000) ≡ None
@@ -209,7 +196,7 @@ place_not-soon = refl
 place_not-again : by_place false 9000000 Said ≡ None
 place_not-again = refl
 
-place-back : by_place true 9000000 Said ≡ Some InPlace
+place-back : by_place true 9000000 Said ≡ Some event.InPlace
 place-back = refl
 
 -- it was back before anything was said
@@ -231,13 +218,13 @@ place_not-still = grind arith
 place-stays : place_after false 9 Said ≡ Said
 place-stays = refl
 
-urgent-astray : level_of Astray ≡ Warning
+urgent-astray : level_of event.Astray ≡ Warning
 urgent-astray = refl
 
-urgent-in_place : level_of InPlace ≡ Notice
+urgent-in_place : level_of event.InPlace ≡ Notice
 urgent-in_place = refl
 
-words-astray : event_text Astray ≡ codes "its distance or parent has been wrong for 2 s"
+words-astray : event_text event.Astray ≡ codes "its distance or parent has been wrong for 2 s"
 words-astray = refl
 
 next-first : next_of 3 2 ≡ 0
@@ -246,31 +233,31 @@ next-first = refl
 next_not-first : next_of 3 1 ≡ 2
 next_not-first = refl
 
-admits : admitted (Some Notice) (Up 1) 5 new_rate ≡ Some 0
+admits : admitted (Some Notice) (event.Up 1) 5 new_rate ≡ Some 0
 admits = refl
 
-admits_not-info : admitted (Some Notice) (Granted 1) 5 new_rate ≡ None
+admits_not-info : admitted (Some Notice) (event.Granted 1) 5 new_rate ≡ None
 admits_not-info = refl
 
-counts_not-info : rate_then (Some Notice) (Granted 1) 5 new_rate ≡ new_rate
+counts_not-info : rate_then (Some Notice) (event.Granted 1) 5 new_rate ≡ new_rate
 counts_not-info = refl
 
 -- the words
-words-up : event_text (Up 2) ≡ codes "the link to node 2 is up"
+words-up : event_text (event.Up 2) ≡ codes "the link to node 2 is up"
 unfolding digits
 words-up = refl
 
-words-priority : priority_text (Lost 3) true ≡ codes "<4>"
+words-priority : priority_text (event.Lost 3) true ≡ codes "<4>"
 unfolding digits
 words-priority = refl
 
-words_not-priority : priority_text Begins false ≡ []
+words_not-priority : priority_text event.Begins false ≡ []
 words_not-priority = refl
 
 words_not-none : left_out_text 0 ≡ []
 words_not-none = refl
 
-words-line : log_line 1 (GivenBack 3) 12 true
+words-line : log_line 1 (event.GivenBack 3) 12 true
     ≡ codes "<6>tokentree: node 1: ticket 3 has given the lock back (12 lines were left out before)"
 unfolding digits
 words-line = refl

@@ -1,34 +1,20 @@
 -- How urgent it is what a node says of itself.
 use Rattle.std.specs.Prelude.{ℕ, Bool, ◌==◌, nat_le, if◌then◌else◌, Option, None, Some}
 use Rattle.node_log.specs.declared.event.Event.{Event}
-use Rattle.node_log.specs.declared.event.Event.TheVariants.{
-  Begins,
-  Ends,
-  Up,
-  Down,
-  Granted,
-  Lost,
-  GivenBack,
-  Full,
-  Room,
-  Crowded,
-  Seats,
-  Astray,
-  InPlace,
-}
+use Rattle.node_log.specs.declared.event.Event.TheVariants as event
 use Rattle.node_log.specs.declared.event.Level.{Level}
 use Rattle.node_log.specs.declared.event.Level.TheVariants.{Warning, Notice, Info}
 
 -- a link that is gone, a lock that is lost, a client that is refused or closed, and a node out of its place are amiss;
 -- grants go on all the time
 abbrev pub level_of : Event → Level
-level_of (Down id) = Warning
-level_of (Lost ticket) = Warning
-level_of Full = Warning
-level_of Crowded = Warning
-level_of Astray = Warning
-level_of (Granted ticket) = Info
-level_of (GivenBack ticket) = Info
+level_of (event.Down id) = Warning
+level_of (event.Lost ticket) = Warning
+level_of event.Full = Warning
+level_of event.Crowded = Warning
+level_of event.Astray = Warning
+level_of (event.Granted ticket) = Info
+level_of (event.GivenBack ticket) = Info
 level_of _ = Notice
 
 -- the severities of RFC 5424, 6.2.1

@@ -1,37 +1,23 @@
 -- A line of a node's log.
 use Rattle.std.specs.Prelude.{ℕ, Bool, nat_lt, if◌then◌else◌, List, [], ◌++◌, codes, decimal}
 use Rattle.node_log.specs.declared.event.Event.{Event}
-use Rattle.node_log.specs.declared.event.Event.TheVariants.{
-  Begins,
-  Ends,
-  Up,
-  Down,
-  Granted,
-  Lost,
-  GivenBack,
-  Full,
-  Room,
-  Crowded,
-  Seats,
-  Astray,
-  InPlace,
-}
+use Rattle.node_log.specs.declared.event.Event.TheVariants as event
 use Rattle.node_log.specs.Events.{level_of, priority_of}
 
 abbrev pub event_text : Event → List ℕ
-event_text Begins = codes "begins"
-event_text Ends = codes "ends"
-event_text (Up id) = codes "the link to node " ++ (decimal id ++ codes " is up")
-event_text (Down id) = codes "the link to node " ++ (decimal id ++ codes " is down")
-event_text (Granted ticket) = codes "ticket " ++ (decimal ticket ++ codes " is granted the lock")
-event_text (Lost ticket) = codes "ticket " ++ (decimal ticket ++ codes " has lost the lock")
-event_text (GivenBack ticket) = codes "ticket " ++ (decimal ticket ++ codes " has given the lock back")
-event_text Full = codes "64 clients wait, and further ones are refused"
-event_text Room = codes "clients may wait again"
-event_text Crowded = codes "128 clients are connected, and further ones are closed"
-event_text Seats = codes "clients may connect again"
-event_text Astray = codes "its distance or parent has been wrong for 2 s"
-event_text InPlace = codes "its distance and parent are right again"
+event_text event.Begins = codes "begins"
+event_text event.Ends = codes "ends"
+event_text (event.Up id) = codes "the link to node " ++ (decimal id ++ codes " is up")
+event_text (event.Down id) = codes "the link to node " ++ (decimal id ++ codes " is down")
+event_text (event.Granted ticket) = codes "ticket " ++ (decimal ticket ++ codes " is granted the lock")
+event_text (event.Lost ticket) = codes "ticket " ++ (decimal ticket ++ codes " has lost the lock")
+event_text (event.GivenBack ticket) = codes "ticket " ++ (decimal ticket ++ codes " has given the lock back")
+event_text event.Full = codes "64 clients wait, and further ones are refused"
+event_text event.Room = codes "clients may wait again"
+event_text event.Crowded = codes "128 clients are connected, and further ones are closed"
+event_text event.Seats = codes "clients may connect again"
+event_text event.Astray = codes "its distance or parent has been wrong for 2 s"
+event_text event.InPlace = codes "its distance and parent are right again"
 
 -- the priority in angle brackets, as the journal of systemd reads it in front of a line (sd-daemon)
 abbrev pub priority_text : Event → Bool → List ℕ

@@ -4,17 +4,7 @@ use Rattle.std.specs.List.{slice_index_or}
 use Rattle.lock_desk.specs.declared.act.DeskAct.{DeskAct}
 use Rattle.lock_desk.specs.declared.act.DeskAct.TheVariants as act
 use Rattle.node_log.specs.declared.event.Event.{Event}
-use Rattle.node_log.specs.declared.event.Event.TheVariants.{
-  Up,
-  Down,
-  Granted,
-  Lost,
-  GivenBack,
-  Full,
-  Room,
-  Crowded,
-  Seats,
-}
+use Rattle.node_log.specs.declared.event.Event.TheVariants as event
 use Rattle.node_log.specs.declared.event.Level.{Level}
 use Rattle.node_log.specs.declared.rate.LineRate.{LineRate}
 use Rattle.node_log.specs.Events.{level_of, is_said_at}
@@ -23,20 +13,20 @@ use Rattle.node_log.specs.Rate.{answer_at, rate_after}
 -- who had the lock and has given it back: a tick grants only if nobody had it any more, and takes it from nobody
 -- without an end of the loan
 abbrev pub gave_back : Option ℕ → DeskAct → Option ℕ → Option Event
-gave_back (Some ticket) (act.Granted other) now = Some (GivenBack ticket)
-gave_back (Some ticket) act.Quiet None = Some (GivenBack ticket)
+gave_back (Some ticket) (act.Granted other) now = Some (event.GivenBack ticket)
+gave_back (Some ticket) act.Quiet None = Some (event.GivenBack ticket)
 gave_back before did now = None
 
 -- who was granted it, and who lost it
 abbrev pub by_act : DeskAct → Option Event
-by_act (act.Granted ticket) = Some (Granted ticket)
-by_act (act.Lost ticket) = Some (Lost ticket)
+by_act (act.Granted ticket) = Some (event.Granted ticket)
+by_act (act.Lost ticket) = Some (event.Lost ticket)
 by_act act.Quiet = None
 
 -- a link that was up and is down, or the other way
 abbrev pub changed : ℕ → Bool → Bool → Option Event
-changed id true false = Some (Up id)
-changed id false true = Some (Down id)
+changed id true false = Some (event.Up id)
+changed id false true = Some (event.Down id)
 changed id is_up was_up = None
 
 abbrev pub by_link : ℕ → Bool → List Bool → Option Event
@@ -45,8 +35,8 @@ by_link id is_up up = if nat_lt id 64 then changed id is_up (slice_index_or up i
 -- a desk has 64 places for those who wait, and refuses all others while they are taken. That is
 -- said once, until at most half of them are taken
 abbrev pub by_desk : ℕ → Bool → Option Event
-by_desk waiting false = if nat_lt waiting 64 then None else Some Full
-by_desk waiting true = if nat_lt 32 waiting then None else Some Room
+by_desk waiting false = if nat_lt waiting 64 then None else Some event.Full
+by_desk waiting true = if nat_lt 32 waiting then None else Some event.Room
 
 abbrev pub full_after : ℕ → Bool → Bool
 full_after waiting false = not (nat_lt waiting 64)
@@ -55,8 +45,8 @@ full_after waiting true = nat_lt 32 waiting
 -- a node has at most 128 clients, and closes each further one. That is said once, until at most half
 -- of them are connected
 abbrev pub by_crowd : ℕ → ℕ → Bool → Option Event
-by_crowd closed connected false = if nat_lt 0 closed then Some Crowded else None
-by_crowd closed connected true = if nat_lt 64 connected || nat_lt 0 closed then None else Some Seats
+by_crowd closed connected false = if nat_lt 0 closed then Some event.Crowded else None
+by_crowd closed connected true = if nat_lt 64 connected || nat_lt 0 closed then None else Some event.Seats
 
 abbrev pub crowded_after : ℕ → ℕ → Bool → Bool
 crowded_after closed connected false = nat_lt 0 closed

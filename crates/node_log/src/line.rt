@@ -1,4 +1,7 @@
 //! The line of what is said.
+ghost use Rattle.std.specs.Prelude.{Some};
+ghost use Rattle.node_log.specs.Line.{log_line, priority_text, left_out_text, event_text};
+
 use crate::event::Event;
 use std::fmt;
 
@@ -16,9 +19,6 @@ pub struct LogLine {
 }
 
 impl fmt::Display for LogLine {
-    ghost use Rattle.std.specs.Prelude.{Some};
-    ghost use Rattle.node_log.specs.Line.{log_line};
-
     ghost output = { λ line. Some (log_line line.id line.event line.left_out line.has_priority) };
 
     fn fmt<W: fmt::Write>(&self, f: &mut fmt::Formatter<W>) -> fmt::Result {
@@ -34,9 +34,6 @@ impl fmt::Display for LogLine {
 struct Priority(Event, bool);
 
 impl fmt::Display for Priority {
-    ghost use Rattle.std.specs.Prelude.{Some};
-    ghost use Rattle.node_log.specs.Line.{priority_text};
-
     ghost output = { λ line. Some (priority_text line.0 line.1) };
 
     fn fmt<W: fmt::Write>(&self, f: &mut fmt::Formatter<W>) -> fmt::Result {
@@ -54,9 +51,6 @@ impl fmt::Display for Priority {
 struct LeftOut(u64);
 
 impl fmt::Display for LeftOut {
-    ghost use Rattle.std.specs.Prelude.{Some};
-    ghost use Rattle.node_log.specs.Line.{left_out_text};
-
     ghost output = { λ line. Some (left_out_text line.0) };
 
     fn fmt<W: fmt::Write>(&self, f: &mut fmt::Formatter<W>) -> fmt::Result {
@@ -74,9 +68,6 @@ impl fmt::Display for LeftOut {
 struct What(Event);
 
 impl fmt::Display for What {
-    ghost use Rattle.std.specs.Prelude.{Some};
-    ghost use Rattle.node_log.specs.Line.{event_text};
-
     ghost output = { λ what. Some (event_text what.0) };
 
     fn fmt<W: fmt::Write>(&self, f: &mut fmt::Formatter<W>) -> fmt::Result {
