@@ -1,6 +1,6 @@
 -- Small examples of names, lines and reports, and some that look like them and are none.
 use Rattle.std.proofs.Common.{◌≡◌, ◌≢◌, ℕ, List, true, false, [], ◌∷◌, ◌++◌, Some, None, codes, decimal, string_bytes, refl, arith}
-use Rattle.std.proofs.lemmas.Fmt.{decimal_digit}
+use Rattle.std.specs.Fmt.{digits}
 use Rattle.node_texts.specs.declared.answers.NodeAnswer.{NodeAnswer}
 use Rattle.node_texts.specs.declared.lines.End.TheVariants.{Status, Signal, Unknown, Unstarted}
 use Rattle.node_texts.specs.declared.paths.NodePaths.{NodePaths}
@@ -12,62 +12,61 @@ use Rattle.node_texts.specs.Report.{has_answered, report_text}
 use Rattle.node_texts.specs.StatusLaws.{IsSmall}
 use Rattle.node_texts.specs.StatusText.{line_status, short_line_status, status_text}
 
-zero-is : decimal 0 ≡ codes "0"
-zero-is = decimal_digit 0 (omega arith)
-
-one-is : decimal 1 ≡ codes "1"
-one-is = decimal_digit 1 (omega arith)
-
-two-is : decimal 2 ≡ codes "2"
-two-is = decimal_digit 2 (omega arith)
-
-nine-is : decimal 9 ≡ codes "9"
-nine-is = decimal_digit 9 (omega arith)
-
 -- ---- names
 
 -- the state file of node 2 in the folder `run`
 names : file_name (codes "run") (codes "state-") 2 (codes ".tkt") ≡ codes "run/state-2.tkt"
-names = rw two-is
+unfolding digits
+names = refl
 
 names-desk : desk_path (codes "run") 2 ≡ codes "run/desk-2.sock"
-names-desk = rw two-is
+unfolding digits
+names-desk = refl
 
 -- of three nodes the last has the longest name
 names-longest : longest_socket_name (codes "run") 3 ≡ codes "run/node-2.sock"
-names-longest = rw two-is
+unfolding digits
+names-longest = refl
 
 looks-path : look_path (codes "run") 2 ≡ codes "run/look-2.sock"
-looks-path = rw two-is
+unfolding digits
+looks-path = refl
 
 -- all of node 2's files in the folder `run`; the state file of node 1 is none of them
 module _ (paths : NodePaths) where
   are-named : string_bytes paths.state ≡ codes "run/state-2.tkt" → string_bytes paths.links ≡ codes "run/node-2.sock"
       → string_bytes paths.clients ≡ codes "run/desk-2.sock" → string_bytes paths.looks ≡ codes "run/look-2.sock"
       → string_bytes paths.stop ≡ codes "run/stop-2" → string_bytes paths.lock ≡ codes "run/lock-2" → AreNamed (codes "run") 2 paths
-  are-named state links clients looks stop lock = rw two-is (state, links, clients, looks, stop, lock)
+  unfolding digits
+  are-named state links clients looks stop lock = (state, links, clients, looks, stop, lock)
 
   named_not-other : string_bytes paths.state ≡ codes "run/state-1.tkt" → ¬ AreNamed (codes "run") 2 paths
+  unfolding digits
   named_not-other state are =
-      let e : ◌≡◌ {A = List ℕ} (codes "run/state-1.tkt") (codes "run/state-2.tkt") = rw (state, two-is) at are.0 in grind (arith, e)
+      let e : ◌≡◌ {A = List ℕ} (codes "run/state-1.tkt") (codes "run/state-2.tkt") = rw state at are.0 in grind (arith, e)
 
 -- ---- what processes print
 
 ends-status : end_line 1 (Status 2) ≡ codes "node 1 ended with status 2, and is started again"
-ends-status = rw (one-is, two-is)
+unfolding digits
+ends-status = refl
 
 ends-signal : end_line 1 (Signal 9) ≡ codes "node 1 was ended by signal 9, and is started again"
-ends-signal = rw (one-is, nine-is)
+unfolding digits
+ends-signal = refl
 
 ends-unstarted : end_line 1 Unstarted ≡ codes "node 1 cannot be started; it is tried again"
-ends-unstarted = rw one-is
+unfolding digits
+ends-unstarted = refl
 
 ends-unknown : end_line 1 Unknown ≡ codes "node 1 ended, and is started again"
-ends-unknown = rw one-is
+unfolding digits
+ends-unknown = refl
 
 warns-capacity : capacity_line 2 ≡ codes "tokentree: capacity 2 is less than " ++ (decimal 64
     ++ (codes ": 36 frames may be under way on a link; give the network capacity " ++ (decimal 64 ++ codes " or more")))
-warns-capacity = rw two-is
+unfolding digits
+warns-capacity = refl
 
 -- ---- status lines
 
@@ -79,10 +78,12 @@ abbrev idle : StatusLine
 idle = record { node = 0; distance = 0; parent = None; token = false; lent = None; waiting = 0 }
 
 spells-lending : status_text lending ≡ codes "node 1 distance 1 parent 0 token yes lent 9 waiting 2"
-spells-lending = rw (zero-is, one-is, two-is, nine-is)
+unfolding digits
+spells-lending = refl
 
 spells-idle : status_text idle ≡ codes "node 0 distance 0 parent none token no lent none waiting 0"
-spells-idle = rw zero-is
+unfolding digits
+spells-idle = refl
 
 -- a line is read byte for byte
 reads-lending : line_status (codes "node 1 distance 1 parent 0 token yes lent 9 waiting 2") ≡ Some lending
@@ -128,14 +129,17 @@ silent = record { node = 2; line = None }
 -- a node that lends and one that gave no answer
 reports : report_text (answered ∷ silent ∷ [])
     ≡ codes "node 1 distance 1 parent 0 token yes lent 9 waiting 2\nnode 2 no answer\nprivileged 1 lending 1\n"
-reports = rw (zero-is, one-is, two-is, nine-is)
+unfolding digits
+reports = refl
 
 -- one that gave no answer is not counted
 reports-silent : report_text (silent ∷ []) ≡ codes "node 2 no answer\nprivileged 0 lending 0\n"
-reports-silent = rw (zero-is, two-is)
+unfolding digits
+reports-silent = refl
 
 reports-idle : report_text (record { node = 0; line = Some idle } ∷ []) ≡ codes "node 0 distance 0 parent none token no lent none waiting 0\nprivileged 0 lending 0\n"
-reports-idle = rw zero-is
+unfolding digits
+reports-idle = refl
 
 has : has_answered answered ≡ true
 has = refl

@@ -1,4 +1,7 @@
 //! The lines that processes print.
+ghost use Rattle.std.specs.Prelude.{Some};
+ghost use Rattle.node_texts.specs.LineText.{capacity_line, end_line, end_text};
+
 use std::fmt;
 
 /// The frames that may be under way from one node to another are 36: 6 in a socket, 23 in the piece
@@ -12,9 +15,6 @@ pub const SOCKET_FRAMES: u16 = 64;
 pub struct CapacityLine(pub u16);
 
 impl fmt::Display for CapacityLine {
-    ghost use Rattle.std.specs.Prelude.{Some};
-    ghost use Rattle.node_texts.specs.LineText.{capacity_line};
-
     ghost output = { λ line. Some (capacity_line line.0) };
 
     fn fmt<W: fmt::Write>(&self, f: &mut fmt::Formatter<W>) -> fmt::Result {
@@ -50,9 +50,6 @@ pub struct EndLine {
 }
 
 impl fmt::Display for EndLine {
-    ghost use Rattle.std.specs.Prelude.{Some};
-    ghost use Rattle.node_texts.specs.LineText.{end_line};
-
     ghost output = { λ line. Some (end_line line.id line.end) };
 
     fn fmt<W: fmt::Write>(&self, f: &mut fmt::Formatter<W>) -> fmt::Result {
@@ -61,9 +58,6 @@ impl fmt::Display for EndLine {
 }
 
 impl fmt::Display for End {
-    ghost use Rattle.std.specs.Prelude.{Some};
-    ghost use Rattle.node_texts.specs.LineText.{end_text};
-
     ghost output = { λ end. Some (end_text end) };
 
     fn fmt<W: fmt::Write>(&self, f: &mut fmt::Formatter<W>) -> fmt::Result {

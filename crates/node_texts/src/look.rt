@@ -1,5 +1,5 @@
 //! What a node says to whoever looks: one line, a JSON object.
-ghost use Rattle.std.specs.Prelude.{◌≡◌, ◌++◌, IfOk, OnOk, codes, string_bytes};
+ghost use Rattle.std.specs.Prelude.{◌≡◌, ◌++◌, IfOk, OnOk, codes, string_bytes, Some};
 ghost use Rattle.node_texts.specs.LookText.{look_text, status_part, links_text, other_links_text};
 ghost use Rattle.node_texts.specs.LookText.{link_text, rest_text, rounds_text, link_parts};
 
@@ -132,9 +132,6 @@ fn push_rounds(text: &mut String, rounds: u64) -> Result<(), AllocError>
 struct StatusPart(StatusLine);
 
 impl fmt::Display for StatusPart {
-    ghost use Rattle.std.specs.Prelude.{Some};
-    ghost use Rattle.node_texts.specs.LookText.{status_part};
-
     ghost output = { λ status. Some (status_part status.0) };
 
     fn fmt<W: fmt::Write>(&self, f: &mut fmt::Formatter<W>) -> fmt::Result {

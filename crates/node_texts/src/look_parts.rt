@@ -1,10 +1,11 @@
 //! The parts of what a node says to whoever looks.
-ghost use Rattle.std.specs.Prelude.{◌≡◌};
+ghost use Rattle.std.specs.Prelude.{◌≡◌, Some};
 ghost use Rattle.std.specs.Option.{option_map};
 ghost use Rattle.turn_watch.specs.Links.{break_count};
 ghost use Rattle.turn_watch.specs.Loans.{loan_length};
 ghost use Rattle.turn_watch.specs.Turns.{longest_lately};
-ghost use Rattle.node_texts.specs.LookText.{link_part, loan_part, turn_part};
+ghost use Rattle.node_texts.specs.LookText.{link_part, loan_part, turn_part, link_text, loan_text};
+ghost use Rattle.node_texts.specs.LookText.{turn_text, or_null_text};
 
 use std::fmt;
 use turn_watch::{LinkTimes, LoanTimes, TurnTimes};
@@ -37,9 +38,6 @@ impl LinkPart {
 }
 
 impl fmt::Display for LinkPart {
-    ghost use Rattle.std.specs.Prelude.{Some};
-    ghost use Rattle.node_texts.specs.LookText.{link_text};
-
     ghost output = { λ link. Some (link_text link) };
 
     fn fmt<W: fmt::Write>(&self, f: &mut fmt::Formatter<W>) -> fmt::Result {
@@ -79,9 +77,6 @@ impl LoanPart {
 }
 
 impl fmt::Display for LoanPart {
-    ghost use Rattle.std.specs.Prelude.{Some};
-    ghost use Rattle.node_texts.specs.LookText.{loan_text};
-
     ghost output = { λ loans. Some (loan_text loans) };
 
     fn fmt<W: fmt::Write>(&self, f: &mut fmt::Formatter<W>) -> fmt::Result {
@@ -128,9 +123,6 @@ impl TurnPart {
 }
 
 impl fmt::Display for TurnPart {
-    ghost use Rattle.std.specs.Prelude.{Some};
-    ghost use Rattle.node_texts.specs.LookText.{turn_text};
-
     ghost output = { λ turns. Some (turn_text turns) };
 
     fn fmt<W: fmt::Write>(&self, f: &mut fmt::Formatter<W>) -> fmt::Result {
@@ -156,9 +148,6 @@ pub struct ProcessPart {
 pub(crate) struct OrNull(pub Option<u64>);
 
 impl fmt::Display for OrNull {
-    ghost use Rattle.std.specs.Prelude.{Some};
-    ghost use Rattle.node_texts.specs.LookText.{or_null_text};
-
     ghost output = { λ number. Some (or_null_text number.0) };
 
     fn fmt<W: fmt::Write>(&self, f: &mut fmt::Formatter<W>) -> fmt::Result {

@@ -1,8 +1,8 @@
 //! What a node's line for whoever looks says of its turns, and what `status --premises` prints of it.
-ghost use Rattle.std.specs.Prelude.{◌≡◌, ◌++◌, IfOk, OnOk, codes, string_bytes};
+ghost use Rattle.std.specs.Prelude.{◌≡◌, ◌++◌, IfOk, OnOk, codes, string_bytes, Some};
 ghost use Rattle.serde_json.specs.View.{view};
 ghost use Rattle.node_texts.specs.PremisesText.{member_number, turns_said, line_said};
-ghost use Rattle.node_texts.specs.PremisesText.{premises_line, premises_text};
+ghost use Rattle.node_texts.specs.PremisesText.{premises_line, premises_text, millis_text};
 
 use serde_json::Value;
 use std::alloc::{AllocError, Global};
@@ -101,9 +101,6 @@ pub struct PremisesLine {
 }
 
 impl fmt::Display for PremisesLine {
-    ghost use Rattle.std.specs.Prelude.{Some};
-    ghost use Rattle.node_texts.specs.PremisesText.{premises_line};
-
     ghost output = { λ line. Some (premises_line line.node line.said) };
 
     fn fmt<W: fmt::Write>(&self, f: &mut fmt::Formatter<W>) -> fmt::Result {
@@ -125,9 +122,6 @@ impl fmt::Display for PremisesLine {
 struct Millis(u64);
 
 impl fmt::Display for Millis {
-    ghost use Rattle.std.specs.Prelude.{Some};
-    ghost use Rattle.node_texts.specs.PremisesText.{millis_text};
-
     ghost output = { λ time. Some (millis_text time.0) };
 
     fn fmt<W: fmt::Write>(&self, f: &mut fmt::Formatter<W>) -> fmt::Result {

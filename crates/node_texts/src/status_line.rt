@@ -1,8 +1,9 @@
 //! The line by which a node says how it stands.
-ghost use Rattle.std.specs.Prelude.{◌≡◌, is_some, OnSome};
+ghost use Rattle.std.specs.Prelude.{◌≡◌, is_some, OnSome, Some};
 ghost use Rattle.line_words.specs.Numbers.{number, number_or_none, yes_or_no};
 ghost use Rattle.line_words.specs.Words.{other_words};
 ghost use Rattle.node_texts.specs.StatusText.{line_status, first_is, value_after, short_line_status};
+ghost use Rattle.node_texts.specs.StatusText.{or_none_text, status_text};
 
 use byte_lines::LineReading;
 use line_words::Words;
@@ -114,9 +115,6 @@ impl LineReading<MOST_STATUS_BYTES> for StatusReading {
 struct OrNone(Option<u16>);
 
 impl fmt::Display for OrNone {
-    ghost use Rattle.std.specs.Prelude.{Some};
-    ghost use Rattle.node_texts.specs.StatusText.{or_none_text};
-
     ghost output = { λ number. Some (or_none_text number.0) };
 
     fn fmt<W: fmt::Write>(&self, f: &mut fmt::Formatter<W>) -> fmt::Result {
@@ -128,9 +126,6 @@ impl fmt::Display for OrNone {
 }
 
 impl fmt::Display for StatusLine {
-    ghost use Rattle.std.specs.Prelude.{Some};
-    ghost use Rattle.node_texts.specs.StatusText.{status_text};
-
     ghost output = { λ line. Some (status_text line) };
 
     fn fmt<W: fmt::Write>(&self, f: &mut fmt::Formatter<W>) -> fmt::Result {
