@@ -1,4 +1,7 @@
 //! What is wrong with a network file.
+ghost use Rattle.std.specs.Prelude.{Some};
+ghost use Rattle.network_hints.specs.HintText.{flaw_text, none_of_text, hint_text};
+
 use crate::key::Key;
 use std::fmt;
 
@@ -28,9 +31,6 @@ pub enum Flaw {
 }
 
 impl fmt::Display for Flaw {
-    ghost use Rattle.std.specs.Prelude.{Some};
-    ghost use Rattle.network_hints.specs.HintText.{flaw_text};
-
     ghost output = { λ flaw. Some (flaw_text flaw) };
 
     fn fmt<W: fmt::Write>(&self, f: &mut fmt::Formatter<W>) -> fmt::Result {
@@ -77,9 +77,6 @@ impl fmt::Display for Flaw {
 struct NoneOf(i64);
 
 impl fmt::Display for NoneOf {
-    ghost use Rattle.std.specs.Prelude.{Some};
-    ghost use Rattle.network_hints.specs.HintText.{none_of_text};
-
     ghost output = { λ nodes. Some (none_of_text nodes.0) };
 
     fn fmt<W: fmt::Write>(&self, f: &mut fmt::Formatter<W>) -> fmt::Result {
@@ -99,9 +96,6 @@ pub struct Hint<'a> {
 }
 
 impl fmt::Display for Hint<'_> {
-    ghost use Rattle.std.specs.Prelude.{Some};
-    ghost use Rattle.network_hints.specs.HintText.{hint_text};
-
     ghost output = { λ hint. Some (hint_text hint.file.now hint.flaw hint.like) };
 
     fn fmt<W: fmt::Write>(&self, f: &mut fmt::Formatter<W>) -> fmt::Result {
