@@ -1,6 +1,7 @@
 //! The line that a check prints.
-ghost use Rattle.std.specs.Prelude.{◌≡◌, length, filter};
-ghost use Rattle.status_readings.specs.CheckText.{figures, is_wrong};
+ghost use Rattle.std.specs.Prelude.{◌≡◌, length, filter, Some};
+ghost use Rattle.status_readings.specs.CheckText.{figures, is_wrong, finding_text, figure_text};
+ghost use Rattle.status_readings.specs.CheckText.{figures_text, check_line};
 
 use crate::counts::{answering, lending, privileged};
 use crate::findings::{Finding, is_true};
@@ -59,9 +60,6 @@ fn is_wrong(net: &Net, answer: &NodeAnswer) -> bool
 }
 
 impl fmt::Display for Finding {
-    ghost use Rattle.std.specs.Prelude.{Some};
-    ghost use Rattle.status_readings.specs.CheckText.{finding_text};
-
     ghost output = { λ finding. Some (finding_text finding) };
 
     fn fmt<W: fmt::Write>(&self, f: &mut fmt::Formatter<W>) -> fmt::Result {
@@ -98,9 +96,6 @@ impl Figure {
 }
 
 impl fmt::Display for Figure {
-    ghost use Rattle.std.specs.Prelude.{Some};
-    ghost use Rattle.status_readings.specs.CheckText.{figure_text};
-
     ghost output = { λ figure. Some (figure_text figure.label.now figure.value figure.most) };
 
     #[tactic(auto, unfolding(crate::specs::CheckText::figure_text))]
@@ -110,9 +105,6 @@ impl fmt::Display for Figure {
 }
 
 impl fmt::Display for Figures {
-    ghost use Rattle.std.specs.Prelude.{Some};
-    ghost use Rattle.status_readings.specs.CheckText.{figures_text};
-
     ghost output = { λ figures. Some (figures_text figures) };
 
     fn fmt<W: fmt::Write>(&self, f: &mut fmt::Formatter<W>) -> fmt::Result {
@@ -139,9 +131,6 @@ pub struct CheckLine {
 }
 
 impl fmt::Display for CheckLine {
-    ghost use Rattle.std.specs.Prelude.{Some};
-    ghost use Rattle.status_readings.specs.CheckText.{check_line};
-
     ghost output = { λ line. Some (check_line line.finding line.figures) };
 
     fn fmt<W: fmt::Write>(&self, f: &mut fmt::Formatter<W>) -> fmt::Result {

@@ -1,8 +1,9 @@
 //! What a watch shows at a time.
-ghost use Rattle.std.specs.Prelude.{◌≡◌, ◌++◌, IfOk, OnOk, length, filter, string_bytes};
+ghost use Rattle.std.specs.Prelude.{◌≡◌, ◌++◌, IfOk, OnOk, length, filter, string_bytes, Some};
 ghost use Rattle.node_texts.specs.Report.{counts_line, is_privileged, lends};
 ghost use Rattle.status_readings.specs.Picture.{indent, said_text, lent_text, waiting_text, row_text, row_lines};
 ghost use Rattle.status_readings.specs.Picture.{loans_line, rounds_line, rates_lines, picture_text};
+ghost use Rattle.status_readings.specs.Picture.{tenths_text};
 
 use crate::counts::{lending, privileged};
 use crate::minute::{NodeLoans, Rates, present_at};
@@ -149,9 +150,6 @@ fn push_rounds(text: &mut String, rates: Rates) -> Result<(), AllocError>
 struct Tenths(u64);
 
 impl fmt::Display for Tenths {
-    ghost use Rattle.std.specs.Prelude.{Some};
-    ghost use Rattle.status_readings.specs.Picture.{tenths_text};
-
     ghost output = { λ tenths. Some (tenths_text tenths.0) };
 
     fn fmt<W: fmt::Write>(&self, f: &mut fmt::Formatter<W>) -> fmt::Result {

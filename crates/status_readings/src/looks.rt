@@ -1,6 +1,7 @@
 //! What the lines for whoever looks say of links and loans.
 ghost use Rattle.std.specs.Prelude.{◌≡◌, ◌++◌, IfOk, OnOk, string_bytes};
 ghost use Rattle.std.specs.Option.{option_map};
+ghost use Rattle.serde_json.specs.Read.{read};
 ghost use Rattle.serde_json.specs.View.{view, items_view};
 ghost use Rattle.node_texts.specs.PremisesText.{member_number};
 ghost use Rattle.status_readings.specs.LookSaid.{loans_said, root_rounds, line_loans, member_truth};
@@ -36,11 +37,22 @@ impl LoansSaid {
     pub fn read(alloc: Global, line: &str) -> Result<Option<LoansSaid>, AllocError>
         ensures { IfOk result (λ said. said ≡ line_loans line.now) }
     {
-        match Value::from_str(alloc, line) {
-            Ok(value) => Ok(loans_said(&value)),
-            Err(error) if error.is_memory() => Err(AllocError),
-            Err(_) => Ok(None),
-        }
+        let value = value_of(alloc, line)?;
+        Ok(value.as_ref().and_then(loans_said))
+    }
+}
+
+/// What a line says, if it is JSON.
+///
+/// # Errors
+/// If memory runs out.
+pub fn value_of(alloc: Global, line: &str) -> Result<Option<Value>, AllocError>
+    ensures { IfOk result (λ value. option_map view value ≡ read line.now) }
+{
+    match Value::from_str(alloc, line) {
+        Ok(value) => Ok(Some(value)),
+        Err(error) if error.is_memory() => Err(AllocError),
+        Err(_) => Ok(None),
     }
 }
 
@@ -113,10 +125,9 @@ fn link_said(value: &Value) -> Option<LinkSaid>
 pub fn read_links(alloc: Global, line: &str) -> Result<Option<Vec<LinkSaid>>, AllocError>
     ensures { IfOk result (λ said. option_map (λ links. links.items) said ≡ line_links line.now) }
 {
-    match Value::from_str(alloc, line) {
-        Ok(value) => links_of(alloc, &value),
-        Err(error) if error.is_memory() => Err(AllocError),
-        Err(_) => Ok(None),
+    match value_of(alloc, line)? {
+        Some(value) => links_of(alloc, &value),
+        None => Ok(None),
     }
 }
 

@@ -1,4 +1,7 @@
 //! Times in seconds.
+ghost use Rattle.std.specs.Prelude.{Some};
+ghost use Rattle.status_readings.specs.SecondsText.{seconds_text};
+
 use std::fmt;
 
 /// Microseconds, printed as seconds with three decimals.
@@ -6,9 +9,6 @@ use std::fmt;
 pub struct Seconds(pub u64);
 
 impl fmt::Display for Seconds {
-    ghost use Rattle.std.specs.Prelude.{Some};
-    ghost use Rattle.status_readings.specs.SecondsText.{seconds_text};
-
     ghost output = { λ time. Some (seconds_text time.0) };
 
     fn fmt<W: fmt::Write>(&self, f: &mut fmt::Formatter<W>) -> fmt::Result {

@@ -6,7 +6,7 @@ ghost use Rattle.status_readings.specs.LookSaid.{member_truth};
 ghost use Rattle.status_readings.specs.StandingSaid.{in_range, member_id, member_or_null, number_or_null};
 ghost use Rattle.status_readings.specs.StandingSaid.{standing_said, line_standing};
 
-use crate::looks::{member_number, member_truth};
+use crate::looks::{member_number, member_truth, value_of};
 use node_texts::StatusLine;
 use serde_json::Value;
 use std::alloc::{AllocError, Global};
@@ -18,11 +18,8 @@ use std::alloc::{AllocError, Global};
 pub fn read_standing(alloc: Global, line: &str) -> Result<Option<StatusLine>, AllocError>
     ensures { IfOk result (λ said. said ≡ line_standing line.now) }
 {
-    match Value::from_str(alloc, line) {
-        Ok(value) => Ok(standing_said(&value)),
-        Err(error) if error.is_memory() => Err(AllocError),
-        Err(_) => Ok(None),
-    }
+    let value = value_of(alloc, line)?;
+    Ok(value.as_ref().and_then(standing_said))
 }
 
 /// What a value says of how a node stands.
