@@ -13,6 +13,7 @@ use Rattle.lock_client.specs.declared.guard.GuardDeed.TheVariants.{Ask}
 use Rattle.lock_client.specs.declared.words.GuardWord.TheVariants as word
 use Rattle.lock_client.specs.Guards.{guard_after, guard_after_all, guard_deed, guard_deeds}
 use Rattle.lock_client.specs.GuardLaws.{quiet_looks, IsUnannounced, is_asking, AsksFirst}
+use Rattle.lock_client.proofs.AtMost.{at_most}
 
 -- how many looks in a row found nobody, as the guard has it
 abbrev looks_of : GuardStage → ℕ
@@ -103,11 +104,9 @@ ask-counted keeps e stage = grind (arith, common_steps, nat_tests)
 
 pub asks : (keeps : Bool) (stage : GuardStage) (events : List GuardEvent)
     → length (filter is_asking (guard_deeds keeps stage events)) ≤ asks_left stage
-asks keeps stage [] = omega arith
-asks keeps stage (e ∷ es) =
-    let one : _ = ask-counted keeps e stage in
-    let rest : _ = asks keeps (guard_after keeps e stage) es in
-    grind (arith, common_steps)
+asks keeps =
+    at_most (guard_after keeps) (λ e stage. guard_deed stage (guard_after keeps e stage)) (guard_deeds keeps) (λ stage. refl)
+    (λ stage e es. refl) is_asking asks_left (ask-counted keeps)
 
 -- before it has asked, and after it has chosen to wait, it kills nobody
 abbrev IsBefore : GuardStage → Type 0

@@ -1,3 +1,4 @@
+mod AtMost
 pub mod Counting
 pub mod RowsGuard
 pub mod Guarding

@@ -1,7 +1,7 @@
 //! The lines between a client and a desk, as the client writes and reads them.
 ghost use Rattle.std.specs.Prelude.{◌≡◌, ◌++◌, ◌∷◌, [], List, ℕ};
 ghost use Rattle.std.specs.Option.{option_to_list};
-ghost use Rattle.byte_lines.specs.Kept.{StandsAfter};
+ghost use Rattle.byte_lines.specs.Kept.{StandsAfter, Kept};
 ghost use Rattle.lock_desk.specs.ClientText.{client_lines};
 ghost use Rattle.lock_client.specs.Lines.{answer_line, answer_lines};
 
@@ -31,8 +31,6 @@ pub struct AnswerReader {
 }
 
 impl Model for AnswerReader {
-    ghost use Rattle.byte_lines.specs.Kept.{Kept};
-
     ghost Value = { Kept };
 
     ghost view = { λ r. r.half };

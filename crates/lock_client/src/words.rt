@@ -1,7 +1,7 @@
 //! What a client says to the guard of its command, over a pair of sockets.
 ghost use Rattle.std.specs.Prelude.{◌≡◌, ◌++◌, ◌∷◌, [], List, ℕ, ◌≤◌, length};
 ghost use Rattle.std.specs.Option.{option_to_list};
-ghost use Rattle.byte_lines.specs.Kept.{StandsAfter};
+ghost use Rattle.byte_lines.specs.Kept.{StandsAfter, Kept};
 ghost use Rattle.lock_client.specs.Words.{guard_word, guard_words, runs_word};
 
 use byte_lines::{HalfLine, LineReading};
@@ -31,8 +31,6 @@ pub struct WordReader {
 }
 
 impl Model for WordReader {
-    ghost use Rattle.byte_lines.specs.Kept.{Kept};
-
     ghost Value = { Kept };
 
     ghost view = { λ r. r.half };
