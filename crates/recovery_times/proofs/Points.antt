@@ -1,5 +1,5 @@
 -- What stands after the first point of a word.
-use Rattle.std.proofs.Common.{◌≡◌, ℕ, suc, ◌+◌, ◌*◌, ◌<◌, ◌≤◌, List, [], ◌∷◌, length, take, drop, Option, Some, None, Bor, slice_range, inl, inr, refl, sym, add-one, arith}
+use Rattle.std.proofs.Common.{◌≡◌, ◌∙◌, ap, ℕ, suc, ◌+◌, ◌*◌, ◌<◌, ◌≤◌, List, [], ◌∷◌, length, take, drop, Option, Some, None, Bor, slice_range, inl, inr, refl, sym, add-one, arith}
 use Rattle.std.specs.List.{PartBy}
 use Rattle.std.specs.Option.{option_map}
 use Rattle.std.proofs.lemmas.Grind.{common_steps}
@@ -30,6 +30,15 @@ after-first word k (Some x) e w ((more, all, is, len), some) =
 pub no-part : (word : List ℕ) (whole : ℕ) → Some whole ≡ whole_of (take (point_at word) word) → None ≡ part_of (after_point word) → None ≡ micros_of word
 no-part word whole w p = grind (arith, common_steps)
 
-pub both-parts : (word : List ℕ) (whole part : ℕ) → Some whole ≡ whole_of (take (point_at word) word) → Some part ≡ part_of (after_point word)
+both-parts : (word : List ℕ) (whole part : ℕ) → Some whole ≡ whole_of (take (point_at word) word) → Some part ≡ part_of (after_point word)
     → within_an_hour (1000 * whole + part) ≡ micros_of word
 both-parts word whole part w p = grind (arith, common_steps)
+
+-- the same of a word that is cut at its first point
+pub cut-parts : (word : List ℕ) (k : ℕ) (r : Option (Bor (List ℕ))) (whole part : ℕ) → k ≡ point_at word → k ≤ length word
+    → PartBy (λ (x : Bor (List ℕ)). x.now) word (k + 1) (length word) r
+    → Some whole ≡ whole_of (take k word) → Some part ≡ part_of (option_map (λ d. d.now) r)
+    → within_an_hour (1000 * whole + part) ≡ micros_of word
+cut-parts word k r whole part at within cut w p =
+    let front : Some whole ≡ whole_of (take (point_at word) word) = rw (← at) w in
+    both-parts word whole part front (p ∙ ap part_of (after-first word k r at within cut))

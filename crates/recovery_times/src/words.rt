@@ -1,6 +1,6 @@
 //! Premises, as the options of a command line give them.
-ghost use Rattle.std.specs.Prelude.{◌≡◌, ◌≤◌, IfOk};
-ghost use Rattle.recovery_times.specs.Words.{time_or, premises_of};
+ghost use Rattle.std.specs.Prelude.{◌≡◌, ◌≤◌, IfOk, Some};
+ghost use Rattle.recovery_times.specs.Words.{time_or, premises_of, time_fault_text};
 
 use crate::premises::Premises;
 use crate::reading::micros_of;
@@ -35,9 +35,6 @@ pub enum TimeFault {
 }
 
 impl fmt::Display for TimeFault {
-    ghost use Rattle.std.specs.Prelude.{Some};
-    ghost use Rattle.recovery_times.specs.Words.{time_fault_text};
-
     ghost output = { λ fault. Some (time_fault_text fault) };
 
     fn fmt<W: fmt::Write>(&self, f: &mut fmt::Formatter<W>) -> fmt::Result {

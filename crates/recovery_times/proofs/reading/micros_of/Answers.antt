@@ -1,7 +1,7 @@
 use Rattle.std.proofs.Common.{◌≡◌, ◌∙◌, Some, None, take, ap, arith}
 use Rattle.std.proofs.lemmas.Bool.Decides.{nat_tests}
 use Rattle.recovery_times.specs.Reading.{point_at, after_point, whole_of, part_of}
-use Rattle.recovery_times.proofs.Points.{after-first, no-part, both-parts}
+use Rattle.recovery_times.proofs.Points.{after-first, no-part, cut-parts}
 use Rattle.recovery_times.proofs.reading.micros_of.Goals as goal
 
 pub returns-in_err-part-clause-time : goal.returns-in_err-part-clause-time
@@ -15,22 +15,14 @@ returns-in_err-part-clause-time c =
 
 pub returns-then-micros-le-HOUR-clause-time : goal.returns-then-micros-le-HOUR-clause-time
 returns-then-micros-le-HOUR-clause-time c =
-    let word = c.args.word.now in
     let at = c.point_at-point.ensures.at in
-    let after = after-first word c.point_at-point.result c.get.result at c.point_at-point.ensures.within c.get.ensures.lookup in
-    let whole : Some c.in_ok-whole.whole ≡ whole_of (take (point_at word) word) = rw (← at) c.in_ok-whole.ensures.whole in
-    let part : Some c.in_ok-part.part ≡ part_of (after_point word) = c.in_ok-part.ensures.part ∙ ap part_of after in
-    let sum = both-parts word c.in_ok-whole.whole c.in_ok-part.part whole part in
+    let sum = cut-parts c.args.word.now _ _ _ _ at c.point_at-point.ensures.within c.get.ensures.lookup c.in_ok-whole.ensures.whole c.in_ok-part.ensures.part in
     let in_hour = c.if-micros-le-HOUR.true in
     grind (arith, nat_tests, sum, in_hour)
 
 pub returns-else-micros-le-HOUR-clause-time : goal.returns-else-micros-le-HOUR-clause-time
 returns-else-micros-le-HOUR-clause-time c =
-    let word = c.args.word.now in
     let at = c.point_at-point.ensures.at in
-    let after = after-first word c.point_at-point.result c.get.result at c.point_at-point.ensures.within c.get.ensures.lookup in
-    let whole : Some c.in_ok-whole.whole ≡ whole_of (take (point_at word) word) = rw (← at) c.in_ok-whole.ensures.whole in
-    let part : Some c.in_ok-part.part ≡ part_of (after_point word) = c.in_ok-part.ensures.part ∙ ap part_of after in
-    let sum = both-parts word c.in_ok-whole.whole c.in_ok-part.part whole part in
+    let sum = cut-parts c.args.word.now _ _ _ _ at c.point_at-point.ensures.within c.get.ensures.lookup c.in_ok-whole.ensures.whole c.in_ok-part.ensures.part in
     let over = c.if-micros-le-HOUR.false in
     grind (arith, nat_tests, sum, over)
