@@ -1,6 +1,5 @@
 -- Small examples of what `bound` and `network` print, and of the faults that they end with, and some that are none.
 use Rattle.std.proofs.Common.{◌≡◌, ◌≢◌, ◌++◌, ℕ, suc, true, false, List, [], ◌∷◌, Result, Ok, Err, Some, None, codes, decimal, ap, refl, arith}
-use Rattle.std.proofs.lemmas.Fmt.{decimal_digit}
 use Rattle.std.specs.Fmt.{digits}
 use Rattle.serde_json.specs.Data as json
 use Rattle.topology.specs.Network.{Network}
@@ -24,27 +23,13 @@ use Rattle.network_commands.specs.Named.{IsTextOf, IsUnnamed}
 abbrev two_nodes : Network
 two_nodes = record { nodes = 2; root = 0; capacity = 1; lease = 0; edges = (0, 1) ∷ [] }
 
-zero-is : decimal 0 ≡ codes "0"
-zero-is = decimal_digit 0 (omega arith)
-
-one-is : decimal 1 ≡ codes "1"
-one-is = decimal_digit 1 (omega arith)
-
-two-is : decimal 2 ≡ codes "2"
-two-is = decimal_digit 2 (omega arith)
-
-five-is : decimal 5 ≡ codes "5"
-five-is = decimal_digit 5 (omega arith)
-
-seven-is : decimal 7 ≡ codes "7"
-seven-is = decimal_digit 7 (omega arith)
-
 -- ---- `bound`
 
 -- for two nodes the counter's modulus is 2 * 1 + 3, the ring's 6 * (2 - 1) + 1, and the bound 69
 prints-bound : bound_text two_nodes
     ≡ codes "nodes 2\nedges 1\ncapacity 1\ncounter 5\nring 7\ndistances 0 1\nparents none 0\nsweeps " ++ (decimal 69 ++ codes "\n")
-prints-bound = rw (zero-is, one-is, two-is, five-is, seven-is)
+unfolding digits
+prints-bound = refl
 
 -- the sharper bound has its own line, if it is asked for
 prints-sharp : shown_text two_nodes true
@@ -55,10 +40,12 @@ prints_not-sharp : shown_text two_nodes false ≡ bound_text two_nodes
 prints_not-sharp = refl
 
 parent_not-none : parent_word (Some 0) ≢ codes "none"
-parent_not-none e = grind (arith, zero-is, e)
+unfolding digits
+parent_not-none e = grind (arith, e)
 
 prints-nodes : nodes_line (codes "parents") 2 (λ v. decimal v) ≡ codes "parents 0 1\n"
-prints-nodes = rw (zero-is, one-is)
+unfolding digits
+prints-nodes = refl
 
 -- 35 sweeps of 12.5 ms, and 8 * 1 * 2 of them for one who waits alone
 prints-times : timed_text two_nodes false (Some usual)
