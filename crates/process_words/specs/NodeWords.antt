@@ -1,8 +1,12 @@
 -- What the words of `node` and `up` ask for.
-use Rattle.std.specs.Prelude.{◌≡◌, ◌⊎◌, Some, codes}
+use Rattle.std.specs.Prelude.{◌≡◌, ◌⊎◌, ℕ, Option, Some, codes}
 use Rattle.clap.specs.Matches.{first_value}
 use Rattle.clap.specs.declared.parser.matches.Found.{Found}
 use Rattle.command_grammar.specs.Given.{IsFlag, IsGiven, IsRefused}
+use Rattle.node_log.specs.declared.event.Level.{Level}
+use Rattle.pace.specs.declared.pace.Manner.{Manner}
+use Rattle.process_parts.specs.declared.record_size.RecordSize.{RecordSize}
+use Rattle.process_parts.specs.declared.rights.Rights.{Rights}
 use Rattle.process_parts.specs.declared.words.NodeWords.{NodeWords}
 use Rattle.process_parts.specs.declared.words.UpWords.{UpWords}
 use Rattle.process_words.specs.GivenRights.{AreRightsOf}
@@ -12,31 +16,31 @@ use Rattle.network_words.specs.Refused.{IsIdRefused, IsMissing}
 use Rattle.network_words.specs.declared.refusal.Refusal.{Refusal}
 use Rattle.network_words.specs.declared.refusal.Refusal.TheVariants.{Word, Time}
 
--- the network file, the node and the folder; its pace, and after how long a turn is late; who may use its sockets; its log
--- and its record; and whether `up` started it
+-- what the options say that `node` and `up` share: the pace of a node, and after how long a turn is late; who may use its
+-- sockets; its log and its record
+abbrev pub AreOptionsOf : Found → Manner → ℕ → Rights → Option Level → Option RecordSize → Type 0
+AreOptionsOf found manner turn rights log record_size =
+    IsMannerOf found manner
+    × IsLimitOf found turn
+    × AreRightsOf found rights
+    × IsLogOf found log
+    × IsSizeOf found record_size
+
+-- the network file, the node and the folder; those options; and whether `up` started it
 abbrev pub IsNodeOf : Found → NodeWords → Type 0
 IsNodeOf found words =
     (first_value found (codes "FILE") ≡ Some words.file.now)
     × IsGiven found (codes "ID") 0 65535 (Some words.id)
     × (first_value found (codes "DIR") ≡ Some words.dir.now)
-    × IsMannerOf found words.manner
-    × IsLimitOf found words.turn
-    × AreRightsOf found words.rights
-    × IsLogOf found words.log
-    × IsSizeOf found words.record_size
+    × AreOptionsOf found words.manner words.turn words.rights words.log words.record_size
     × IsFlag found (codes "child") words.is_child
 
--- the network file and the folder; the pace of the nodes, and after how long a turn is late; who may use their sockets;
--- their logs and their records
+-- the network file and the folder, and those options, for each node
 abbrev pub IsUpOf : Found → UpWords → Type 0
 IsUpOf found words =
     (first_value found (codes "FILE") ≡ Some words.file.now)
     × (first_value found (codes "DIR") ≡ Some words.dir.now)
-    × IsMannerOf found words.manner
-    × IsLimitOf found words.turn
-    × AreRightsOf found words.rights
-    × IsLogOf found words.log
-    × IsSizeOf found words.record_size
+    × AreOptionsOf found words.manner words.turn words.rights words.log words.record_size
 
 -- the word of an option that `node` and `up` share spells no number, or no time, in its range
 abbrev pub IsOptionRefused : Found → Refusal → Type 0
