@@ -1,22 +1,16 @@
 //! What the lines of `lock`, `status` and `stop` do.
 use crate::lock::Surroundings;
 use crate::{lock, status, stop};
-use clap::{ArgMatches, Command};
-use command_grammar::{Program, parser};
-use network_words::program::{ABOUT, NAME, Runtime, VERSION};
+use clap::ArgMatches;
+use command_grammar::Grammar;
+use network_words::program::Runtime;
 use network_words::refusal::{self, Refusal};
 use network_words::{asks_for_lock, asks_for_version, ends, matches_of, say_version};
-use std::alloc::{AllocError, Global};
 use std::convert::AsStr;
 use std::process::ExitCode;
 
-/// The part of the program that has these commands.
-const PART: Program<'static> = Program {
-    name: NAME,
-    about: ABOUT,
-    help: HELP,
-    version: VERSION,
-};
+/// What the commands take, in the order of the help.
+const COMMANDS: [&Grammar<'static>; 3] = [&lock::LOCK, &status::STATUS, &stop::STOP];
 
 /// What follows the commands in its help.
 const HELP: &str = "\
@@ -46,21 +40,13 @@ pub fn run_words<R: Runtime, S: AsStr>(rt: &R, words: &[S]) -> ExitCode {
 
 /// The same, once it is known that no word is lost.
 fn run_whole<R: Runtime, S: AsStr>(rt: &R, words: &[S]) -> ExitCode {
-    let matches = match matches_of(rt, words, part_parser(rt.alloc())) {
+    let matches = match matches_of(rt, words, HELP, &COMMANDS) {
         Ok(matches) => matches,
         Err(status) => return status,
     };
     let is_dashed = words.last().is_some_and(|word| word.as_str() == "--");
     let done = act(rt, &matches, is_dashed);
     ends(rt, done, &matches, asks_for_lock(words))
-}
-
-/// The parser of these commands.
-fn part_parser<'a>(alloc: Global) -> Result<Command<'a>, AllocError> {
-    let parser = parser(alloc, &PART);
-    let parser = lock::add_to(parser, alloc)?;
-    let parser = status::add_to(parser, alloc)?;
-    stop::add_to(parser, alloc)
 }
 
 /// Does what the words of a command say, and returns the exit status. It knows whether the last

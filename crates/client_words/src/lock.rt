@@ -8,21 +8,21 @@ ghost use Rattle.network_words.specs.Refused.{IsIdRefused};
 ghost use Rattle.client_words.specs.LockWords.{AreWhole, IsLockRefused, IsNodeAsked, IsRequestOf};
 ghost use Rattle.client_words.specs.LockWords.{IsRequestRefused, IsWaitOf, IsWaitRefused, command_words, guard_words};
 
-use clap::{ArgMatches, Command};
+use clap::ArgMatches;
 use command_faults::Fault;
-use command_grammar::{Grammar, Number, Parameter, given_number, with_command, word};
+use command_grammar::{FREE, Grammar, Number, Parameter, given_number, word};
 use lock_command::{Request, Seconds, guard, lock};
 use lock_words::{StandIns, limit_of, whole_words};
-use network_words::program::{Runtime, SOCKETS_FOLDER};
+use network_words::program::{DIR, ID, Runtime};
 use network_words::refusal::Refusal;
-use std::alloc::{AllocError, Global};
+use std::alloc::Global;
 use std::convert::AsStr;
 use std::env;
 use std::process::ExitCode;
 use std::rt::Env;
 
 /// What `lock` takes.
-const LOCK: Grammar<'static> = Grammar {
+pub const LOCK: Grammar<'static> = Grammar {
     name: "lock",
     about: "Runs a command while it holds the lock",
     help: HELP,
@@ -51,7 +51,7 @@ const LOCK: Grammar<'static> = Grammar {
         // The program starts its own guard with it.
         Parameter::HiddenFlag("guard"),
         Parameter::HiddenFlag("guard-keeping"),
-        Parameter::Place("DIR", SOCKETS_FOLDER),
+        DIR,
         Parameter::Place(
             "ID",
             "The node to ask, or any: the one of DIR that answers first",
@@ -61,15 +61,9 @@ const LOCK: Grammar<'static> = Grammar {
             "Command and arguments; if none, hold the lock until input ends",
         ),
     ],
-    needs: &[],
     excludes: &[("no-wait", "timeout")],
-    choice: None,
+    ..FREE
 };
-
-/// Adds the command to the program's parser.
-pub fn add_to<'a>(parser: Command<'a>, alloc: Global) -> Result<Command<'a>, AllocError> {
-    with_command(parser, alloc, &LOCK)
-}
 
 /// What follows the options in its help.
 const HELP: &str = "\
@@ -134,14 +128,6 @@ granted in time, or the node has no room for a client; 125 there is no lock
 service at DIR, or it or the system failed, or the second process could not be
 started; 126 the command cannot be run; 127 there is no such command; 2 invalid
 arguments. A signal that ends lock while it waits gives 128 plus its number.";
-
-/// The ids that the parser takes. The folder says which nodes there are.
-const ID: Number<'static> = Number {
-    id: "ID",
-    name: "ID",
-    least: 0,
-    most: 65_535,
-};
 
 /// The word for the node that answers first.
 const ANY: &str = "any";

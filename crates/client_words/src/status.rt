@@ -4,18 +4,18 @@ ghost use Rattle.clap.specs.Matches.{found_of};
 ghost use Rattle.client_words.specs.StatusWords.{AreIds, AreIdsRefused, IsAskedFor, IsFormOf};
 ghost use Rattle.client_words.specs.Interval.{interval};
 
-use clap::{ArgMatches, Command};
+use clap::ArgMatches;
 use command_faults::Fault;
-use command_grammar::{Grammar, Number, Parameter, WordFault, with_command, word};
-use network_words::program::{Runtime, SOCKETS_FOLDER};
+use command_grammar::{FREE, Grammar, Parameter, WordFault, word};
+use network_words::program::{DIR, ID, Runtime};
 use network_words::refusal::Refusal;
 use recovery_times::micros_of;
 use status_command::{Form, Notice, Part, Watch, check, looks, refused, status, watch};
-use std::alloc::{AllocError, Global};
+use std::alloc::Global;
 use std::process::ExitCode;
 
 /// What `status` takes.
-const STATUS: Grammar<'static> = Grammar {
+pub const STATUS: Grammar<'static> = Grammar {
     name: "status",
     about: "Shows how nodes stand, and how many are privileged and lend",
     help: HELP,
@@ -37,11 +37,8 @@ const STATUS: Grammar<'static> = Grammar {
             "SECONDS",
             "The time between two looks, 0.1 to 3600 [default: 0.5]",
         ),
-        Parameter::Place("DIR", SOCKETS_FOLDER),
-        Parameter::Places(
-            "ID",
-            "The nodes, by their ids; none for each with a socket in DIR",
-        ),
+        DIR,
+        IDS,
     ],
     needs: &[("every", "watch")],
     excludes: &[
@@ -56,13 +53,14 @@ const STATUS: Grammar<'static> = Grammar {
         ("links", "json"),
         ("links", "watch"),
     ],
-    choice: None,
+    ..FREE
 };
 
-/// Adds the command to the program's parser.
-pub fn add_to<'a>(parser: Command<'a>, alloc: Global) -> Result<Command<'a>, AllocError> {
-    with_command(parser, alloc, &STATUS)
-}
+/// The nodes in the commands that ask several.
+pub const IDS: Parameter<'static> = Parameter::Places(
+    "ID",
+    "The nodes, by their ids; none for each with a socket in DIR",
+);
 
 /// What follows the options in its help.
 const HELP: &str = "\
@@ -123,14 +121,6 @@ between the readings. The figures are those of the last.
 
 Statuses: 0 each node answered; 1 one gave no answer, or there is none; 2
 invalid arguments; with --check those above; 0 for a watch that a key ended.";
-
-/// The ids that the parser takes. The folder says which nodes there are.
-const ID: Number<'static> = Number {
-    id: "ID",
-    name: "ID",
-    least: 0,
-    most: 65_535,
-};
 
 /// Does what the words of `status` say.
 pub fn run<R: Runtime>(rt: &R, given: &ArgMatches) -> Result<ExitCode, Refusal> {

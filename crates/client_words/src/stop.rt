@@ -1,15 +1,14 @@
 //! The words of `stop`.
-use crate::status::ids;
-use clap::{ArgMatches, Command};
-use command_grammar::{Grammar, Number, Parameter, given_number, with_command, word};
-use network_words::program::{Runtime, SOCKETS_FOLDER};
+use crate::status::{IDS, ids};
+use clap::ArgMatches;
+use command_grammar::{FREE, Grammar, Number, Parameter, given_number, word};
+use network_words::program::{DIR, Runtime};
 use network_words::refusal::Refusal;
 pub use node_stopping::warn_of_runner;
-use std::alloc::{AllocError, Global};
 use std::process::ExitCode;
 
 /// What `stop` takes.
-const STOP: Grammar<'static> = Grammar {
+pub const STOP: Grammar<'static> = Grammar {
     name: "stop",
     about: "Ends nodes that run as processes, and waits until they have ended",
     help: HELP,
@@ -20,21 +19,11 @@ const STOP: Grammar<'static> = Grammar {
             "10",
             "How long to wait for each, 0 to 65535",
         ),
-        Parameter::Place("DIR", SOCKETS_FOLDER),
-        Parameter::Places(
-            "ID",
-            "The nodes, by their ids; none for each with a socket in DIR",
-        ),
+        DIR,
+        IDS,
     ],
-    needs: &[],
-    excludes: &[],
-    choice: None,
+    ..FREE
 };
-
-/// Adds the command to the program's parser.
-pub fn add_to<'a>(parser: Command<'a>, alloc: Global) -> Result<Command<'a>, AllocError> {
-    with_command(parser, alloc, &STOP)
-}
 
 /// What follows the options in its help.
 const HELP: &str = "\

@@ -7,39 +7,50 @@ use crate::grammar::{Choice, Grammar, Parameter, Program};
 use clap::{Arg, ArgAction, ArgGroup, Command};
 use std::alloc::{AllocError, Global};
 
-/// The parser of a program's command lines, to which no command was added yet.
-pub fn parser<'a>(alloc: Global, program: &Program<'a>) -> Command<'a> {
-    Command::new(alloc, program.name)
-        .about(program.about)
-        .after_help(program.help)
-        .version(program.version)
-        .subcommand_required(true)
-}
-
-/// The parser with one more command, which the help shows after the others.
+/// The parser of a program's command lines, with these commands, which the help shows in this order.
 ///
 /// # Errors
 /// If memory runs out.
-pub fn with_command<'a>(
-    parser: Command<'a>,
+pub fn parser<'a>(
     alloc: Global,
-    grammar: &Grammar<'a>,
+    program: &Program<'a>,
+    commands: &[&Grammar<'a>],
 ) -> Result<Command<'a>, AllocError> {
-    parser.subcommand(command_of(alloc, grammar)?)
+    let mut parser = Command::new(alloc, program.name)
+        .about(program.about)
+        .after_help(program.help)
+        .version(program.version)
+        .subcommand_required(true);
+    for grammar in commands {
+        parser = parser.subcommand(command_of(alloc, grammar)?)?;
+    }
+    Ok(parser)
 }
 
 /// The parser of a command.
 fn command_of<'a>(alloc: Global, grammar: &Grammar<'a>) -> Result<Command<'a>, AllocError> {
-    let mut command = Command::new(alloc, grammar.name)
+    let command = Command::new(alloc, grammar.name)
         .about(grammar.about)
         .after_help(grammar.help);
-    for parameter in grammar.parameters {
-        command = command.arg(bound_arg(alloc, *parameter, grammar)?)?;
-    }
+    let command = with_parameters(command, alloc, grammar.shared, grammar)?;
+    let command = with_parameters(command, alloc, grammar.parameters, grammar)?;
     match grammar.choice {
         Some(choice) => command.group(group_of(alloc, choice)?),
         None => Ok(command),
     }
+}
+
+/// A command that takes these parameters of its grammar, too.
+fn with_parameters<'a>(
+    mut command: Command<'a>,
+    alloc: Global,
+    parameters: &[Parameter<'a>],
+    grammar: &Grammar<'a>,
+) -> Result<Command<'a>, AllocError> {
+    for parameter in parameters {
+        command = command.arg(bound_arg(alloc, *parameter, grammar)?)?;
+    }
+    Ok(command)
 }
 
 /// The group of parameters of which one must be given.

@@ -64,7 +64,9 @@ pub struct Grammar<'a> {
     pub about: &'a str,
     /// What follows the options in its help.
     pub help: &'a str,
-    /// What it takes. Places are taken in this order, and the help shows options in it.
+    /// Parameters that it shares with other commands; the help shows these options first.
+    pub shared: &'a [Parameter<'a>],
+    /// What it takes beside them. Places are taken in this order, and the help shows options in it.
     pub parameters: &'a [Parameter<'a>],
     /// Pairs of ids: the first is refused unless the second is given.
     pub needs: &'a [(&'a str, &'a str)],
@@ -74,8 +76,20 @@ pub struct Grammar<'a> {
     pub choice: Option<Choice<'a>>,
 }
 
-/// A program of several commands, of which a command line must name one. They are added to its parser
-/// one by one, since a constant with all of them is long to prove anything about.
+/// A command of no name that takes nothing. From it a table takes what it leaves out, such as the rules of
+/// parameters that may stand beside any others.
+pub const FREE: Grammar<'static> = Grammar {
+    name: "",
+    about: "",
+    help: "",
+    shared: &[],
+    parameters: &[],
+    needs: &[],
+    excludes: &[],
+    choice: None,
+};
+
+/// A program of several commands, of which a command line must name one.
 #[derive(Clone, Copy)]
 pub struct Program<'a> {
     /// Its name.

@@ -1,7 +1,7 @@
 //! The grammar of a program's command lines as data, and the parser that it makes.
 //!
-//! A command is a [`Grammar`]: its name, its help and what it takes. [`parser`] makes
-//! clap's parser of a [`Program`], and [`with_command`] adds a command to it.
+//! A command is a [`Grammar`]: its name, its help and what it takes; what its table leaves out, it takes
+//! from [`FREE`]. [`parser`] makes clap's parser of a [`Program`] and its commands.
 //!
 //! ```
 //! const BOUND: Grammar<'static> = Grammar {
@@ -9,9 +9,7 @@
 //!     about: "Shows a network's numbers",
 //!     help: "Statuses: 0 done; 2 the command line was refused.",
 //!     parameters: &[Parameter::Place("FILE", "The network file"), Parameter::Flag("sharp", "..")],
-//!     needs: &[],
-//!     excludes: &[],
-//!     choice: None,
+//!     ..FREE
 //! };
 //! ```
 //!
@@ -25,7 +23,7 @@ mod grammar;
 mod number;
 mod words;
 
-pub use building::{parser, with_command};
-pub use grammar::{Choice, Grammar, Parameter, Program};
+pub use building::parser;
+pub use grammar::{Choice, FREE, Grammar, Parameter, Program};
 pub use number::Number;
 pub use words::{WordFault, given_number, number_if_given, word};

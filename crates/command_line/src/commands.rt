@@ -3,24 +3,36 @@ ghost use Rattle.std.specs.Prelude.{◌≡◌, ◌||◌, codes};
 ghost use Rattle.std.specs.Str.{bytes_eq};
 
 use crate::{cut, draw, gather, junk, measure, schedule, scramble, simulate, threads, worst};
-use clap::{ArgMatches, Command};
+use clap::ArgMatches;
 use client_words::{lock, status, stop};
-use command_grammar::{Program, parser};
-use network_words::program::{ABOUT, NAME, Runtime, VERSION};
+use command_grammar::Grammar;
+use network_words::program::Runtime;
 use network_words::refusal::Refusal;
 use network_words::{bound, ends, is_of_service, matches_of, network};
 use process_line::{node, up};
-use std::alloc::{AllocError, Global};
 use std::convert::AsStr;
 use std::process::ExitCode;
 
-/// The program `tokentree`.
-const TOKENTREE: Program<'static> = Program {
-    name: NAME,
-    about: ABOUT,
-    help: HELP,
-    version: VERSION,
-};
+/// What the commands of `tokentree` take, in the order of its help.
+const COMMANDS: [&Grammar<'static>; 17] = [
+    &bound::BOUND,
+    &simulate::SIMULATE,
+    &lock::LOCK,
+    &status::STATUS,
+    &scramble::SCRAMBLE,
+    &cut::CUT,
+    &junk::JUNK,
+    &node::NODE,
+    &up::UP,
+    &stop::STOP,
+    &network::NETWORK,
+    &schedule::SCHEDULE,
+    &measure::MEASURE,
+    &worst::WORST,
+    &draw::DRAW,
+    &gather::GATHER,
+    &threads::THREADS,
+];
 
 /// What follows the commands in its help.
 const HELP: &str = "\
@@ -44,7 +56,7 @@ pub fn run_words<R: Runtime, S: AsStr>(rt: &R, words: &[S], on_terminal: bool) -
     if is_of_service(words) {
         return run_part(rt, words);
     }
-    let matches = match matches_of(rt, words, program_parser(rt.alloc())) {
+    let matches = match matches_of(rt, words, HELP, &COMMANDS) {
         Ok(matches) => matches,
         Err(status) => return status,
     };
@@ -91,39 +103,4 @@ fn act<R: Runtime>(rt: &R, matches: &ArgMatches, on_terminal: bool) -> Result<Ex
         "junk" => junk::run(rt, given),
         _ => Err(Refusal::NoCommand),
     }
-}
-
-/// The parser of all command lines.
-fn program_parser<'a>(alloc: Global) -> Result<Command<'a>, AllocError> {
-    let parser = with_lock(parser(alloc, &TOKENTREE), alloc)?;
-    with_experiments(with_nodes(parser, alloc)?, alloc)
-}
-
-/// Adds the commands for a network's numbers and runs, and those for the lock.
-fn with_lock<'a>(parser: Command<'a>, alloc: Global) -> Result<Command<'a>, AllocError> {
-    let parser = bound::add_to(parser, alloc)?;
-    let parser = simulate::add_to(parser, alloc)?;
-    let parser = lock::add_to(parser, alloc)?;
-    status::add_to(parser, alloc)
-}
-
-/// Adds the commands that damage files, and those that run nodes.
-fn with_nodes<'a>(parser: Command<'a>, alloc: Global) -> Result<Command<'a>, AllocError> {
-    let parser = scramble::add_to(parser, alloc)?;
-    let parser = cut::add_to(parser, alloc)?;
-    let parser = junk::add_to(parser, alloc)?;
-    let parser = node::add_to(parser, alloc)?;
-    let parser = up::add_to(parser, alloc)?;
-    stop::add_to(parser, alloc)
-}
-
-/// Adds the commands for experiments, for pictures and records of runs, and for runs on threads.
-fn with_experiments<'a>(parser: Command<'a>, alloc: Global) -> Result<Command<'a>, AllocError> {
-    let parser = network::add_to(parser, alloc)?;
-    let parser = schedule::add_to(parser, alloc)?;
-    let parser = measure::add_to(parser, alloc)?;
-    let parser = worst::add_to(parser, alloc)?;
-    let parser = draw::add_to(parser, alloc)?;
-    let parser = gather::add_to(parser, alloc)?;
-    threads::add_to(parser, alloc)
 }

@@ -1,15 +1,14 @@
 //! The words of `cut`.
-use clap::{ArgMatches, Command};
+use clap::ArgMatches;
 use client_words::stop::warn_of_runner;
-use command_grammar::{Grammar, Number, Parameter, given_number, with_command, word};
+use command_grammar::{FREE, Grammar, Number, Parameter, given_number, word};
 use network_words::program::Runtime;
 use network_words::refusal::{Refusal, ended};
-use std::alloc::{AllocError, Global};
 use std::process::ExitCode;
 use subcommands::cut;
 
 /// What `cut` takes.
-const CUT: Grammar<'static> = Grammar {
+pub const CUT: Grammar<'static> = Grammar {
     name: "cut",
     about: "Shortens a file to its first bytes, as a broken write leaves it",
     help: HELP,
@@ -17,15 +16,8 @@ const CUT: Grammar<'static> = Grammar {
         Parameter::Place("PATH", "The file"),
         Parameter::Place("LENGTH", "How many bytes it keeps: 0 to 1000000"),
     ],
-    needs: &[],
-    excludes: &[],
-    choice: None,
+    ..FREE
 };
-
-/// Adds the command to the program's parser.
-pub fn add_to<'a>(parser: Command<'a>, alloc: Global) -> Result<Command<'a>, AllocError> {
-    with_command(parser, alloc, &CUT)
-}
 
 /// What follows the options in its help.
 const HELP: &str = "\

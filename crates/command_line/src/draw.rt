@@ -5,26 +5,25 @@ ghost use Rattle.command_line.specs.Wanted.{IsFilmOf, IsFilmRefused, IsWantedOf,
 ghost use Rattle.command_line.specs.Wanted.{IsWindowOf, IsWindowRefused};
 
 use crate::film::Film;
-use clap::{ArgMatches, Command};
-use command_grammar::{Grammar, Number, Parameter, number_if_given, with_command, word};
-use network_words::program::{EVENTS_TEXT, NETWORK_FILE};
+use clap::ArgMatches;
+use command_grammar::{FREE, Grammar, Number, Parameter, number_if_given, word};
+use network_words::program::{EVENTS, FILE};
 use network_words::refusal::Refusal;
 use run_picture::command::{MOST_COLUMNS, Wanted};
 use run_picture::{Window, command};
-use std::alloc::{AllocError, Global};
 use std::io::Input;
 use std::process::ExitCode;
 use std::rt::Files;
 use std::time::Clock;
 
 /// What `draw` takes.
-const DRAW: Grammar<'static> = Grammar {
+pub const DRAW: Grammar<'static> = Grammar {
     name: "draw",
     about: "Draws a picture of a run: which nodes were wrong or lent, and when",
     help: HELP,
     parameters: &[
-        Parameter::Place("FILE", NETWORK_FILE),
-        Parameter::Place("EVENTS", EVENTS_TEXT),
+        FILE,
+        EVENTS,
         Parameter::Value("columns", "N", "The most columns, 1 to 1200"),
         Parameter::Value("from", "SWEEP", "Begin once this many sweeps have ended"),
         Parameter::Value("to", "SWEEP", "End once more sweeps than this have ended"),
@@ -39,13 +38,8 @@ const DRAW: Grammar<'static> = Grammar {
     ],
     needs: &[("seconds", "film"), ("page", "film")],
     excludes: &[("film", "columns"), ("film", "layers")],
-    choice: None,
+    ..FREE
 };
-
-/// Adds the command to the program's parser.
-pub fn add_to<'a>(parser: Command<'a>, alloc: Global) -> Result<Command<'a>, AllocError> {
-    with_command(parser, alloc, &DRAW)
-}
 
 /// What follows the options in its help.
 const HELP: &str = "\
@@ -154,14 +148,9 @@ fn wanted_film(given: &ArgMatches) -> Result<run_film::Wanted, Refusal>
     ensures ok { IfOk result (IsFilmOf (found_of given.now)) }
     ensures err { IfErr result (IsFilmRefused (found_of given.now)) }
 {
-    let window = window(given)?;
-    let seconds = match number_if_given(given, SECONDS)? {
-        None => 20,
-        Some(seconds) => seconds as u16,
-    };
     Ok(run_film::Wanted {
-        seconds,
-        window,
+        window: window(given)?,
+        seconds: number_if_given(given, SECONDS)?.unwrap_or(20) as u16,
         page: given.get_flag("page"),
     })
 }
@@ -174,14 +163,9 @@ fn wanted(given: &ArgMatches) -> Result<Wanted, Refusal>
     ensures ok { IfOk result (IsWantedOf (found_of given.now)) }
     ensures err { IfErr result (IsWantedRefused (found_of given.now)) }
 {
-    let window = window(given)?;
-    let columns = match number_if_given(given, COLUMNS)? {
-        None => MOST_COLUMNS,
-        Some(columns) => columns as u16,
-    };
     Ok(Wanted {
-        columns,
-        window,
+        window: window(given)?,
+        columns: number_if_given(given, COLUMNS)?.unwrap_or(u64::from(MOST_COLUMNS)) as u16,
         layers: given.get_flag("layers"),
     })
 }

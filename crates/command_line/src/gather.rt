@@ -4,16 +4,15 @@ ghost use Rattle.std.specs.Process.{exit_status};
 ghost use Rattle.clap.specs.Matches.{found_of};
 ghost use Rattle.command_line.specs.Gather.{IsStretchOf, IsStretchRefused};
 
-use clap::{ArgMatches, Command};
-use command_grammar::{Grammar, Number, Parameter, WordFault, number_if_given, with_command, word};
+use clap::ArgMatches;
+use command_grammar::{FREE, Grammar, Number, Parameter, WordFault, number_if_given, word};
 use gather_command::{Stretch, command};
 use network_words::refusal::Refusal;
-use std::alloc::{AllocError, Global};
 use std::process::ExitCode;
 use std::rt::Files;
 
 /// What `gather` takes.
-const GATHER: Grammar<'static> = Grammar {
+pub const GATHER: Grammar<'static> = Grammar {
     name: "gather",
     about: "Prints what nodes did, by their records, as a list of events",
     help: HELP,
@@ -35,15 +34,9 @@ const GATHER: Grammar<'static> = Grammar {
             "Begin so many seconds before the last entry",
         ),
     ],
-    needs: &[],
     excludes: &[("from", "last")],
-    choice: None,
+    ..FREE
 };
-
-/// Adds the command to the program's parser.
-pub fn add_to<'a>(parser: Command<'a>, alloc: Global) -> Result<Command<'a>, AllocError> {
-    with_command(parser, alloc, &GATHER)
-}
 
 /// What follows the options in its help.
 const HELP: &str = "\

@@ -2,31 +2,24 @@
 ghost use Rattle.std.specs.Prelude.{◌≡◌, IfOk};
 ghost use Rattle.std.specs.Process.{exit_status};
 
-use clap::{ArgMatches, Command};
-use command_grammar::{Grammar, Number, Parameter, given_number, with_command};
+use crate::seeds::{SEED, SEEDS};
+use clap::ArgMatches;
+use command_grammar::{FREE, Grammar, Number, Parameter, given_number};
 use network_words::refusal::Refusal;
-use std::alloc::{AllocError, Global};
 use std::process::ExitCode;
 use subcommands::junk;
 
 /// What `junk` takes.
-const JUNK: Grammar<'static> = Grammar {
+pub const JUNK: Grammar<'static> = Grammar {
     name: "junk",
     about: "Prints lines that mean nothing, for whatever reads lines",
     help: HELP,
     parameters: &[
-        Parameter::Place("SEED", "The seed, 0 to 4294967295"),
+        SEED,
         Parameter::Place("LINES", "How many lines: 0 to 1000000"),
     ],
-    needs: &[],
-    excludes: &[],
-    choice: None,
+    ..FREE
 };
-
-/// Adds the command to the program's parser.
-pub fn add_to<'a>(parser: Command<'a>, alloc: Global) -> Result<Command<'a>, AllocError> {
-    with_command(parser, alloc, &JUNK)
-}
 
 /// What follows the options in its help.
 const HELP: &str = "\
@@ -38,14 +31,6 @@ machine.
   .Vnn)AQDz\"jU}#08]yttOpOL9&sj
 
 Statuses: 0 done; 1 standard output failed; 2 invalid arguments.";
-
-/// The seeds.
-const SEED: Number<'static> = Number {
-    id: "SEED",
-    name: "SEED",
-    least: 0,
-    most: 4_294_967_295,
-};
 
 /// The numbers of lines of junk.
 const LINES: Number<'static> = Number {
@@ -59,7 +44,7 @@ const LINES: Number<'static> = Number {
 pub fn run<R: Print + Eprint + AllocGlobal>(rt: &R, given: &ArgMatches) -> Result<ExitCode, Refusal>
     ensures { IfOk result (λ status. exit_status status ≡ 0) }
 {
-    let seed = given_number(given, SEED)? as u32;
+    let seed = given_number(given, SEEDS)? as u32;
     let lines = given_number(given, LINES)? as u32;
     Ok(junk::run(rt, seed, lines)?)
 }

@@ -22,6 +22,7 @@ mod junk;
 mod measure;
 mod schedule;
 mod scramble;
+mod seeds;
 mod simulate;
 mod threads;
 mod worst;

@@ -8,13 +8,10 @@ ghost use Rattle.command_line.specs.Scheduling.{IsSchedulerRefused, is_slow, sch
 ghost use Rattle.subcommands.specs.declared.measure.Form.TheVariants.{Json, Lines, Rows};
 ghost use Rattle.subcommands.specs.experiments.declared.measured_run.Scheduler.TheVariants.{Random, Rounds};
 
-use clap::{ArgMatches, Command};
-use command_grammar::{
-    Grammar, Number, Parameter, given_number, number_if_given, with_command, word,
-};
-use network_words::program::NETWORK_FILE;
+use clap::ArgMatches;
+use command_grammar::{FREE, Grammar, Number, Parameter, given_number, number_if_given, word};
+use network_words::program::{FILE, SEED};
 use network_words::refusal::{Refusal, ScheduleFault, ended};
-use std::alloc::{AllocError, Global};
 use std::process::ExitCode;
 use std::rt::Files;
 use std::thread::Threads;
@@ -23,12 +20,12 @@ use subcommands::measure::{Form, Plan};
 use subcommands::{PathFault, Scheduler, measure, measure_plot};
 
 /// What `measure` takes.
-const MEASURE: Grammar<'static> = Grammar {
+pub const MEASURE: Grammar<'static> = Grammar {
     name: "measure",
     about: "Scrambles a network, and shows after how many sweeps it worked again",
     help: HELP,
     parameters: &[
-        Parameter::Place("FILE", NETWORK_FILE),
+        FILE,
         Parameter::ValueOr("runs", "N", "1000", "How many runs, 1 to 1000000"),
         Parameter::ValueOr(
             "seed",
@@ -57,13 +54,8 @@ const MEASURE: Grammar<'static> = Grammar {
         ("csv", "table"),
         ("csv", "json"),
     ],
-    choice: None,
+    ..FREE
 };
-
-/// Adds the command to the program's parser.
-pub fn add_to<'a>(parser: Command<'a>, alloc: Global) -> Result<Command<'a>, AllocError> {
-    with_command(parser, alloc, &MEASURE)
-}
 
 /// What follows the options in its help.
 const HELP: &str = "\
@@ -128,14 +120,6 @@ const RUNS: Number<'static> = Number {
     name: "--runs",
     least: 1,
     most: 1_000_000,
-};
-
-/// The seeds of a first run.
-const SEED: Number<'static> = Number {
-    id: "seed",
-    name: "--seed",
-    least: 0,
-    most: 4_294_967_295,
 };
 
 /// In how many of a hundred rounds a slow link or node has its part.

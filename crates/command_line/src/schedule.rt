@@ -5,14 +5,12 @@ ghost use Rattle.clap.specs.Matches.{found_of};
 ghost use Rattle.command_grammar.specs.Given.{IsGiven, IsRefused};
 ghost use Rattle.command_line.specs.Turns.{AreTurnsOf, AreTurnsRefused};
 
-use clap::{ArgMatches, Command};
+use clap::ArgMatches;
 use command_grammar::{
-    Choice, Grammar, Number, Parameter, WordFault, given_number, number_if_given, with_command,
-    word,
+    Choice, FREE, Grammar, Number, Parameter, WordFault, given_number, number_if_given, word,
 };
-use network_words::program::NETWORK_FILE;
+use network_words::program::{FILE, SEED};
 use network_words::refusal::Refusal;
-use std::alloc::{AllocError, Global};
 use std::process::ExitCode;
 use std::rt::Files;
 use subcommands::schedule::Turns;
@@ -20,12 +18,12 @@ use subcommands::{Chances, schedule};
 
 /// What `schedule` takes. Options for random steps conflict with `--rounds` too: beside that, the
 /// parser does not require `--random`.
-const SCHEDULE: Grammar<'static> = Grammar {
+pub const SCHEDULE: Grammar<'static> = Grammar {
     name: "schedule",
     about: "Prints a list of events for simulate: damage, rounds, random steps",
     help: HELP,
     parameters: &[
-        Parameter::Place("FILE", NETWORK_FILE),
+        FILE,
         Parameter::Value(
             "scramble",
             "SEED",
@@ -61,12 +59,8 @@ const SCHEDULE: Grammar<'static> = Grammar {
         name: "turns",
         of: &["rounds", "random"],
     }),
+    ..FREE
 };
-
-/// Adds the command to the program's parser.
-pub fn add_to<'a>(parser: Command<'a>, alloc: Global) -> Result<Command<'a>, AllocError> {
-    with_command(parser, alloc, &SCHEDULE)
-}
 
 /// What follows the options in its help.
 const HELP: &str = "\
@@ -122,14 +116,6 @@ const ROUNDS: Number<'static> = Number {
 const RANDOM: Number<'static> = Number {
     id: "random",
     name: "--random",
-    least: 0,
-    most: 4_294_967_295,
-};
-
-/// The seeds of random steps.
-const SEED: Number<'static> = Number {
-    id: "seed",
-    name: "--seed",
     least: 0,
     most: 4_294_967_295,
 };

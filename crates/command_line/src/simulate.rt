@@ -2,35 +2,27 @@
 ghost use Rattle.std.specs.Prelude.{◌≡◌, ◌⊎◌, IfOk};
 ghost use Rattle.std.specs.Process.{exit_status};
 
-use clap::{ArgMatches, Command};
-use command_grammar::{Grammar, Parameter, with_command, word};
-use network_words::program::{EVENTS_TEXT, NETWORK_FILE};
+use clap::ArgMatches;
+use command_grammar::{FREE, Grammar, Parameter, word};
+use network_words::program::{EVENTS, FILE};
 use network_words::refusal::Refusal;
-use std::alloc::{AllocError, Global};
 use std::io::Input;
 use std::process::ExitCode;
 use std::rt::Files;
 use subcommands::simulate;
 
 /// What `simulate` takes.
-const SIMULATE: Grammar<'static> = Grammar {
+pub const SIMULATE: Grammar<'static> = Grammar {
     name: "simulate",
     about: "Replays a list of events, and shows the state that they lead to",
     help: HELP,
     parameters: &[
-        Parameter::Place("FILE", NETWORK_FILE),
-        Parameter::Place("EVENTS", EVENTS_TEXT),
+        FILE,
+        EVENTS,
         Parameter::Flag("layers", "Show what has settled at the end, too"),
     ],
-    needs: &[],
-    excludes: &[],
-    choice: None,
+    ..FREE
 };
-
-/// Adds the command to the program's parser.
-pub fn add_to<'a>(parser: Command<'a>, alloc: Global) -> Result<Command<'a>, AllocError> {
-    with_command(parser, alloc, &SIMULATE)
-}
 
 /// What follows the options in its help.
 const HELP: &str = "\

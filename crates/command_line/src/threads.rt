@@ -2,21 +2,20 @@
 ghost use Rattle.std.specs.Prelude.{◌≡◌, IfOk};
 ghost use Rattle.std.specs.Process.{exit_status};
 
-use clap::{ArgMatches, Command};
-use command_grammar::{Grammar, Number, Parameter, given_number, with_command, word};
+use clap::ArgMatches;
+use command_grammar::{FREE, Grammar, Number, Parameter, given_number, word};
 use live_commands::threads;
-use network_words::program::{NETWORK_FILE, Runtime};
+use network_words::program::{FILE, Runtime};
 use network_words::refusal::Refusal;
-use std::alloc::{AllocError, Global};
 use std::process::ExitCode;
 
 /// What `threads` takes.
-const THREADS: Grammar<'static> = Grammar {
+pub const THREADS: Grammar<'static> = Grammar {
     name: "threads",
     about: "Runs each node on a thread of its own, and shows the state reached",
     help: HELP,
     parameters: &[
-        Parameter::Place("FILE", NETWORK_FILE),
+        FILE,
         Parameter::Place("TURNS", "How many turns each node does, 1 to 1000000"),
         Parameter::Value(
             "events",
@@ -24,15 +23,8 @@ const THREADS: Grammar<'static> = Grammar {
             "Write what the nodes did to this file, as an events text",
         ),
     ],
-    needs: &[],
-    excludes: &[],
-    choice: None,
+    ..FREE
 };
-
-/// Adds the command to the program's parser.
-pub fn add_to<'a>(parser: Command<'a>, alloc: Global) -> Result<Command<'a>, AllocError> {
-    with_command(parser, alloc, &THREADS)
-}
 
 /// What follows the options in its help.
 const HELP: &str = "\

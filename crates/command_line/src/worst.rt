@@ -4,23 +4,22 @@ ghost use Rattle.std.specs.Process.{exit_status};
 ghost use Rattle.clap.specs.Matches.{found_of};
 ghost use Rattle.command_line.specs.Worst.{IsExtentOf, IsExtentRefused, IsSearchOf, IsSearchRefused};
 
-use clap::{ArgMatches, Command};
+use clap::ArgMatches;
 use command_grammar::{
-    Grammar, Number, Parameter, WordFault, given_number, number_if_given, with_command, word,
+    FREE, Grammar, Number, Parameter, WordFault, given_number, number_if_given, word,
 };
-use network_words::program::{NETWORK_FILE, Runtime};
+use network_words::program::{FILE, Runtime, SEED};
 use network_words::refusal::Refusal;
-use std::alloc::{AllocError, Global};
 use std::process::ExitCode;
 use subcommands::worst::{self, Extent, Plan};
 
 /// What `worst` takes.
-const WORST: Grammar<'static> = Grammar {
+pub const WORST: Grammar<'static> = Grammar {
     name: "worst",
     about: "Searches for runs that recover late, and shows after how many sweeps",
     help: HELP,
     parameters: &[
-        Parameter::Place("FILE", NETWORK_FILE),
+        FILE,
         Parameter::ValueOr("searches", "N", "16", "How many searches, 1 to 1000000"),
         Parameter::Value(
             "minutes",
@@ -45,15 +44,9 @@ const WORST: Grammar<'static> = Grammar {
             "Write the latest run to this file, as an events text",
         ),
     ],
-    needs: &[],
     excludes: &[("minutes", "searches")],
-    choice: None,
+    ..FREE
 };
-
-/// Adds the command to the program's parser.
-pub fn add_to<'a>(parser: Command<'a>, alloc: Global) -> Result<Command<'a>, AllocError> {
-    with_command(parser, alloc, &WORST)
-}
 
 /// What follows the options in its help.
 const HELP: &str = "\
@@ -107,14 +100,6 @@ const STEPS: Number<'static> = Number {
     name: "--steps",
     least: 0,
     most: 1_000_000_000,
-};
-
-/// Which seeds of a first search there are.
-const SEED: Number<'static> = Number {
-    id: "seed",
-    name: "--seed",
-    least: 0,
-    most: 4_294_967_295,
 };
 
 /// Does what the words of `worst` say, and shows its progress if that is asked for.

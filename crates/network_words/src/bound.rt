@@ -2,23 +2,22 @@
 ghost use Rattle.std.specs.Prelude.{◌≡◌, IfOk};
 ghost use Rattle.std.specs.Process.{exit_status};
 
-use crate::program::NETWORK_FILE;
+use crate::program::FILE;
 use crate::refusal::Refusal;
-use clap::{ArgMatches, Command};
-use command_grammar::{Grammar, Parameter, with_command, word};
+use clap::ArgMatches;
+use command_grammar::{FREE, Grammar, Parameter, word};
 use network_commands::{bound, bound_json};
 use recovery_times::{PremiseWords, Premises, TimeFault};
-use std::alloc::{AllocError, Global};
 use std::process::ExitCode;
 use std::rt::Files;
 
 /// What `bound` takes.
-const BOUND: Grammar<'static> = Grammar {
+pub const BOUND: Grammar<'static> = Grammar {
     name: "bound",
     about: "Shows a network's numbers, and after how many sweeps its lock works",
     help: HELP,
     parameters: &[
-        Parameter::Place("FILE", NETWORK_FILE),
+        FILE,
         Parameter::Flag("sharp", "Also show the bound without the capacity"),
         Parameter::Flag("json", "Print one JSON object, on one line"),
         Parameter::Flag("time", "Also show how long recovery and a grant take"),
@@ -49,14 +48,8 @@ const BOUND: Grammar<'static> = Grammar {
         ("loan", "time"),
         ("repeat", "time"),
     ],
-    excludes: &[],
-    choice: None,
+    ..FREE
 };
-
-/// Adds the command to the program's parser.
-pub fn add_to<'a>(parser: Command<'a>, alloc: Global) -> Result<Command<'a>, AllocError> {
-    with_command(parser, alloc, &BOUND)
-}
 
 /// The name of a time in the help.
 const MILLISECONDS: &str = "MILLISECONDS";

@@ -5,25 +5,33 @@ ghost use Rattle.std.specs.Process.{exit_status};
 ghost use Rattle.network_words.specs.Ends.{asks_for_lock, asks_for_version};
 ghost use Rattle.network_words.specs.Ends.{is_of_service, names_service, serves, status_of};
 
-use crate::program::{NAME, Runtime, VERSION};
+use crate::program::{ABOUT, NAME, Runtime, VERSION};
 use crate::refusal::{Refusal, status};
-use clap::{ArgMatches, Command};
+use clap::ArgMatches;
 use command_faults::Fault;
+use command_grammar::{Grammar, Program, parser};
 use fault_hints::{explain_network, explain_reading, explain_writing};
 use program_ends::{fails, fault_status, print_status, shows};
-use std::alloc::AllocError;
 use std::convert::AsStr;
 use std::process::ExitCode;
 
-/// What this parser made of the words, or the status of a line that showed help or was invalid. Its
-/// texts name the program `tokentree`, whatever its file is called.
+/// What the parser of these commands made of the words, or the status of a line that showed help or was
+/// invalid. The help ends with this text. All texts name the program `tokentree`, whatever its file is
+/// called.
 pub fn matches_of<'a, R: Print + Eprint + AllocGlobal, S: AsStr>(
     rt: &R,
     words: &'a [S],
-    parser: Result<Command<'a>, AllocError>,
+    help: &'a str,
+    commands: &[&Grammar<'a>],
 ) -> Result<ArgMatches<'a>, ExitCode> {
     let is_lock = asks_for_lock(words);
-    let named = match parser {
+    let program = Program {
+        name: NAME,
+        about: ABOUT,
+        help,
+        version: VERSION,
+    };
+    let named = match parser(rt.alloc(), &program, commands) {
         Ok(parser) => parser.bin_name(NAME),
         Err(error) => Err(error),
     };

@@ -3,19 +3,19 @@ ghost use Rattle.std.specs.Prelude.{◌≡◌, IfOk};
 ghost use Rattle.std.specs.Process.{exit_status};
 ghost use Rattle.network_words.specs.Named.{kind_named, most_edges, usual_edges};
 
+use crate::program::SEED;
 use crate::refusal::{KindFault, Refusal};
-use clap::{ArgMatches, Command};
+use clap::ArgMatches;
 use command_grammar::{
-    Grammar, Number, Parameter, WordFault, given_number, number_if_given, with_command, word,
+    FREE, Grammar, Number, Parameter, WordFault, given_number, number_if_given, word,
 };
 use network_commands::network;
 use network_commands::network::Wanted;
 use network_kinds::{Kind, least_nodes, most_nodes};
-use std::alloc::{AllocError, Global};
 use std::process::ExitCode;
 
 /// What `network` takes.
-const NETWORK: Grammar<'static> = Grammar {
+pub const NETWORK: Grammar<'static> = Grammar {
     name: "network",
     about: "Prints a network file: a line, ring, star, grid, tree or other graph",
     help: HELP,
@@ -39,15 +39,8 @@ const NETWORK: Grammar<'static> = Grammar {
         Parameter::Value("edges", "E", "How many edges a random graph has"),
         Parameter::Value("seed", "SEED", "The seed of a random graph; 0 if left out"),
     ],
-    needs: &[],
-    excludes: &[],
-    choice: None,
+    ..FREE
 };
-
-/// Adds the command to the program's parser.
-pub fn add_to<'a>(parser: Command<'a>, alloc: Global) -> Result<Command<'a>, AllocError> {
-    with_command(parser, alloc, &NETWORK)
-}
 
 /// What follows the options in its help.
 const HELP: &str = "\
@@ -119,14 +112,6 @@ const EDGES: Number<'static> = Number {
     name: "--edges",
     least: 1,
     most: 1,
-};
-
-/// The seeds.
-const SEED: Number<'static> = Number {
-    id: "seed",
-    name: "--seed",
-    least: 0,
-    most: 4_294_967_295,
 };
 
 /// Does what the words of `network` say.

@@ -1,4 +1,5 @@
-//! What commands share: what they need from the runtime, and words of their help.
+//! What commands share: what they need from the runtime, and words that they take.
+use command_grammar::{Number, Parameter};
 use std::fs::File;
 use std::io::Input;
 use std::net::Net;
@@ -38,14 +39,33 @@ where
         + Sync,
 {}
 
-/// The help of the first argument of most commands.
-pub const NETWORK_FILE: &str = "The network file (TOML)";
+/// The first word of most commands.
+pub const FILE: Parameter<'static> = Parameter::Place("FILE", "The network file (TOML)");
 
-/// The help of the events of a run.
-pub const EVENTS_TEXT: &str = "The events text, or - for standard input";
+/// The events of a run.
+pub const EVENTS: Parameter<'static> = Parameter::Place(
+    "EVENTS",
+    "The events text, or - for standard input",
+);
 
-/// The help of the folder in the commands that use the lock.
-pub const SOCKETS_FOLDER: &str = "The folder of the nodes' sockets";
+/// The folder in the commands that use the lock.
+pub const DIR: Parameter<'static> = Parameter::Place("DIR", "The folder of the nodes' sockets");
+
+/// The ids that the parser takes. The network, or the folder, says which there are.
+pub const ID: Number<'static> = Number {
+    id: "ID",
+    name: "ID",
+    least: 0,
+    most: 65_535,
+};
+
+/// The seeds of `--seed`.
+pub const SEED: Number<'static> = Number {
+    id: "seed",
+    name: "--seed",
+    least: 0,
+    most: 4_294_967_295,
+};
 
 /// The name of the program.
 pub const NAME: &str = "tokentree";

@@ -1,21 +1,15 @@
 //! What the lines of `node` and `up` do.
 use crate::{node, up};
-use clap::{ArgMatches, Command};
-use command_grammar::{Program, parser};
-use network_words::program::{ABOUT, NAME, Runtime, VERSION};
+use clap::ArgMatches;
+use command_grammar::Grammar;
+use network_words::program::Runtime;
 use network_words::refusal::Refusal;
 use network_words::{asks_for_version, ends, matches_of, say_version};
-use std::alloc::{AllocError, Global};
 use std::convert::AsStr;
 use std::process::ExitCode;
 
-/// The part of the program that has these commands.
-const PART: Program<'static> = Program {
-    name: NAME,
-    about: ABOUT,
-    help: HELP,
-    version: VERSION,
-};
+/// What the commands take, in the order of the help.
+const COMMANDS: [&Grammar<'static>; 2] = [&node::NODE, &up::UP];
 
 /// What follows the commands in its help.
 const HELP: &str = "\
@@ -31,17 +25,10 @@ pub fn run_words<R: Runtime, S: AsStr>(rt: &R, words: &[S]) -> ExitCode {
     if asks_for_version(words) {
         return say_version(rt);
     }
-    match matches_of(rt, words, part_parser(rt.alloc())) {
+    match matches_of(rt, words, HELP, &COMMANDS) {
         Ok(matches) => ends(rt, act(rt, &matches), &matches, false),
         Err(status) => status,
     }
-}
-
-/// The parser of these commands.
-fn part_parser<'a>(alloc: Global) -> Result<Command<'a>, AllocError> {
-    let parser = parser(alloc, &PART);
-    let parser = node::add_to(parser, alloc)?;
-    up::add_to(parser, alloc)
 }
 
 /// Does what the words of a command say, and returns the exit status.

@@ -7,7 +7,7 @@ ghost use Rattle.process_words.specs.NodeWords.{AreNodeWordsRefused};
 use clap::ArgMatches;
 use network_words::program::Runtime;
 use network_words::refusal::Refusal;
-pub use process_words::node::add_to;
+pub use process_words::node::NODE;
 use process_words::node::asked;
 use process_words::options::ended;
 use std::process::ExitCode;

@@ -8,7 +8,7 @@ use clap::ArgMatches;
 use network_words::program::Runtime;
 use network_words::refusal::Refusal;
 use process_words::options::ended;
-pub use process_words::up::add_to;
+pub use process_words::up::UP;
 use process_words::up::asked;
 use std::process::ExitCode;
 use up_process::OwnProgram;

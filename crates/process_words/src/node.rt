@@ -3,44 +3,28 @@ ghost use Rattle.std.specs.Prelude.{IfOk, IfErr};
 ghost use Rattle.clap.specs.Matches.{found_of};
 ghost use Rattle.process_words.specs.NodeWords.{IsNodeOf, AreNodeWordsRefused};
 
-use crate::options::{
-    FOLDER, GROUP_HELP, HOLD_HELP, LOG_HELP, RECORD_HELP, RECORD_SIZE_HELP, REPEAT_HELP, TURN_HELP,
-    late_after, log_level, manner, record_size, rights,
-};
-use clap::{ArgMatches, Command};
-use command_grammar::{Grammar, Number, Parameter, given_number, with_command, word};
-use network_words::program::{NETWORK_FILE, VERSION};
+use crate::options::{DIR, OPTIONS, late_after, log_level, manner, record_size, rights};
+use clap::ArgMatches;
+use command_grammar::{FREE, Grammar, Parameter, given_number, word};
+use network_words::program::{FILE, ID, VERSION};
 use network_words::refusal::Refusal;
 use process_parts::NodeWords;
-use std::alloc::{AllocError, Global};
 
 /// What `node` takes.
-const NODE: Grammar<'static> = Grammar {
+pub const NODE: Grammar<'static> = Grammar {
     name: "node",
     about: "Runs one node of a network as a process, until it is stopped",
     help: HELP,
+    shared: OPTIONS,
     parameters: &[
-        Parameter::Place("FILE", NETWORK_FILE),
+        FILE,
         Parameter::Place("ID", "The node, 0 to nodes-1"),
-        Parameter::Place("DIR", FOLDER),
-        Parameter::Value("hold", "MICROSECONDS", HOLD_HELP),
-        Parameter::Value("repeat", "MICROSECONDS", REPEAT_HELP),
-        Parameter::Value("turn", "MILLISECONDS", TURN_HELP),
-        Parameter::Flag("group-locks", GROUP_HELP),
-        Parameter::Value("log", "LEVEL", LOG_HELP),
-        Parameter::Flag("record", RECORD_HELP),
-        Parameter::Value("record-size", "BYTES", RECORD_SIZE_HELP),
+        DIR,
         Parameter::Flag("child", "For `up`: name the node, and end with its input"),
     ],
     needs: &[("record-size", "record")],
-    excludes: &[],
-    choice: None,
+    ..FREE
 };
-
-/// Adds the command to the program's parser.
-pub fn add_to<'a>(parser: Command<'a>, alloc: Global) -> Result<Command<'a>, AllocError> {
-    with_command(parser, alloc, &NODE)
-}
 
 /// What follows the options in its help.
 const HELP: &str = "\
@@ -105,14 +89,6 @@ records, in DIR/record.toml.
 
 Statuses: 0 ended by the stop file; 1 it cannot run, and a line on standard
 error says why; 2 invalid arguments.";
-
-/// The ids that the parser takes. The network says which there are.
-const ID: Number<'static> = Number {
-    id: "ID",
-    name: "ID",
-    least: 0,
-    most: 65_535,
-};
 
 /// What the words of `node` ask for.
 ///

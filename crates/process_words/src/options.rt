@@ -9,7 +9,7 @@ ghost use Rattle.process_words.specs.Manner.{IsMannerOf, IsMannerRefused};
 ghost use Rattle.process_words.specs.Manner.{IsLimitOf, IsLimitRefused};
 
 use clap::ArgMatches;
-use command_grammar::{Number, WordFault, number_if_given};
+use command_grammar::{Number, Parameter, WordFault, number_if_given};
 use fault_hints::{explain_network, explain_swap};
 use node_log::Level;
 use pace::Manner;
@@ -19,44 +19,77 @@ use std::process::ExitCode;
 use std::rt::Files;
 use turn_watch::USUAL_LIMIT;
 
-/// The help of the folder of a network.
-pub const FOLDER: &str = "The folder of the network's files and sockets";
+/// The folder of a network.
+pub const DIR: Parameter<'static> = Parameter::Place(
+    "DIR",
+    "The folder of the network's files and sockets",
+);
+
+/// The options that both take.
+pub const OPTIONS: &[Parameter<'static>] = &[
+    Parameter::Value(
+        "hold",
+        "MICROSECONDS",
+        "How long quiet news waits, 0-2000 [default: 2000]",
+    ),
+    Parameter::Value(
+        "repeat",
+        "MICROSECONDS",
+        "When to repeat a frame, 0-100000 [default: 8000]",
+    ),
+    Parameter::Value(
+        "turn",
+        "MILLISECONDS",
+        "When a turn counts as late [default: 2.2]",
+    ),
+    Parameter::Flag(
+        "group-locks",
+        "Let the group take the lock, and do nothing else",
+    ),
+    Parameter::Value(
+        "log",
+        "LEVEL",
+        "Log 4 what is wrong, 5 links too, 6 grants too",
+    ),
+    Parameter::Flag("record", "Keep a record of what the node does"),
+    Parameter::Value(
+        "record-size",
+        "BYTES",
+        "Bytes in each of its files [default: 8388608]",
+    ),
+];
 
 /// How long a node holds quiet news, in microseconds.
-pub const HOLD: Number<'static> = Number {
+const HOLD: Number<'static> = Number {
     id: "hold",
     name: "--hold",
     least: 0,
     most: 2_000,
 };
 
-/// Its help.
-pub const HOLD_HELP: &str = "How long quiet news waits, 0-2000 [default: 2000]";
-
 /// After how many microseconds a frame is repeated.
-pub const REPEAT: Number<'static> = Number {
+const REPEAT: Number<'static> = Number {
     id: "repeat",
     name: "--repeat",
     least: 0,
     most: 100_000,
 };
 
-/// Its help.
-pub const REPEAT_HELP: &str = "When to repeat a frame, 0-100000 [default: 8000]";
-
-/// The help of the time after which a turn is late.
-pub const TURN_HELP: &str = "When a turn counts as late [default: 2.2]";
-
 /// The lowest level of a node's log, by the numbers of syslog.
-pub const LOG: Number<'static> = Number {
+const LOG: Number<'static> = Number {
     id: "log",
     name: "--log",
     least: 4,
     most: 6,
 };
 
-/// Its help.
-pub const LOG_HELP: &str = "Log 4 what is wrong, 5 links too, 6 grants too";
+/// The size of each of the two files of a record, in bytes.
+const RECORD_SIZE: Number<'static> = Number {
+    id: "record-size",
+    name: "--record-size",
+    least: 65_536,
+    most: 1_073_741_824,
+};
 
 /// The level of the log, by the words of `node` or `up`; none if they set none.
 ///
@@ -71,20 +104,6 @@ pub fn log_level(given: &ArgMatches) -> Result<Option<Level>, WordFault<'static>
         None => Ok(None),
     }
 }
-
-/// The help of `--record`.
-pub const RECORD_HELP: &str = "Keep a record of what the node does";
-
-/// The size of each of the two files of a record, in bytes.
-pub const RECORD_SIZE: Number<'static> = Number {
-    id: "record-size",
-    name: "--record-size",
-    least: 65_536,
-    most: 1_073_741_824,
-};
-
-/// Its help.
-pub const RECORD_SIZE_HELP: &str = "Bytes in each of its files [default: 8388608]";
 
 /// The size of the files of a node's record, by the words of `node` or `up`; none if they ask for no
 /// record.
@@ -101,9 +120,6 @@ pub fn record_size(given: &ArgMatches) -> Result<Option<RecordSize>, WordFault<'
     };
     Ok(given.get_flag("record").then_some(size))
 }
-
-/// The help of `--group-locks`.
-pub const GROUP_HELP: &str = "Let the group take the lock, and do nothing else";
 
 /// Who may use the folder and the sockets, by the words of `node` or `up`.
 pub fn rights(given: &ArgMatches) -> Rights

@@ -3,42 +3,23 @@ ghost use Rattle.std.specs.Prelude.{IfOk, IfErr};
 ghost use Rattle.clap.specs.Matches.{found_of};
 ghost use Rattle.process_words.specs.NodeWords.{AreUpWordsRefused, IsUpOf};
 
-use crate::options::{
-    FOLDER, GROUP_HELP, HOLD_HELP, LOG_HELP, RECORD_HELP, RECORD_SIZE_HELP, REPEAT_HELP, TURN_HELP,
-    late_after, log_level, manner, record_size, rights,
-};
-use clap::{ArgMatches, Command};
-use command_grammar::{Grammar, Parameter, with_command, word};
-use network_words::program::NETWORK_FILE;
+use crate::options::{DIR, OPTIONS, late_after, log_level, manner, record_size, rights};
+use clap::ArgMatches;
+use command_grammar::{FREE, Grammar, word};
+use network_words::program::FILE;
 use network_words::refusal::Refusal;
 use process_parts::UpWords;
-use std::alloc::{AllocError, Global};
 
 /// What `up` takes.
-const UP: Grammar<'static> = Grammar {
+pub const UP: Grammar<'static> = Grammar {
     name: "up",
     about: "Runs all nodes of a network, and restarts what ends, until Ctrl-C",
     help: HELP,
-    parameters: &[
-        Parameter::Place("FILE", NETWORK_FILE),
-        Parameter::Place("DIR", FOLDER),
-        Parameter::Value("hold", "MICROSECONDS", HOLD_HELP),
-        Parameter::Value("repeat", "MICROSECONDS", REPEAT_HELP),
-        Parameter::Value("turn", "MILLISECONDS", TURN_HELP),
-        Parameter::Flag("group-locks", GROUP_HELP),
-        Parameter::Value("log", "LEVEL", LOG_HELP),
-        Parameter::Flag("record", RECORD_HELP),
-        Parameter::Value("record-size", "BYTES", RECORD_SIZE_HELP),
-    ],
+    shared: OPTIONS,
+    parameters: &[FILE, DIR],
     needs: &[("record-size", "record")],
-    excludes: &[],
-    choice: None,
+    ..FREE
 };
-
-/// Adds the command to the program's parser.
-pub fn add_to<'a>(parser: Command<'a>, alloc: Global) -> Result<Command<'a>, AllocError> {
-    with_command(parser, alloc, &UP)
-}
 
 /// What follows the options in its help.
 const HELP: &str = "\

@@ -1,0 +1,13 @@
+//! The seed of `scramble` and `junk`, a word in its place.
+use command_grammar::{Number, Parameter};
+
+/// What the help says of it.
+pub const SEED: Parameter<'static> = Parameter::Place("SEED", "The seed, 0 to 4294967295");
+
+/// The seeds.
+pub const SEEDS: Number<'static> = Number {
+    id: "SEED",
+    name: "SEED",
+    least: 0,
+    most: 4_294_967_295,
+};
