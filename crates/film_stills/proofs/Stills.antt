@@ -1,7 +1,8 @@
 -- Stills stand for one moment more, and for the same moments once some are joined.
-use Rattle.std.proofs.Common.{◌≡◌, ◌∙◌, ap, sym, refl, subst, ℕ, zero, suc, ◌+◌, ◌-◌, ◌≤◌, ◌<◌, ◌⊎◌, inl, inr, ◌||◌, max, if◌then◌else◌, Bool, true, false, IsTrue, List, [], ◌∷◌, ◌++◌, Option, None, Some, length, take, drop, append_assoc, get_or, slice_set, slice_index_or, arith}
+use Rattle.std.proofs.Common.{◌≡◌, ◌∙◌, ap, sym, refl, subst, ℕ, suc, ◌+◌, ◌-◌, ◌≤◌, ◌<◌, ◌⊎◌, inl, inr, ◌||◌, max, if◌then◌else◌, Bool, true, false, IsTrue, List, [], ◌∷◌, ◌++◌, Option, None, Some, length, take, drop, append_assoc, get_or, slice_set, slice_index_or, arith}
 use Rattle.std.proofs.lemmas.Grind.{common_steps}
 use Rattle.std.proofs.lemmas.List.{append-nil}
+use Rattle.std.proofs.Math.Seq.{take-suc, take-length}
 use Rattle.film_stills.specs.declared.still.Still.{Still}
 use Rattle.film_stills.specs.Stills.{is_weighty, IsLike, joined, together, IsFaithful, StandFor, with_last, folded, are_calm, calm_folded, MayJoin, MayLast}
 use Rattle.film_stills.specs.Stills.StandFor.{Nothing, Further}
@@ -9,24 +10,17 @@ use Rattle.film_stills.specs.Reels.{ReelView, Shows}
 
 -- ---- what is alike
 
--- the first items, and the one after them
-taken_suc : {X : Type 0} (xs : List X) (v : ℕ) (d : X) → v < length xs → take (suc v) xs ≡ take v xs ++ get_or xs v d ∷ []
-taken_suc [] v d there = grind (arith, common_steps)
-taken_suc (x ∷ xs) zero d there = refl
-taken_suc (x ∷ xs) (suc v) d there = ap (λ ys. x ∷ ys) (taken_suc xs v d (omega (arith, there)))
-
 -- two lists agree one item further
-pub same_more : {X : Type 0} (xs ys : List X) (v : ℕ) (d : X) → v < length xs → v < length ys
-    → take v xs ≡ take v ys → get_or xs v d ≡ get_or ys v d → take (v + 1) xs ≡ take (v + 1) ys
-same_more xs ys v d there here same next =
-    let more : v + 1 ≡ suc v = omega arith in
-    rw more (taken_suc xs v d there ∙ ap (λ zs. zs ++ get_or xs v d ∷ []) same ∙ ap (λ z. take v ys ++ z ∷ []) next ∙ sym (taken_suc ys v d here))
+pub same_more : {X : Type 0} (xs ys : List X) (k : ℕ) (d e : X) → k < length xs → k < length ys
+    → take k xs ≡ take k ys → get_or xs k d ≡ get_or ys k e → take (k + 1) xs ≡ take (k + 1) ys
+same_more xs ys k d e there here same next =
+    let more : k + 1 ≡ suc k = omega arith in
+    rw more (take-suc xs k d there ∙ ap (λ zs. zs ++ get_or xs k d ∷ []) same ∙ ap (λ z. take k ys ++ z ∷ []) next ∙ sym (take-suc ys k e here))
 
 -- and all of them
-pub all_taken : {X : Type 0} (xs : List X) (n : ℕ) → length xs ≡ n → take n xs ≡ xs
-all_taken [] n all = grind (arith, common_steps)
-all_taken (a ∷ xs) zero all = grind (arith, common_steps)
-all_taken (a ∷ xs) (suc n) all = ap (λ ys. a ∷ ys) (all_taken xs n (omega (arith, all)))
+pub same_all : {X : Type 0} (xs ys : List X) (k : ℕ) → length xs ≡ k → length ys ≡ k → take k xs ≡ take k ys → xs ≡ ys
+same_all xs ys k there here same =
+    sym (take-length xs) ∙ ap (λ n. take n xs) there ∙ same ∙ ap (λ n. take n ys) (sym here) ∙ take-length ys
 
 -- ---- what is joined
 
@@ -171,6 +165,13 @@ stands_calm crowded moments stills (Further first later faithful Nothing) = Furt
 stands_calm crowded moments stills (Further first later faithful (Further next more {moments = others} {stills = after} fair rest)) =
     mutual_calm crowded _ first later next more others after refl faithful (stands_calm crowded others after rest)
     (stands_calm crowded (next ∷ (more ++ others)) (together next more ∷ after) (Further next more fair rest))
+
+-- ---- how far it has come
+
+-- what a fold makes of some stills is what is written and what it makes of the rest, for which there is room
+abbrev pub IsFoldedSoFar : (List Still → List Still) → List Still → List Still → List Still → ℕ → ℕ → Type 0
+IsFoldedSoFar fold stills written rest first now =
+    (fold stills ≡ written ++ fold rest) × (length written + length rest ≤ now) × (now ≡ first)
 
 -- ---- how many they are
 

@@ -69,9 +69,9 @@ impl Still {
     pub fn is_like(&self, other: &Still) -> bool
         ensures { IsTrue result → IsLike self.now other.now }
     {
-        are_same_looks(&self.looks, &other.looks)
-            && are_same_places(&self.places, &other.places)
-            && are_same_edges(&self.edges, &other.edges)
+        are_same(&self.looks, &other.looks)
+            && are_same(&self.places, &other.places)
+            && are_same(&self.edges, &other.edges)
     }
 
     /// Whether an edge joins two different nodes.
@@ -93,45 +93,40 @@ pub fn join_last(stills: &mut [Still], moment: &Still)
     stills[place] = stills[place].joined(moment);
 }
 
-/// Whether the looks are the same.
-fn are_same_looks(looks: &[Look; 64], others: &[Look; 64]) -> bool
-    ensures { IsTrue result → looks.now ≡ others.now }
+/// What a still shows of one node or edge.
+trait Part: Copy {
+    /// Whether both are the same.
+    fn is_same(self, other: Self) -> bool
+        ensures { IsTrue result → self ≡ other };
+}
+
+impl Part for Look {
+    fn is_same(self, other: Look) -> bool {
+        self.is(other)
+    }
+}
+
+impl Part for Place {
+    fn is_same(self, other: Place) -> bool {
+        self.is(other)
+    }
+}
+
+/// Edges are the same only if their ends are in the same order.
+impl Part for (u16, u16) {
+    fn is_same(self, other: (u16, u16)) -> bool {
+        self.0 == other.0 && self.1 == other.1
+    }
+}
+
+/// Whether the parts are the same, in the same order.
+fn are_same<T: Part, const N: usize>(parts: &[T; N], others: &[T; N]) -> bool
+    ensures { IsTrue result → parts.now ≡ others.now }
 {
-    for v in 0..64 {
-        if !looks[v].is(others[v]) {
+    for k in 0..N {
+        if !parts[k].is_same(others[k]) {
             return false;
         }
     }
     true
-}
-
-/// Whether the places are the same.
-fn are_same_places(places: &[Place; 64], others: &[Place; 64]) -> bool
-    ensures { IsTrue result → places.now ≡ others.now }
-{
-    for v in 0..64 {
-        if !places[v].is(others[v]) {
-            return false;
-        }
-    }
-    true
-}
-
-/// Whether the edges are the same, in the same order.
-fn are_same_edges(edges: &[(u16, u16); MOST_EDGES], others: &[(u16, u16); MOST_EDGES]) -> bool
-    ensures { IsTrue result → edges.now ≡ others.now }
-{
-    for k in 0..MOST_EDGES {
-        if !is_same_edge(edges[k], others[k]) {
-            return false;
-        }
-    }
-    true
-}
-
-/// Whether both have the same ends, in the same order.
-fn is_same_edge(edge: (u16, u16), other: (u16, u16)) -> bool
-    ensures { IsTrue result → edge ≡ other }
-{
-    edge.0 == other.0 && edge.1 == other.1
 }
