@@ -1,7 +1,7 @@
 -- A simulation, piece by piece of its text.
-use Rattle.std.proofs.Common.{◌≡◌, ◌∙◌, ap, sym, ℕ, ◌+◌, ◌-◌, List, [], ◌∷◌, ◌++◌, Option, Result, Ok, Err, IsErr, length, map, take, drop, arith}
+use Rattle.std.proofs.Common.{◌≡◌, ◌∙◌, ap, sym, ℕ, ◌+◌, ◌-◌, List, [], ◌∷◌, ◌++◌, Option, Result, Ok, Err, IsErr, length, map, take, drop, append_assoc, arith}
 use Rattle.std.proofs.lemmas.Grind.{common_steps}
-use Rattle.std.proofs.lemmas.List.{map-append, take_rest}
+use Rattle.std.proofs.lemmas.List.{map-append, take_rest, take-append-drop}
 use Rattle.std.proofs.Math.Seq.{take-add}
 use Rattle.byte_lines.specs.Lines.{lines_after, half_line, whole_lines}
 use Rattle.byte_lines.specs.Kept.{Kept, StandsAfter}
@@ -19,6 +19,19 @@ use Rattle.world.proofs.Writing.{beginning_of_more}
 -- the first bytes of a piece, and more of them
 pub piece_more : (piece : List ℕ) (at used : ℕ) → take (at + used) piece ≡ take at piece ++ take used (take (length piece - at) (drop at piece))
 piece_more piece at used = take-add at used piece ∙ ap (λ xs. take at piece ++ take used xs) (sym (take_rest piece at))
+
+-- more bytes of a piece, after what was there before it and its first bytes
+pub piece_further : (bytes piece : List ℕ) (at used : ℕ)
+    → bytes ++ take (at + used) piece ≡ (bytes ++ take at piece) ++ take used (take (length piece - at) (drop at piece))
+piece_further bytes piece at used = ap (λ xs. bytes ++ xs) (piece_more piece at used) ∙ sym (append_assoc bytes (take at piece) _)
+
+-- and then the others
+pub piece_through : (bytes piece : List ℕ) (at used : ℕ)
+    → bytes ++ piece ≡ ((bytes ++ take at piece) ++ take used (take (length piece - at) (drop at piece))) ++ drop (at + used) piece
+piece_through bytes piece at used =
+    let later = drop (at + used) piece in
+    ap (λ xs. bytes ++ xs) (sym (take-append-drop (at + used) piece)) ∙ sym (append_assoc bytes (take (at + used) piece) later)
+    ∙ ap (λ xs. xs ++ later) (piece_further bytes piece at used)
 
 -- the refusal lines of the whole lines of some bytes come first for more bytes
 pub beginning_of_bytes : LinesAreCut → (start : World) (bytes more : List ℕ) (before after : Option (List ℕ))

@@ -48,7 +48,7 @@ fails_on_the_way (Ok value) bytes before after failures more failed b higher ros
 fails_on_the_way (Err e) bytes before after failures more failed b higher rose = (b, higher, rose)
 
 -- a list is what is in front of an item, the item, and what is after it
-pub item_parts : (xs : List ℕ) (i : ℕ) → i < length xs → xs ≡ take i xs ++ (get_or xs i 0 ∷ drop (i + 1) xs)
+item_parts : (xs : List ℕ) (i : ℕ) → i < length xs → xs ≡ take i xs ++ (get_or xs i 0 ∷ drop (i + 1) xs)
 item_parts xs i there = grind (arith, common_steps)
 
 -- the texts of the items up to one were taken, and then a beginning of its text
@@ -70,13 +70,45 @@ texts_go_on f xs i before between after there first more =
     ap (flat_map f) one ∙ flat_map-append f (take i xs) (get_or xs i 0 ∷ []) ∙ ap (λ ys. flat_map f (take i xs) ++ ys) (append-nil (f (get_or xs i 0))) in
     rw parts (takes_both (flat_map f (take i xs)) (f (get_or xs i 0)) before between after first more)
 
+-- the same where the item was read from an equal list
+pub texts_fail_at : (f : ℕ → List ℕ) (read xs : List ℕ) (i : ℕ) (before between after : Option (List ℕ)) → read ≡ xs → i < length read
+    → Takes (flat_map f (take i xs)) before between → TakesABeginning (f (get_or read i 0)) between after → TakesABeginning (flat_map f xs) before after
+texts_fail_at f read xs i before between after same there first b = texts_fail f xs i before between after (rw same at there) first (rw same at b)
+
+pub texts_go_on_at : (f : ℕ → List ℕ) (read xs : List ℕ) (i : ℕ) (before between after : Option (List ℕ)) → read ≡ xs → i < length read
+    → Takes (flat_map f (take i xs)) before between → Takes (f (get_or read i 0)) between after → Takes (flat_map f (take (i + 1) xs)) before after
+texts_go_on_at f read xs i before between after same there first more = texts_go_on f xs i before between after (rw same at there) first (rw same at more)
+
+-- ---- the texts of the numbers below n
+
 -- the number at a place of the numbers below n
-pub number_at : (n v : ℕ) → v < n → get_or (range_with_len 0 n) v 0 ≡ v
+number_at : (n v : ℕ) → v < n → get_or (range_with_len 0 n) v 0 ≡ v
 number_at n v below =
     let from_v : 0 + v ≡ v = omega arith in
     get_or-range_with_len 0 n v 0 below ∙ from_v
 
 -- all numbers below n
-pub all_numbers : (n v : ℕ) → v ≡ n → take v (range_with_len 0 n) ≡ range_with_len 0 n
+all_numbers : (n v : ℕ) → v ≡ n → take v (range_with_len 0 n) ≡ range_with_len 0 n
 all_numbers n v all =
     ap (λ k. take k (range_with_len 0 n)) (all ∙ sym (length-range_with_len 0 n)) ∙ take-length (range_with_len 0 n)
+
+-- those up to one were taken, and then a beginning of its text
+pub numbers_fail : (f : ℕ → List ℕ) (n v : ℕ) (before between after : Option (List ℕ)) → v < n
+    → Takes (flat_map f (take v (range_with_len 0 n))) before between → TakesABeginning (f v) between after
+    → TakesABeginning (flat_map f (range_with_len 0 n)) before after
+numbers_fail f n v before between after below first b =
+    let there : v < length (range_with_len 0 n) = rw (length-range_with_len 0 n) below in
+    texts_fail f (range_with_len 0 n) v before between after there first (rw (number_at n v below) b)
+
+-- those up to one were taken, and then its text
+pub numbers_go_on : (f : ℕ → List ℕ) (n v : ℕ) (before between after : Option (List ℕ)) → v < n
+    → Takes (flat_map f (take v (range_with_len 0 n))) before between → Takes (f v) between after
+    → Takes (flat_map f (take (v + 1) (range_with_len 0 n))) before after
+numbers_go_on f n v before between after below first more =
+    let there : v < length (range_with_len 0 n) = rw (length-range_with_len 0 n) below in
+    texts_go_on f (range_with_len 0 n) v before between after there first (rw (number_at n v below) more)
+
+-- all of them were
+pub numbers_end : (f : ℕ → List ℕ) (n v : ℕ) (before after : Option (List ℕ)) → v ≡ n
+    → Takes (flat_map f (take v (range_with_len 0 n))) before after → Takes (flat_map f (range_with_len 0 n)) before after
+numbers_end f n v before after all taken = rw (all_numbers n v all) at taken
