@@ -43,18 +43,24 @@ module _ (read : List ℕ) (heads : List (Option Step)) (n : ℕ) where
     so_far.3,
   )
 
+  -- what is at most each instant so far, and n's, is at most each with n
+  least-more : (now least : ℕ) → ready_instant read (head_of heads n) ≡ Some now → least ≤ now
+      → ((u instant : ℕ) → u < n → ready_instant read (head_of heads u) ≡ Some instant → least ≤ instant)
+      → (u instant : ℕ) → u < n + 1 → ready_instant read (head_of heads u) ≡ Some instant → least ≤ instant
+  least-more now least is l before u instant lt e =
+      elim (below u n lt) [
+        | inl so ↦ before u instant so e
+        | inr same ↦
+            let e2 : some now ≡ some instant = sym is ∙ subst (λ (x : ℕ). ready_instant read (head_of heads x) ≡ Some instant) same e in
+            omega (arith, some-is now instant e2, l)
+      ]
+
   some-more : (now : ℕ) → ready_instant read (head_of heads n) ≡ Some now → (first : Option (ℕ × ℕ)) → IsSoFar read heads n first
       → IsSoFar read heads (n + 1) (earlier first n (Some now))
   some-more now is None so_far = (
     omega arith,
     is,
-    (λ u instant lt e.
-        elim (below u n lt) [
-          | inl so ↦ let e2 : None ≡ some instant = sym (so_far u so) ∙ e in absurd cc
-          | inr same ↦
-              let e2 : some now ≡ some instant = sym is ∙ subst (λ (x : ℕ). ready_instant read (head_of heads x) ≡ Some instant) same e in
-              omega (arith, some-is now instant e2)
-        ]),
+    least-more now now is (omega arith) (λ u instant lt e. let e2 : None ≡ some instant = sym (so_far u lt) ∙ e in absurd cc),
     (λ u lt e. let e2 : None ≡ some now = sym (so_far u lt) ∙ e in absurd cc),
   )
   some-more now is (Some first) so_far =
@@ -64,13 +70,7 @@ module _ (read : List ℕ) (heads : List (Option Step)) (n : ℕ) where
             rw not_so (
               omega arith,
               is,
-              (λ u instant lt e.
-                  elim (below u n lt) [
-                    | inl so ↦ omega (arith, so_far.2 u instant so e, sooner)
-                    | inr same ↦
-                        let e2 : some now ≡ some instant = sym is ∙ subst (λ (x : ℕ). ready_instant read (head_of heads x) ≡ Some instant) same e in
-                        omega (arith, some-is now instant e2)
-                  ]),
+              least-more now now is (omega arith) (λ u instant lt e. omega (arith, so_far.2 u instant lt e, sooner)),
               (λ u lt e. omega (arith, so_far.2 u now lt e, sooner)),
             )
         | inr later ↦
@@ -78,13 +78,7 @@ module _ (read : List ℕ) (heads : List (Option Step)) (n : ℕ) where
             rw so (
               omega (arith, so_far.0),
               so_far.1,
-              (λ u instant lt e.
-                  elim (below u n lt) [
-                    | inl below_n ↦ so_far.2 u instant below_n e
-                    | inr same ↦
-                        let e2 : some now ≡ some instant = sym is ∙ subst (λ (x : ℕ). ready_instant read (head_of heads x) ≡ Some instant) same e in
-                        omega (arith, some-is now instant e2, later)
-                  ]),
+              least-more now first.1 is (omega (arith, later)) so_far.2,
               so_far.3,
             )
       ]
