@@ -201,22 +201,7 @@ checked-takes : (last k : ℕ) (ns bytes left : List ℕ) (e : Entry) (rest : Li
     → (length rest < length left) × (entry_of last k ns ≡ Ok e)
 unfolding checked
 checked-takes last k ns bytes [] e rest h = absurd cc
-checked-takes last k ns bytes (c ∷ after) e rest h =
-    let sum = check (take (length bytes - length (c ∷ after)) bytes) in
-    let go : Result (Entry × List ℕ) Unread = (entry_of last k ns >>= λ e. Ok (e, after)) in
-    elim (cases_Bool (c == sum)) [
-      | inl so ↦
-          let e2 : go ≡ Ok (e, rest) = subst (λ t. cond t go (Err Invalid) ≡ Ok (e, rest)) so h in
-          let r = bind_ok (entry_of last k ns) (λ e. Ok (e, after)) (e, rest) e2 in
-          let both : ◌≡◌ {A = Result (Entry × List ℕ) Unread} (Ok (r.0, after)) (Ok (e, rest)) = r.2 in
-          let pair : ◌≡◌ {A = Entry × List ℕ} (r.0, after) (e, rest) = cc in
-          let e-is : r.0 ≡ e = ap (λ (x : Entry × List ℕ). x.0) pair in
-          let rest-is : after ≡ rest = ap (λ (x : Entry × List ℕ). x.1) pair in
-          (rw (← rest-is) (omega arith), subst (λ (x : Entry). entry_of last k ns ≡ Ok x) e-is r.1)
-      | inr not_so ↦
-          let e2 : ◌≡◌ {A = Result (Entry × List ℕ) Unread} (Err Invalid) (Ok (e, rest)) = subst (λ t. cond t go (Err Invalid) ≡ Ok (e, rest)) not_so h in
-          absurd cc
-    ]
+checked-takes last k ns bytes (c ∷ after) e rest h = (grind (arith, common_steps), grind (arith, common_steps))
 
 pub read-takes : (last : ℕ) (bytes : List ℕ) (e : Entry) (rest : List ℕ) → entry_at last bytes ≡ Ok (e, rest)
     → (length rest < length bytes) × IsNoted e.noted
