@@ -1,5 +1,5 @@
 -- Events that are drawn one after the other, and put after those that are there.
-use Rattle.std.proofs.Common.{◌≡◌, ◌∙◌, ℕ, ◌+◌, ◌-◌, ◌<◌, ◌≤◌, suc, List, [], ◌∷◌, ◌++◌, length, get_or, drop, ap, sym, arith}
+use Rattle.std.proofs.Common.{◌≡◌, ◌∙◌, refl, ℕ, ◌+◌, ◌-◌, ◌<◌, ◌≤◌, suc, List, [], ◌∷◌, ◌++◌, length, get_or, drop, ap, sym, arith}
 use Rattle.std.proofs.Common.{append_assoc, append-nil, Result, Ok, Err, OnOk, IsErr}
 use Rattle.std.proofs.lemmas.List.{drop_more, drop_all}
 use Rattle.std.specs.List.{range_with_len}
@@ -24,6 +24,10 @@ Grows a b = (more : List Event) × (b ≡ a ++ more)
 pub grows-on : (a b c : List Event) → Grows a b → Grows b c → Grows a c
 grows-on a b c (m, e) (n, f) = (m ++ n, f ∙ ap (λ xs. xs ++ n) e ∙ append_assoc a m n)
 
+-- three times
+pub grows-thrice : (a b c d : List Event) → Grows a b → Grows b c → Grows c d → Grows a d
+grows-thrice a b c d one two three = grows-on a b d one (grows-on b c d two three)
+
 -- one more is drawn
 pub each-more : (draws : ℕ → Lcg → List Event × Lcg) (x : ℕ) (xs : List ℕ) (out more : List Event) (g g2 : Lcg)
     → (more, g2) ≡ appended out (draws x g)
@@ -39,7 +43,7 @@ pub range-front : (i n : ℕ) → i < n → range_with_len i (n - i) ≡ i ∷ r
 range-front i n h = let k : ℕ = n - (i + 1) in let e : n - i ≡ suc k = omega arith in ap (range_with_len i) e
 
 -- and so over a range
-pub range-more : (draws : ℕ → Lcg → List Event × Lcg) (i n : ℕ) (out more : List Event) (g g2 : Lcg) → i < n
+range-more : (draws : ℕ → Lcg → List Event × Lcg) (i n : ℕ) (out more : List Event) (g g2 : Lcg) → i < n
     → (more, g2) ≡ appended out (draws i g)
     → appended out (draw_each draws (range_with_len i (n - i)) g) ≡ appended more (draw_each draws (range_with_len (i + 1) (n - (i + 1))) g2)
 range-more draws i n out more g g2 h e =
@@ -71,7 +75,7 @@ module _ (draws : ℕ → Lcg → List Event × Lcg) where
   each-none xs out g e = ap (λ ys. appended out (draw_each draws ys g)) e ∙ ap (λ ys. (ys, g)) (append-nil out)
 
   -- over a range, at its begin and its end
-  pub range-begin : (n : ℕ) (out : List Event) (g : Lcg)
+  range-begin : (n : ℕ) (out : List Event) (g : Lcg)
       → appended out (draw_each draws (range_with_len 0 n) g) ≡ appended out (draw_each draws (range_with_len 0 (n - 0)) g)
   range-begin n out g = let e : n ≡ n - 0 = omega arith in ap (λ k. appended out (draw_each draws (range_with_len 0 k) g)) e
 
@@ -79,7 +83,7 @@ module _ (draws : ℕ → Lcg → List Event × Lcg) where
   range-end i n out g h = let e : n - i ≡ 0 = omega arith in each-none (range_with_len i (n - i)) out g (ap (range_with_len i) e)
 
   -- over a list, from one place to the next, and at its end
-  pub place-more : (xs : List ℕ) (i : ℕ) (out more : List Event) (g g2 : Lcg) → i < length xs
+  place-more : (xs : List ℕ) (i : ℕ) (out more : List Event) (g g2 : Lcg) → i < length xs
       → (more, g2) ≡ appended out (draws (get_or xs i 0) g)
       → appended out (draw_each draws (drop i xs) g) ≡ appended more (draw_each draws (drop (i + 1) xs) g2)
   place-more xs i out more g g2 h e =
@@ -89,6 +93,30 @@ module _ (draws : ℕ → Lcg → List Event × Lcg) where
   pub place-end : (xs : List ℕ) (i : ℕ) (out : List Event) (g : Lcg) → length xs ≤ i
       → appended out (draw_each draws (drop i xs) g) ≡ (out, g)
   place-end xs i out g h = each-none (drop i xs) out g (drop_all i xs h)
+
+-- Events are drawn for each number of a list, and put after those that were there: what is left is still to be drawn.
+pub record IsDrawing (draws : ℕ → Lcg → List Event × Lcg) (all left : List ℕ) (old out : List Event) (begun g : Lcg) : Type 0 where
+  pub drawn : appended old (draw_each draws all begun) ≡ appended out (draw_each draws left g)
+  pub kept : Grows old out
+
+module _ {draws : ℕ → Lcg → List Event × Lcg} {old : List Event} {begun : Lcg} where
+  -- over a range: at its begin, and from one number to the next
+  pub range-starts : (n : ℕ) → IsDrawing draws (range_with_len 0 n) (range_with_len 0 (n - 0)) old old begun begun
+  range-starts n = record { drawn = range-begin draws n old begun; kept = grows-self old }
+
+  pub range-goes_on : {all : List ℕ} {i n : ℕ} {out more : List Event} {g g2 : Lcg} → IsDrawing draws all (range_with_len i (n - i)) old out begun g → i < n
+      → (more, g2) ≡ appended out (draws i g) → Grows out more → IsDrawing draws all (range_with_len (i + 1) (n - (i + 1))) old more begun g2
+  range-goes_on {all} {i} {n} {out} {more} {g} {g2} before h e grown =
+      record { drawn = before.drawn ∙ range-more draws i n out more g g2 h e; kept = grows-on old out more before.kept grown }
+
+  -- and over a list
+  pub places-start : (xs : List ℕ) → IsDrawing draws xs (drop 0 xs) old old begun begun
+  places-start xs = record { drawn = refl; kept = grows-self old }
+
+  pub places-go_on : {xs : List ℕ} {i : ℕ} {out more : List Event} {g g2 : Lcg} → IsDrawing draws xs (drop i xs) old out begun g → i < length xs
+      → (more, g2) ≡ appended out (draws (get_or xs i 0) g) → Grows out more → IsDrawing draws xs (drop (i + 1) xs) old more begun g2
+  places-go_on {xs} {i} {out} {more} {g} {g2} before h e grown =
+      record { drawn = before.drawn ∙ place-more draws xs i out more g g2 h e; kept = grows-on old out more before.kept grown }
 
 -- a port is four events
 pub port-drawn : (r : Ranges) (u v : ℕ) (out more four : List Event) (d : PortDraw) (g g2 : Lcg)

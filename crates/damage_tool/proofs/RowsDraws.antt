@@ -2,11 +2,12 @@
 -- first word is 0, and the state after it 1; from there the word is 0 again, and the state after it one more
 -- than the multiplier, 6364136223846793006. By the rule of PCG32 (O'Neill 2014) the next words are 3837872008,
 -- 932996374, 1548399547, 1612522464, 473443212, 3522865942, 1734871597, 2449558126, 1653269385 and 2811495245.
-use Rattle.std.proofs.Common.{◌≡◌, ◌≢◌, [], ◌∷◌, true, false, None, Some, codes, refl, arith}
+use Rattle.std.proofs.Common.{◌≡◌, ◌≢◌, List, [], ◌∷◌, ◌++◌, true, false, None, Some, codes, refl, arith}
 use Rattle.rand_pcg.specs.Lcg.{Lcg}
 use Rattle.topology.specs.declared.frame.Ranges.{Ranges}
 use Rattle.link_model.specs.declared.item.Item.TheVariants.{Frame, Noise}
 use Rattle.run_model.specs.node_core.State.{default_node}
+use Rattle.run_model.specs.declared.event.Event.{Event}
 use Rattle.run_model.specs.declared.event.Event.TheVariants.{Damage}
 use Rattle.run_model.specs.declared.event.Harm.TheVariants as harm
 use Rattle.run_model.proofs.RowsTwo.{two_nodes}
@@ -113,38 +114,32 @@ draws-port_harms :
 unfolding draw
 draws-port_harms = refl
 
-draws-node :
-    draw_node two_nodes 0 still
-    ≡ (
-      Damage (harm.Own 0 0 (Some 0))
-          ∷ Damage (harm.Counters 0 1 3 4)
-          ∷ Damage (harm.Staged 0 1 (record { distance = 1; parent = Some 0; ring = 4 }))
-          ∷ Damage (harm.Copy 0 1 (record { distance = 1; parent = Some 1; ring = 1 }))
-          ∷ Damage (harm.Value 0 1 5)
-          ∷ Damage (harm.Desk 0 (Some 65535) 0 true) ∷ [],
-      record { state = 8116512559640647218; increment = 1 },
-    )
+abbrev first_node : List Event
+first_node =
+    Damage (harm.Own 0 0 (Some 0))
+    ∷ Damage (harm.Counters 0 1 3 4)
+    ∷ Damage (harm.Staged 0 1 (record { distance = 1; parent = Some 0; ring = 4 }))
+    ∷ Damage (harm.Copy 0 1 (record { distance = 1; parent = Some 1; ring = 1 }))
+    ∷ Damage (harm.Value 0 1 5)
+    ∷ Damage (harm.Desk 0 (Some 65535) 0 true) ∷ []
+
+draws-node : draw_node two_nodes 0 still ≡ (first_node, record { state = 8116512559640647218; increment = 1 })
 unfolding draw
 draws-node = refl
 
-draws-link :
-    draw_link two_nodes 1 0 (record { state = 12360490266823512006; increment = 1 })
-    ≡ (
-      Damage (harm.Empty 1 0)
-          ∷ Damage (harm.Item 1 0 (Frame (record { seq = 4; ack = 4; payload = record { distance = 0; parent = Some 1; ring = 2 } }))) ∷ [],
-      record { state = 10007402826525227761; increment = 1 },
-    )
+abbrev one_link : List Event × Lcg
+one_link = (
+  Damage (harm.Empty 1 0)
+      ∷ Damage (harm.Item 1 0 (Frame (record { seq = 4; ack = 4; payload = record { distance = 0; parent = Some 1; ring = 2 } }))) ∷ [],
+  record { state = 10007402826525227761; increment = 1 },
+)
+
+draws-link : draw_link two_nodes 1 0 (record { state = 12360490266823512006; increment = 1 }) ≡ one_link
 unfolding draw
 draws-link = refl
 
 -- node 1 of two has one link, and what is no node has none
-draws-links :
-    draw_links_from two_nodes 1 (record { state = 12360490266823512006; increment = 1 })
-    ≡ (
-      Damage (harm.Empty 1 0)
-          ∷ Damage (harm.Item 1 0 (Frame (record { seq = 4; ack = 4; payload = record { distance = 0; parent = Some 1; ring = 2 } }))) ∷ [],
-      record { state = 10007402826525227761; increment = 1 },
-    )
+draws-links : draw_links_from two_nodes 1 (record { state = 12360490266823512006; increment = 1 }) ≡ one_link
 unfolding draw
 draws-links = refl
 
@@ -156,13 +151,8 @@ draws-no_links = refl
 draws-world :
     draw_world two_nodes still
     ≡ (
-      Damage (harm.Own 0 0 (Some 0))
-          ∷ Damage (harm.Counters 0 1 3 4)
-          ∷ Damage (harm.Staged 0 1 (record { distance = 1; parent = Some 0; ring = 4 }))
-          ∷ Damage (harm.Copy 0 1 (record { distance = 1; parent = Some 1; ring = 1 }))
-          ∷ Damage (harm.Value 0 1 5)
-          ∷ Damage (harm.Desk 0 (Some 65535) 0 true)
-          ∷ Damage (harm.Own 1 0 (Some 1))
+      first_node
+          ++ Damage (harm.Own 1 0 (Some 1))
           ∷ Damage (harm.Counters 1 0 4 2)
           ∷ Damage (harm.Staged 1 0 (record { distance = 0; parent = None; ring = 6 }))
           ∷ Damage (harm.Copy 1 0 (record { distance = 0; parent = None; ring = 3 }))

@@ -11,11 +11,7 @@ returns-clause-drawn c =
 
 pub returns-clause-generator : goal.returns-clause-generator
 returns-clause-generator c =
-    let seq = c.draw_below-seq.ensures in
-    let last = c.draw_below-last.ensures in
-    let staged = c.draw_payload-staged.ensures in
-    let copy = c.draw_payload-copy.ensures in
-    rw (c.draw_below-value.ensures.generator, copy.generator, staged.generator, last.generator, seq.generator) refl
+    rw (c.draw_below-value.ensures.generator, c.draw_payload-copy.ensures.generator, c.draw_payload-staged.ensures.generator, c.draw_below-last.ensures.generator, c.draw_below-seq.ensures.generator) refl
 
 pub returns-clause-counters : goal.returns-clause-counters
 returns-clause-counters c =

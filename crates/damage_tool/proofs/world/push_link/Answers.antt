@@ -1,32 +1,19 @@
 use Rattle.std.proofs.Common.{◌∙◌}
 use Rattle.damage_tool.specs.Harms.{draw_item_harm}
-use Rattle.damage_tool.proofs.Drawing.{err-owes-nothing, grows-as, grows-on, grows-self}
-use Rattle.damage_tool.proofs.Drawing.{item-drawn, link-drawn, range-begin, range-end, range-more}
+use Rattle.damage_tool.proofs.Drawing.{err-owes-nothing, grows-as, grows-on, grows-thrice}
+use Rattle.damage_tool.proofs.Drawing.{item-drawn, link-drawn, range-starts, range-goes_on, range-end}
 use Rattle.damage_tool.proofs.world.push_link.Goals as goal
 
 pub loop-i-preserved : goal.loop-i-preserved
 loop-i-preserved g c =
-    let r = c.ranges-ranges.result in
-    let out = c.loop-i.out.items in
     let pushed = c.in_ok-push-2.ensures.items in
-    let one = item-drawn r c.args.from c.args.to c.loop-i.i out c.push-in-loop-i.new.self.items c.drawn_item-item.result c.loop-i.generator
-    c.drawn_item-item.new.generator c.drawn_item-item.ensures pushed in
-    record {
-      drawn =
-          c.loop-i.invariant.drawn
-          ∙ range-more (draw_item_harm r c.args.from c.args.to) c.loop-i.i c.draw_to-count.result out c.push-in-loop-i.new.self.items
-          c.loop-i.generator c.drawn_item-item.new.generator c.loop-i-test.true one;
-      kept = grows-on c.push.new.self.items out c.push-in-loop-i.new.self.items c.loop-i.invariant.kept (_, pushed);
-    }
+    range-goes_on c.loop-i.invariant c.loop-i-test.true
+    (item-drawn c.ranges-ranges.result c.args.from c.args.to c.loop-i.i c.loop-i.out.items c.push-in-loop-i.new.self.items c.drawn_item-item.result c.loop-i.generator
+    c.drawn_item-item.new.generator c.drawn_item-item.ensures pushed)
+    (_, pushed)
 
 pub loop-i-init : goal.loop-i-init
-loop-i-init g c =
-    let out = c.push.new.self.items in
-    let count = c.draw_to-count in
-    record {
-      drawn = range-begin (draw_item_harm c.ranges-ranges.result c.args.from c.args.to) count.result out count.new.generator;
-      kept = grows-self out;
-    }
+loop-i-init g c = range-starts c.draw_to-count.result
 
 pub returns-in_err-push : goal.returns-in_err-push
 returns-in_err-push g c =
@@ -37,14 +24,10 @@ returns-in_err-push g c =
 
 pub returns-in_err-push-2 : goal.returns-in_err-push-2
 returns-in_err-push-2 g c =
-    let first = c.push.new.self.items in
-    let out = c.loop-i.out.items in
-    let more = c.push-in-loop-i.new.self.items in
     record {
       drawn = err-owes-nothing c.from_residual-in_err-push-2.result _ c.from_residual-in_err-push-2.ensures.0;
-      kept =
-          grows-on c.args.out.now.items first more (_, c.in_ok-push.ensures.items)
-          (grows-on first out more c.loop-i.invariant.kept (grows-as out more c.in_err-push-2.ensures.items));
+      kept = grows-thrice c.args.out.now.items c.push.new.self.items c.loop-i.out.items c.push-in-loop-i.new.self.items
+          (_, c.in_ok-push.ensures.items) c.loop-i.invariant.kept (grows-as _ _ c.in_err-push-2.ensures.items);
     }
 
 pub returns : goal.returns

@@ -1,47 +1,21 @@
-use Rattle.std.proofs.Common.{◌∙◌, ℕ, ◌<◌, ◌≤◌, subst, arith}
+use Rattle.std.proofs.Common.{◌∙◌, ℕ, ◌≤◌, subst, arith}
 use Rattle.std.specs.List.{range_with_len}
 use Rattle.rand_pcg.specs.Lcg.{Lcg}
 use Rattle.damage_tool.specs.Harms.{draw_each, draw_node, draw_links_from}
-use Rattle.damage_tool.proofs.Drawing.{err-owes-nothing, grows-on, grows-self, range-begin, range-end, range-more, two-drawn}
+use Rattle.damage_tool.proofs.Drawing.{err-owes-nothing, grows-on, grows-thrice, range-starts, range-goes_on, range-end, two-drawn}
 use Rattle.damage_tool.proofs.world.push_world.Goals as goal
 
 pub loop-node-preserved : goal.loop-node-preserved
-loop-node-preserved g c =
-    let node = c.loop-node in
-    let out = c.push_node.new.out.items in
-    let below : node.node < c.args.net.now.nodes = omega arith in
-    record {
-      drawn =
-          node.invariant.drawn
-          ∙ range-more (draw_node c.args.net.now) node.node c.args.net.now.nodes node.out.items out node.generator c.push_node.new.generator below
-          c.in_ok-push_node.ensures.drawn;
-      kept = grows-on c.args.out.now.items node.out.items out node.invariant.kept c.push_node.ensures.kept;
-    }
+loop-node-preserved g c = range-goes_on c.loop-node.invariant (omega arith) c.in_ok-push_node.ensures.drawn c.push_node.ensures.kept
 
 pub loop-from-preserved : goal.loop-from-preserved
-loop-from-preserved g c =
-    let from = c.loop-from in
-    let out = c.push_links_from.new.out.items in
-    let below : from.from < c.args.net.now.nodes = omega arith in
-    record {
-      drawn =
-          from.invariant.drawn
-          ∙ range-more (draw_links_from c.args.net.now) from.from c.args.net.now.nodes from.out.items out from.generator
-          c.push_links_from.new.generator below c.in_ok-push_links_from.ensures.drawn;
-      kept = grows-on c.loop-node.out.items from.out.items out from.invariant.kept c.push_links_from.ensures.kept;
-    }
+loop-from-preserved g c = range-goes_on c.loop-from.invariant (omega arith) c.in_ok-push_links_from.ensures.drawn c.push_links_from.ensures.kept
 
 pub loop-node-init : goal.loop-node-init
-loop-node-init g c =
-    let net = c.args.net.now in
-    let out = c.args.out.now.items in
-    record { drawn = range-begin (draw_node net) net.nodes out c.args.generator.now; kept = grows-self out }
+loop-node-init g c = range-starts c.args.net.now.nodes
 
 pub loop-from-init : goal.loop-from-init
-loop-from-init g c =
-    let net = c.args.net.now in
-    let out = c.loop-node.out.items in
-    record { drawn = range-begin (draw_links_from net) net.nodes out c.loop-node.generator; kept = grows-self out }
+loop-from-init g c = range-starts c.args.net.now.nodes
 
 pub returns-in_err-push_node : goal.returns-in_err-push_node
 returns-in_err-push_node g c =
@@ -53,14 +27,11 @@ returns-in_err-push_node g c =
 
 pub returns-in_err-push_links_from : goal.returns-in_err-push_links_from
 returns-in_err-push_links_from g c =
-    let nodes = c.loop-node.out.items in
-    let out = c.push_links_from.new.out.items in
     let failed = c.from_residual-in_err-push_links_from in
     record {
       drawn = err-owes-nothing failed.result _ failed.ensures.0;
-      kept =
-          grows-on c.args.out.now.items nodes out c.loop-node.invariant.kept
-          (grows-on nodes c.loop-from.out.items out c.loop-from.invariant.kept c.push_links_from.ensures.kept);
+      kept = grows-thrice c.args.out.now.items c.loop-node.out.items c.loop-from.out.items c.push_links_from.new.out.items
+          c.loop-node.invariant.kept c.loop-from.invariant.kept c.push_links_from.ensures.kept;
     }
 
 pub returns : goal.returns
