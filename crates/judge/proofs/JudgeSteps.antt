@@ -24,15 +24,8 @@ use Rattle.judge.specs.Below.{Below}
 use Rattle.judge.proofs.Kept.{IsNoted, noted, still-renewed}
 use Rattle.judge.proofs.Judging.{judging-refused, judging-goes_on, judging-sweeps, judging-damage, judging-counts, sweep-counted}
 
--- the stretch with its count of looks at 0 again
-abbrev pub cleared : StretchView → StretchView
-cleared s = record s { tallies = record s.tallies { looked = 0 } }
-
-kept-cleared : (w : World) (es : List Event) (s : StretchView) → IsKept w es s → IsKept w es (cleared s)
-kept-cleared w es s kept = record { nodes = kept.nodes; lacking = kept.lacking; old = kept.old; renewed = kept.renewed; apart = kept.apart }
-
 -- no count of looks changes what was judged
-judging-looked : (start : World) (es : List Event) (now : World) (s : StretchView) (looked sweeps refused : ℕ) → IsJudging start es now s sweeps refused
+pub judging-looked : (start : World) (es : List Event) (now : World) (s : StretchView) (looked sweeps refused : ℕ) → IsJudging start es now s sweeps refused
     → IsJudging start es now (with_looks s looked) sweeps refused
 judging-looked start es now s looked sweeps refused j = record {
   in_range = j.in_range;
@@ -51,27 +44,12 @@ pub seen-looked : (old : JudgeView) (now : StretchView) (looked : ℕ) → now �
 seen-looked old now looked is_now start es seen =
     rw is_now (record { judging = judging-looked start es (world_of old.configuration) old.stretch looked old.sweeps old.refused seen.judging; visited = seen.visited })
 
-pub judging-cleared : (start : World) (es : List Event) (now : World) (s : StretchView) (sweeps refused : ℕ) → IsJudging start es now s sweeps refused
-    → IsJudging start es now (cleared s) sweeps refused
-judging-cleared start es now s sweeps refused j = record {
-  in_range = j.in_range;
-  now_is = j.now_is;
-  count = j.count;
-  done = j.done;
-  stretch = j.stretch;
-  since = j.since;
-  counted = j.counted;
-  kept = kept-cleared _ j.stretch s j.kept;
-  sweeps_are = j.sweeps_are;
-  refused_are = j.refused_are;
-}
-
-pub few-looks : (s before new : StretchView) → before ≡ cleared s → new.tallies.looked ≤ before.tallies.looked + 2 → new.tallies.looked ≤ 2
+pub few-looks : (s before new : StretchView) → before ≡ with_looks s 0 → new.tallies.looked ≤ before.tallies.looked + 2 → new.tallies.looked ≤ 2
 few-looks s before new is_before few = let none = ap (λ k. k.tallies.looked) is_before in omega (arith, few, none)
 
 -- ---- the room
 
-pub room-cleared : (net : Network) (s before : StretchView) → before ≡ cleared s → IsRoomFor net s → IsRoomFor net before
+pub room-cleared : (net : Network) (s before : StretchView) → before ≡ with_looks s 0 → IsRoomFor net s → IsRoomFor net before
 room-cleared net s before is_before room = rw is_before (record { nodes = room.nodes; placed = room.placed; apart = room.apart })
 
 pub room-noted : (net : Network) (did : Happened) (s new : StretchView) → IsRoomFor net s → new.tallies.table ≡ s.tallies.table
@@ -147,7 +125,7 @@ undamaged-one w e none = rw none refl
 -- room for a network is still room for it after an event without damage whose take or loss was
 -- noted
 pub room-after : Below → (now next : World) (e : Event) (did : Happened) (s before new : StretchView) → next ≡ step now e → is_damage now e ≡ false
-    → before ≡ cleared s → IsRoomFor now.net s → new.tallies.table ≡ before.tallies.table
+    → before ≡ with_looks s 0 → IsRoomFor now.net s → new.tallies.table ≡ before.tallies.table
     → ((u v : ℕ) → v < before.tallies.table.nodes → tally_of new.tallies u v ≡ tally_happened u v did (tally_of before.tallies u v)) → IsRoomFor next.net new
 room-after laws now next e did s before new is_next calm is_before room table tallies =
     let same : now.net ≡ next.net = sym (ap (λ w. w.net) is_next ∙ laws.network now (e ∷ []) (undamaged-one now e calm)) in
@@ -162,18 +140,12 @@ pub accepted-damage : (w : World) (e : Event) → happened w e ≡ Damaged → r
 accepted-damage w e did fits = grind (arith, common_steps)
 
 pub no-damage : (w : World) (e : Event) → ¬ (happened w e ≡ Damaged) → is_damage w e ≡ false
-no-damage w (Send u v) other = refl
-no-damage w (Take u v) other = refl
-no-damage w (Lose u v i) other = refl
-no-damage w (Tick v) other = refl
-no-damage w (Ask v t) other = refl
-no-damage w (Leave v t) other = refl
-no-damage w (Damage h) other = absurd (other refl)
+no-damage w e other = grind (arith, common_steps, other)
 
 module _ (laws : Below) (start : World) (es : List Event) (e : Event) (now next : World) (s before : StretchView) (sweeps refused : ℕ) (is_next : next ≡ step now e)
-    (is_before : before ≡ cleared s) (j : IsJudging start es now s sweeps refused) where
+    (is_before : before ≡ with_looks s 0) (j : IsJudging start es now s sweeps refused) where
   seen : IsJudging start es now before sweeps refused
-  seen = rw is_before (judging-cleared start es now s sweeps refused j)
+  seen = rw is_before (judging-looked start es now s 0 sweeps refused j)
 
   pub refused-step : (fault : EventFault) (refused' : ℕ) → refusal now e ≡ Some fault → refused' ≡ min (refused + 1) (2 ^ 64 - 1)
       → IsJudging start (es ++ e ∷ []) next before sweeps refused'

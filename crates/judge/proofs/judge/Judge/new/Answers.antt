@@ -4,7 +4,7 @@ use Rattle.judge.specs.Judging.{IsJudging}
 use Rattle.judge.specs.Stretch.{IsKept}
 use Rattle.judge.specs.Visited.{AreVisited}
 use Rattle.judge.proofs.Judging.{judging-starts}
-use Rattle.judge.proofs.JudgeSteps.{judging-cleared, room-cleared, room-empty}
+use Rattle.judge.proofs.JudgeSteps.{judging-looked, room-cleared, room-empty}
 use Rattle.topology.specs.Network.{are_joined}
 use Rattle.judge.proofs.judge.Judge.new.Goals as goal
 
@@ -25,7 +25,7 @@ returns-clause-judging g c =
     let now = subst (λ w. IsJudging start [] (world_of w) c.begin.new.stretch 0 0) (sym c.world.view_is) seen in
     record {
       judging = subst (λ s. IsJudging start [] (world_of c.world.inside.configuration) s 0 0) (sym c.clear_looked.ensures)
-          (judging-cleared start [] (world_of c.world.inside.configuration) c.begin.new.stretch 0 0 now);
+          (judging-looked start [] (world_of c.world.inside.configuration) c.begin.new.stretch 0 0 0 now);
       visited = subst (λ w. AreVisited (world_of w) [] c.privileged_nodes-visited.result) c.world.view_is c.privileged_nodes-visited.ensures;
     }
 
