@@ -268,13 +268,13 @@ module _ (l : LinksView) (u v p q : ℕ) (old new old-back new-back : LinkView) 
   both-empty = record l { links = slice_set (slice_set l.links p new) q new-back }
 
   back-at : IsAt one-empty v u q old-back
-  back-at = record { links = clear-links l u v p old h new cleared; from_in = h.to_in; to_in = h.from_in; place = place; value = value }
+  back-at = record { links = clear-links h new cleared; from_in = h.to_in; to_in = h.from_in; place = place; value = value }
 
   empty-links : IsLinks both-empty
-  empty-links = clear-links one-empty v u q old-back back-at new-back cleared-back
+  empty-links = clear-links back-at new-back cleared-back
 
   empty-under : under_way both-empty ≡ at_pair (at_pair (under_way l) u v []) v u []
-  empty-under = clear-under one-empty v u q old-back back-at new-back cleared-back ∙ ap (λ f. at_pair f v u []) (clear-under l u v p old h new cleared)
+  empty-under = clear-under back-at new-back cleared-back ∙ ap (λ f. at_pair f v u []) (clear-under h new cleared)
 
   there : (f : ℕ → ℕ → List Item) → at_pair (at_pair f u v []) v u [] u v ≡ []
   there f = grind (arith, common_steps)

@@ -39,7 +39,7 @@ found-at {l} {seen} {u} {v} {p} {old} same links un vn place value = record {
   value = value;
 }
 
-module _ (l : LinksView) (u v p : ℕ) (old : LinkView) (h : IsAt l u v p old) where
+module _ {l : LinksView} {u v p : ℕ} {old : LinkView} (h : IsAt l u v p old) where
   there : value_at l.places u v < length l.links
   there = h.links.placed.inside u v h.from_in h.to_in
 

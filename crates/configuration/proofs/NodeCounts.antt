@@ -21,5 +21,5 @@ count-yes p n holds = count-more p n ∙ ap (λ b. count_by p (range_with_len 0 
 pub count-no : (p : ℕ → Bool) (n : ℕ) → p n ≡ false → count_by p (range_with_len 0 (n + 1)) ≡ count_by p (range_with_len 0 n)
 count-no p n fails = count-more p n ∙ ap (λ b. count_by p (range_with_len 0 n) + cond b 1 0) fails ∙ omega arith
 
-pub count-most : (p : ℕ → Bool) (n : ℕ) → count_by p (range_with_len 0 n) ≤ n
-count-most p n = omega (arith, count_by-le-length p (range_with_len 0 n), length-range_with_len 0 n)
+pub count-most : (p : ℕ → Bool) (n : ℕ) {count : ℕ} → count ≡ count_by p (range_with_len 0 n) → count ≤ n
+count-most p n counted = omega (arith, counted, count_by-le-length p (range_with_len 0 n), length-range_with_len 0 n)

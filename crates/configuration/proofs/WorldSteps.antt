@@ -15,7 +15,7 @@ use Rattle.std.proofs.Math.Path.{fun_ext}
 use Rattle.topology.specs.At.{at}
 use Rattle.run_model.specs.node_core.State.{LocalState}
 use Rattle.run_model.specs.declared.event.EventFault.{EventFault}
-use Rattle.run_model.specs.declared.event.EventFault.TheVariants.{NoItem, OutOfRange, Stranger}
+use Rattle.run_model.specs.declared.event.EventFault.TheVariants.{NoItem, NoNode, OutOfRange, Stranger}
 use Rattle.run_model.specs.declared.event.Event.{Event}
 use Rattle.run_model.specs.declared.event.Event.TheVariants.{Send, Take, Lose, Tick, Ask, Leave}
 use Rattle.configuration.specs.LinksView.{LinksView, spare_pairs, under_way}
@@ -130,6 +130,9 @@ module _ (w : ConfigurationView) (v p : ℕ) (old : NodeView) (h : IsNodeAt w.li
   state-there : (world_of w).node v ≡ state_of old
   state-there = state-is w.links.net w.nodes v p old h
 
+  node-found : node_fault (world_of w) v ≡ None
+  node-found = unless-holds (nat_lt v w.links.net.nodes) NoNode (let below = h.in_net in grind (arith, common_steps, below))
+
   -- it changes the node as f says
   pub node-done : (e : Event) (f : LocalState → LocalState) (new : NodeView) → refusal (world_of w) e ≡ None
       → changed (world_of w) e ≡ with_node (world_of w) v (f ((world_of w).node v)) → state_of new ≡ f (state_of old)
@@ -145,41 +148,41 @@ module _ (w : ConfigurationView) (v p : ℕ) (old : NodeView) (h : IsNodeAt w.li
       now-world w v p old new h ∙ ap (with_node (world_of w) v) state ∙ unchanged (world_of w) v ∙ sym (step-refused (world_of w) e fault some)
 
   -- what the desk refuses is refused
-  ask-refusal : (t : ℕ) → IsTrue (is_number t) → node_fault (world_of w) v ≡ None → refusal (world_of w) (Ask v t) ≡ desk_fault (ask_fault t (state_of old).desk)
-  ask-refusal t number found =
-      first-none (node_fault (world_of w) v) (first_fault (ticket_fault t) (desk_fault (ask_fault t ((world_of w).node v).desk))) found
+  ask-refusal : (t : ℕ) → IsTrue (is_number t) → refusal (world_of w) (Ask v t) ≡ desk_fault (ask_fault t (state_of old).desk)
+  ask-refusal t number =
+      first-none (node_fault (world_of w) v) (first_fault (ticket_fault t) (desk_fault (ask_fault t ((world_of w).node v).desk))) node-found
       ∙ first-none (ticket_fault t) (desk_fault (ask_fault t ((world_of w).node v).desk)) (unless-holds (is_number t) OutOfRange number)
       ∙ ap (λ s. desk_fault (ask_fault t s.desk)) state-there
 
-  pub ask-refused : (t : ℕ) (cause : AskFault) (fault : EventFault) (new : NodeView) → IsTrue (is_number t) → node_fault (world_of w) v ≡ None
-      → ask_fault t (state_of old).desk ≡ Some cause → desk_fault (Some cause) ≡ Some fault → new ≡ old
+  pub ask-refused : (t : ℕ) (cause : AskFault) (fault : EventFault) (new : NodeView) → IsTrue (is_number t) → ask_fault t (state_of old).desk ≡ Some cause
+      → desk_fault (Some cause) ≡ Some fault → new ≡ old
       → Answers w (Ask v t) (record w { nodes = slice_set w.nodes p new }) (Err fault)
-  ask-refused t cause fault new number found why is same =
-      let some : refusal (world_of w) (Ask v t) ≡ Some fault = ask-refusal t number found ∙ ap desk_fault why ∙ is in
+  ask-refused t cause fault new number why is same =
+      let some : refusal (world_of w) (Ask v t) ≡ Some fault = ask-refusal t number ∙ ap desk_fault why ∙ is in
       refused w (record w { nodes = slice_set w.nodes p new }) (Ask v t) fault some (node-refused (Ask v t) fault new some same)
 
-  pub ask-accepted : (t : ℕ) (new : NodeView) → IsTrue (is_number t) → node_fault (world_of w) v ≡ None → ask_fault t (state_of old).desk ≡ None
+  pub ask-accepted : (t : ℕ) (new : NodeView) → IsTrue (is_number t) → ask_fault t (state_of old).desk ≡ None
       → state_of new ≡ record (state_of old) { desk = asked t (state_of old).desk } → Answers w (Ask v t) (record w { nodes = slice_set w.nodes p new }) (Ok Other)
-  ask-accepted t new number found free is =
-      let none : refusal (world_of w) (Ask v t) ≡ None = ask-refusal t number found ∙ ap desk_fault free in
+  ask-accepted t new number free is =
+      let none : refusal (world_of w) (Ask v t) ≡ None = ask-refusal t number ∙ ap desk_fault free in
       accepted w (record w { nodes = slice_set w.nodes p new }) (Ask v t) Other none
       (node-done (Ask v t) (λ s. record s { desk = asked t s.desk }) new none refl is) refl
 
-  leave-refusal : (t : ℕ) → node_fault (world_of w) v ≡ None → refusal (world_of w) (Leave v t) ≡ unless (not (is_stranger t (state_of old).desk)) Stranger
-  leave-refusal t found =
-      first-none (node_fault (world_of w) v) (unless (not (is_stranger t ((world_of w).node v).desk)) Stranger) found
+  leave-refusal : (t : ℕ) → refusal (world_of w) (Leave v t) ≡ unless (not (is_stranger t (state_of old).desk)) Stranger
+  leave-refusal t =
+      first-none (node_fault (world_of w) v) (unless (not (is_stranger t ((world_of w).node v).desk)) Stranger) node-found
       ∙ ap (λ s. unless (not (is_stranger t s.desk)) Stranger) state-there
 
-  pub leave-refused : (t : ℕ) (new : NodeView) → node_fault (world_of w) v ≡ None → is_stranger t (state_of old).desk ≡ true → new ≡ old
+  pub leave-refused : (t : ℕ) (new : NodeView) → is_stranger t (state_of old).desk ≡ true → new ≡ old
       → Answers w (Leave v t) (record w { nodes = slice_set w.nodes p new }) (Err Stranger)
-  leave-refused t new found stranger same =
-      let some : refusal (world_of w) (Leave v t) ≡ Some Stranger = leave-refusal t found ∙ ap (λ test. unless (not test) Stranger) stranger in
+  leave-refused t new stranger same =
+      let some : refusal (world_of w) (Leave v t) ≡ Some Stranger = leave-refusal t ∙ ap (λ test. unless (not test) Stranger) stranger in
       refused w (record w { nodes = slice_set w.nodes p new }) (Leave v t) Stranger some (node-refused (Leave v t) Stranger new some same)
 
-  pub leave-accepted : (t : ℕ) (new : NodeView) → node_fault (world_of w) v ≡ None → is_stranger t (state_of old).desk ≡ false
+  pub leave-accepted : (t : ℕ) (new : NodeView) → is_stranger t (state_of old).desk ≡ false
       → state_of new ≡ record (state_of old) { desk = after_leave t (state_of old).desk } → Answers w (Leave v t) (record w { nodes = slice_set w.nodes p new }) (Ok Other)
-  leave-accepted t new found known is =
-      let none : refusal (world_of w) (Leave v t) ≡ None = leave-refusal t found ∙ ap (λ test. unless (not test) Stranger) known in
+  leave-accepted t new known is =
+      let none : refusal (world_of w) (Leave v t) ≡ None = leave-refusal t ∙ ap (λ test. unless (not test) Stranger) known in
       accepted w (record w { nodes = slice_set w.nodes p new }) (Leave v t) Other none
       (node-done (Leave v t) (λ s. record s { desk = after_leave t s.desk }) new none refl is) refl
 

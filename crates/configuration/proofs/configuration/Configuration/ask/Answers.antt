@@ -9,13 +9,10 @@ invariant_of-self-2 g c =
 
 pub returns-in-Err : goal.returns-in-Err
 returns-in-Err g c =
-    let ok = rw (← c.self.view_is) at c.in_ok-place.ensures.ok in
-    let here = found-there c.self.view_is c.self.invariant c.in_ok-place.ensures.ok c.index_mut.ensures.value in
-    rw (← c.self.view_is) (ask-refused _ _ _ _ here c.args.ticket c.in-Err.fault c.desk_fault.result c.ask.new.self (search rules) ok.2
-    c.in-Err.ensures.refused c.desk_fault.ensures c.in-Err.ensures.unchanged)
+    rw (← c.self.view_is) (ask-refused _ _ _ _ (found-there c.self.view_is c.self.invariant c.in_ok-place.ensures.ok c.index_mut.ensures.value) c.args.ticket c.in-Err.fault
+    c.desk_fault.result c.ask.new.self (search rules) c.in-Err.ensures.refused c.desk_fault.ensures c.in-Err.ensures.unchanged)
 
 pub returns : goal.returns
 returns g c =
-    let ok = rw (← c.self.view_is) at c.in_ok-place.ensures.ok in
-    let here = found-there c.self.view_is c.self.invariant c.in_ok-place.ensures.ok c.index_mut.ensures.value in
-    rw (← c.self.view_is) (ask-accepted _ _ _ _ here c.args.ticket c.ask.new.self (search rules) ok.2 c.in_default.ensures.accepted c.in_default.ensures.asked)
+    rw (← c.self.view_is) (ask-accepted _ _ _ _ (found-there c.self.view_is c.self.invariant c.in_ok-place.ensures.ok c.index_mut.ensures.value) c.args.ticket
+    c.ask.new.self (search rules) c.in_default.ensures.accepted c.in_default.ensures.asked)

@@ -8,12 +8,10 @@ invariant_of-self-2 g c =
 
 pub returns-in-Err : goal.returns-in-Err
 returns-in-Err g c =
-    let ok = rw (← c.self.view_is) at c.in_ok-place.ensures.ok in
-    let here = found-there c.self.view_is c.self.invariant c.in_ok-place.ensures.ok c.index_mut.ensures.value in
-    rw (← c.self.view_is) (leave-refused _ _ _ _ here c.args.ticket c.leave.new.self ok.2 c.in-Err.ensures.refused c.in-Err.ensures.unchanged)
+    rw (← c.self.view_is) (leave-refused _ _ _ _ (found-there c.self.view_is c.self.invariant c.in_ok-place.ensures.ok c.index_mut.ensures.value) c.args.ticket c.leave.new.self
+    c.in-Err.ensures.refused c.in-Err.ensures.unchanged)
 
 pub returns : goal.returns
 returns g c =
-    let ok = rw (← c.self.view_is) at c.in_ok-place.ensures.ok in
-    let here = found-there c.self.view_is c.self.invariant c.in_ok-place.ensures.ok c.index_mut.ensures.value in
-    rw (← c.self.view_is) (leave-accepted _ _ _ _ here c.args.ticket c.leave.new.self ok.2 c.in_default.ensures.known c.in_default.ensures.left)
+    rw (← c.self.view_is) (leave-accepted _ _ _ _ (found-there c.self.view_is c.self.invariant c.in_ok-place.ensures.ok c.index_mut.ensures.value) c.args.ticket c.leave.new.self
+    c.in_default.ensures.known c.in_default.ensures.left)

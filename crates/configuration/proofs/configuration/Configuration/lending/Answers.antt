@@ -1,4 +1,4 @@
-use Rattle.std.proofs.Common.{rules, ◌≡◌, ◌∙◌, ◌≤◌, ◌+◌, ap, sym, subst, is_some}
+use Rattle.std.proofs.Common.{rules, ◌≡◌, ◌∙◌, ◌+◌, ap, sym, is_some}
 use Rattle.run_model.specs.Privilege.{is_lending}
 use Rattle.configuration.specs.ConfigurationView.{world_of}
 use Rattle.configuration.proofs.NodeCounts.{count-yes, count-no, count-most}
@@ -6,9 +6,7 @@ use Rattle.configuration.proofs.configuration.Configuration.lending.Goals as goa
 use Rattle.configuration.proofs.configuration.Configuration.lending.Goals.{then-is_some, else-is_some}
 
 pub overflow_add-count : goal.overflow_add-count
-overflow_add-count g c =
-    let most : c.loop-v.count ≤ c.loop-v.v = subst (λ n. n ≤ c.loop-v.v) (sym c.loop-v.invariant) (count-most (is_lending (world_of c.args.self.now)) c.loop-v.v) in
-    search (rules, most)
+overflow_add-count g c = let most = count-most (is_lending (world_of c.args.self.now)) c.loop-v.v c.loop-v.invariant in search (rules, most)
 
 pub loop-v-preserved : goal.loop-v-preserved
 loop-v-preserved g c =

@@ -1,4 +1,4 @@
-use Rattle.std.proofs.Common.{rules, ◌≡◌, ◌∙◌, ◌≤◌, ◌+◌, ap, sym, subst}
+use Rattle.std.proofs.Common.{rules, ◌≡◌, ◌∙◌, ◌+◌, ap, sym}
 use Rattle.run_model.specs.node_core.Machines.{is_node_privileged}
 use Rattle.run_model.specs.node_core.View.{site_in}
 use Rattle.run_model.specs.Privilege.{is_privileged}
@@ -8,9 +8,7 @@ use Rattle.configuration.proofs.configuration.Configuration.privileged.Goals as 
 use Rattle.configuration.proofs.configuration.Configuration.privileged.Goals.{then-privileged, else-privileged}
 
 pub overflow_add-count : goal.overflow_add-count
-overflow_add-count g c =
-    let most : c.loop-v.count ≤ c.loop-v.v = subst (λ n. n ≤ c.loop-v.v) (sym c.loop-v.invariant) (count-most (is_privileged (world_of c.args.self.now)) c.loop-v.v) in
-    search (rules, most)
+overflow_add-count g c = let most = count-most (is_privileged (world_of c.args.self.now)) c.loop-v.v c.loop-v.invariant in search (rules, most)
 
 pub loop-v-preserved : goal.loop-v-preserved
 loop-v-preserved g c =
