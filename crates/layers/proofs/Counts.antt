@@ -64,13 +64,9 @@ all-join : {X : Type 0} (P : X → Type 0) (xs ys : List X) → AllByRecursion P
 all-join P [] ys a b = b
 all-join P (x ∷ xs) ys a b = (a.0, all-join P xs ys a.1 b)
 
-all-front : {X : Type 0} (P : X → Type 0) (xs ys : List X) → AllByRecursion P (xs ++ ys) → AllByRecursion P xs
-all-front P [] ys a = tt
-all-front P (x ∷ xs) ys a = (a.0, all-front P xs ys a.1)
-
-all-back : {X : Type 0} (P : X → Type 0) (xs ys : List X) → AllByRecursion P (xs ++ ys) → AllByRecursion P ys
-all-back P [] ys a = a
-all-back P (x ∷ xs) ys a = all-back P xs ys a.1
+all-parts : {X : Type 0} (P : X → Type 0) (xs ys : List X) → AllByRecursion P (xs ++ ys) → AllByRecursion P xs × AllByRecursion P ys
+all-parts P [] ys a = (tt, a)
+all-parts P (x ∷ xs) ys a = let parts = all-parts P xs ys a.1 in ((a.0, parts.0), parts.1)
 
 flat-all : {X Y : Type 0} (P : Y → Type 0) (f : X → List Y) (xs : List X) → AllByRecursion (λ x. AllByRecursion P (f x)) xs → AllByRecursion P (flat_map f xs)
 flat-all P f [] a = tt
@@ -78,7 +74,7 @@ flat-all P f (x ∷ xs) a = all-join P (f x) (flat_map f xs) a.0 (flat-all P f x
 
 all-flat : {X Y : Type 0} (P : Y → Type 0) (f : X → List Y) (xs : List X) → AllByRecursion P (flat_map f xs) → AllByRecursion (λ x. AllByRecursion P (f x)) xs
 all-flat P f [] a = tt
-all-flat P f (x ∷ xs) a = (all-front P (f x) (flat_map f xs) a, all-flat P f xs (all-back P (f x) (flat_map f xs) a))
+all-flat P f (x ∷ xs) a = let parts = all-parts P (f x) (flat_map f xs) a in (parts.0, all-flat P f xs parts.1)
 
 map-all : {X Y : Type 0} (P : Y → Type 0) (f : X → Y) (xs : List X) → AllByRecursion (λ x. P (f x)) xs → AllByRecursion P (map f xs)
 map-all P f [] a = tt

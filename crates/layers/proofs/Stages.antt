@@ -1,9 +1,9 @@
 -- The tree node by node and neighbour by neighbour, and its stages.
-use Rattle.std.proofs.Common.{◌≡◌, subst, ℕ, ◌+◌, ◌<◌, ◌≤◌, IsTrue, List, Contains, length, take, get_or, arith}
+use Rattle.std.proofs.Common.{◌≡◌, ◌∙◌, ◌↔◌, ap, sym, refl, subst, ℕ, ◌+◌, ◌<◌, ◌≤◌, Bool, true, false, IsTrue, List, length, take, get_or, arith}
 use Rattle.std.specs.List.{All}
 use Rattle.std.proofs.lemmas.Bool.Decides.{nat_tests}
 use Rattle.std.proofs.lemmas.Grind.{common_steps}
-use Rattle.std.proofs.lemmas.List.Elements.{All-contains, Contains-get_or}
+use Rattle.std.proofs.lemmas.List.Elements.{All-contains, All-more, Contains-get_or}
 use Rattle.topology.specs.Network.{Network, IsAcceptedNetwork, are_joined, neighbours_of}
 use Rattle.topology.specs.Laws.{NeighboursAreJoined, JoinedAreNodes}
 use Rattle.topology.specs.Tree.{distance_of}
@@ -18,19 +18,39 @@ use Rattle.layers.specs.Stages.{IsNodeAtStage, AreLinksAtStage, IsStageOf, IsNod
 whole : (i : ℕ) (xs : List ℕ) → length xs ≤ i → take i xs ≡ xs
 whole i xs end = grind (arith, common_steps)
 
--- what holds of the first neighbours holds of each, if these are all
-pub each-joined : NeighboursAreJoined → JoinedAreNodes → (net : Network) → IsAcceptedNetwork net → (v i : ℕ) (P : ℕ → Type 0)
-    → length (neighbours_of net v) ≤ i → All P (take i (neighbours_of net v)) → (u : ℕ) → IsTrue (are_joined net.edges v u) → P u
-each-joined joined ends net accepted v i P end all u are =
-    let near = neighbours_of net v in
-    let has : Contains near u = (joined net v u).1 ((ends net v u accepted are).1, are) in
-    All-contains P near u (subst (λ xs. All P xs) (whole i near end) all) has
+-- a loop goes through the neighbours of v, which it has read from a network that is `net`
+module _ {items : List ℕ} {seen net : Network} (v : ℕ) (same : seen ≡ net) (read : items ≡ neighbours_of seen v) where
+  are : items ≡ neighbours_of net v
+  are = read ∙ ap (λ n. neighbours_of n v) same
 
--- a neighbour at a place is joined
-pub joined-there : NeighboursAreJoined → (net : Network) (v i : ℕ) → i < length (neighbours_of net v)
-    → (get_or (neighbours_of net v) i 0 < net.nodes) × IsTrue (are_joined net.edges v (get_or (neighbours_of net v) i 0))
-joined-there joined net v i within =
-    (joined net v (get_or (neighbours_of net v) i 0)).0 (Contains-get_or (neighbours_of net v) i 0 within)
+  module _ (joined : NeighboursAreJoined) {i : ℕ} (within : i < length items) where
+    there : i < length (neighbours_of net v)
+    there = rw are at within
+
+    joined-there : (get_or items i 0 < net.nodes) × IsTrue (are_joined net.edges v (get_or items i 0))
+    joined-there = rw are ((joined net v (get_or (neighbours_of net v) i 0)).0 (Contains-get_or (neighbours_of net v) i 0 there))
+
+    -- the neighbour that it is at is a node
+    pub neighbour-in : get_or items i 0 < net.nodes
+    neighbour-in = joined-there.0
+
+    module _ (P : ℕ → Type 0) {holds : Bool} (decides : IsTrue holds ↔ P (get_or items i 0)) where
+      -- what fails of that one does not hold of each
+      pub one-fails : holds ≡ false → IsTrue false ↔ ((u : ℕ) → IsTrue (are_joined net.edges v u) → P u)
+      one-fails fails = (λ wrong. absurd cc, λ each. let clash = sym (decides.1 (each (get_or items i 0) joined-there.1)) ∙ fails in absurd cc)
+
+      -- what holds of that one, too, holds of one more
+      pub one-more : IsTrue holds → All P (take i (neighbours_of net v)) → All P (take (i + 1) (neighbours_of net v))
+      one-more is before = All-more P (neighbours_of net v) i 0 there before (subst (λ xs. P (get_or xs i 0)) are (decides.0 is))
+
+  -- what holds of the first neighbours holds of each, if these are all
+  pub each-joined : NeighboursAreJoined → JoinedAreNodes → IsAcceptedNetwork seen → (P : ℕ → Type 0) {i : ℕ} → length items ≤ i
+      → All P (take i (neighbours_of net v)) → IsTrue true ↔ ((u : ℕ) → IsTrue (are_joined net.edges v u) → P u)
+  each-joined joined ends accepted P {i} end all =
+      let near = neighbours_of net v in
+      let known : IsAcceptedNetwork net = subst (λ n. IsAcceptedNetwork n) same accepted in
+      let all-near : All P near = subst (λ xs. All P xs) (whole i near (omega (arith, end, ap length are))) all in
+      (λ holds u joins. All-contains P near u all-near ((joined net v u).1 ((ends net v u known joins).1, joins)), λ each. refl)
 
 -- ---- node by node
 
