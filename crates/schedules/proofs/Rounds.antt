@@ -6,7 +6,6 @@ use Rattle.std.proofs.lemmas.List.{append-nil}
 use Rattle.std.specs.Prelude.{◌⊎◌, ◌==◌, is_none}
 use Rattle.std.specs.List.{flat_map, range_with_len}
 use Rattle.topology.specs.Network.{Network}
-use Rattle.topology.specs.Laws.{JoinedAreNodes}
 use Rattle.lock_desk.specs.Desk.{DeskState, desk_ticked}
 use Rattle.configuration.specs.node_core.Site.{Site, site_of}
 use Rattle.configuration.specs.node_core.State.{LocalState}
@@ -17,25 +16,14 @@ use Rattle.configuration.specs.run_model.Step.{step}
 use Rattle.configuration.specs.run_model.Run.{run, IsUndamaged}
 use Rattle.configuration.specs.run_model.Sweep.{IsSweep, Sweeps}
 use Rattle.configuration.specs.run_model.Strict.{IsStrictSweep, StrictSweeps}
-use Rattle.configuration.specs.run_model.Ticks.{TicksAreAccepted}
-use Rattle.configuration.specs.run_model.Laws.{NetworkStays, OwnNodeAlone, RangesStay, StrictSweepsAreSweeps, SweepGrows}
 use Rattle.configuration.specs.run_model.declared.event.Event.{Event}
 use Rattle.configuration.specs.run_model.declared.event.Event.TheVariants.{Send, Take, Lose, Tick, Ask, Leave, Damage}
 use Rattle.schedules.specs.Rounds.{exchanges_from, round, rounds}
+use Rattle.schedules.specs.Below.{Below}
 use Rattle.schedules.specs.Laws.{AreTicksFull, AreTicksFullFor, IsIdle}
 use Rattle.schedules.proofs.Plain.{IsLink, IsPlain, ArePlain, plain-net, plain-step, plain-undamaged, plain-round, plain-all-ticks}
 use Rattle.schedules.proofs.Exchanges.{handed-append, all-hand}
 use Rattle.schedules.proofs.Ticks.{ticked-front, ticks-full, tick-is}
-
--- the laws of networks and runs that this rests on
-pub record Known : Type 0 where
-  pub nodes : JoinedAreNodes
-  pub network : NetworkStays
-  pub own : OwnNodeAlone
-  pub accepted : TicksAreAccepted
-  pub ranges : RangesStay
-  pub strict : StrictSweepsAreSweeps
-  pub grows : SweepGrows
 
 -- the desk has no client
 abbrev pub HasNoClient : DeskState → Type 0
@@ -57,7 +45,7 @@ take-desk w a b v = grind (arith, common_steps)
 same-or-not : (a v : ℕ) → (a ≡ v) ⊎ ((a == v) ≡ false)
 same-or-not a v = grind (arith, nat_tests)
 
-module _ (known : Known) where
+module _ (known : Below) where
   round-strict : (w : World) → IsWorldInRange w → AreTicksFull w → IsStrictSweep w (round w.net)
   round-strict w ok full =
       let net = w.net in

@@ -14,7 +14,8 @@ use Rattle.schedules.specs.Rounds.{round}
 use Rattle.schedules.specs.Slow.{has_part, is_part, others, parts, slow_round, slow_rounds}
 use Rattle.schedules.specs.declared.slow.Slow.{Slow}
 use Rattle.schedules.proofs.Plain.{IsPlain, ArePlain, plain-append, plain-net, plain-undamaged, plain-round}
-use Rattle.schedules.proofs.Rounds.{Known, IsIdleOn, idle-full, round-sweeps, run-idle}
+use Rattle.schedules.specs.Below.{Below}
+use Rattle.schedules.proofs.Rounds.{IsIdleOn, idle-full, round-sweeps, run-idle}
 
 -- ---- the events are ticks, sends and takes
 
@@ -83,7 +84,7 @@ all-held share n below =
 
 -- ---- sweeps
 
-module _ (known : Known) (net : Network) where
+module _ (known : Below) (net : Network) where
   -- events in front of sweeps are part of the first of them
   sweeps-later : (w : World) (r : ℕ) (front back : List Event) → IsWorldInRange w → ArePlain net front → ArePlain net back
       → Sweeps (run w front) r back → Sweeps w r (front ++ back)
@@ -120,7 +121,7 @@ module _ (known : Known) (net : Network) where
       (held-sweeps (run w es) slow share (i + 1) n (plain-net known.network net w es same plain) (known.ranges w es ok)
       (run-idle known net w es same plain idle))
 
-pub slow-sweeps : Known → (w : World) (slow : Slow) (share n : ℕ) → share ≤ 100 → IsWorldInRange w → IsIdle w
+pub slow-sweeps : Below → (w : World) (slow : Slow) (share n : ℕ) → share ≤ 100 → IsWorldInRange w → IsIdle w
     → Sweeps w (parts share n) (slow_rounds w.net slow share 0 n)
 slow-sweeps known w slow share n below ok idle =
     subst (λ r. Sweeps w r (slow_rounds w.net slow share 0 n)) (all-held share n below)

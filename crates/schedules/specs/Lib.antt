@@ -3,4 +3,5 @@ pub mod Rounds
 pub mod Random
 pub mod Slow
 pub mod Taking
+pub mod Below
 pub mod Laws

@@ -1,4 +1,5 @@
 //! What holds of schedules: each law is the contract of a function that does nothing.
+ghost use Rattle.schedules.specs.Below.{Below};
 ghost use Rattle.schedules.specs.Laws.{RoundIsSweep, RoundsAreSweeps, IdleRoundsAreSweeps};
 ghost use Rattle.schedules.specs.Laws.{RoundsAreAccepted, RoundIsUndamaged, HasEdge};
 ghost use Rattle.schedules.specs.Laws.{IdleSlowRoundsHoldSweeps, SlowRoundIsUndamaged};
@@ -6,6 +7,19 @@ ghost use Rattle.schedules.specs.Taking.{TakesOn};
 
 use crate::event_sink::EventSink;
 pub use damage_tool::laws::{draws, scramble};
+
+/// The laws of networks and of runs that the laws of rounds rest on.
+fn below()
+    ensures { Below }
+{
+    topology::laws::joined();
+    configuration::laws::runs();
+    configuration::laws::own_changes();
+    configuration::laws::ticks();
+    configuration::laws::in_range();
+    configuration::laws::strict_sweeps();
+    configuration::laws::sweep_numbers();
+}
 
 /// A round is a sweep in every world in which each tick is full, and n rounds are n sweeps if
 /// that holds at the start of each; in a network without clients it always does. Whoever asks how
@@ -15,13 +29,7 @@ pub fn rounds()
     ensures sweeps { RoundsAreSweeps }
     ensures idle { IdleRoundsAreSweeps }
 {
-    topology::laws::joined();
-    configuration::laws::runs();
-    configuration::laws::own_changes();
-    configuration::laws::ticks();
-    configuration::laws::in_range();
-    configuration::laws::strict_sweeps();
-    configuration::laws::sweep_numbers();
+    below();
 }
 
 /// No event of a round is refused, and none is damage, in whatever state the world is.
@@ -39,13 +47,7 @@ pub fn slow_rounds()
     ensures undamaged { SlowRoundIsUndamaged }
     ensures sweeps { IdleSlowRoundsHoldSweeps }
 {
-    topology::laws::joined();
-    configuration::laws::runs();
-    configuration::laws::own_changes();
-    configuration::laws::ticks();
-    configuration::laws::in_range();
-    configuration::laws::strict_sweeps();
-    configuration::laws::sweep_numbers();
+    below();
 }
 
 /// An accepted network has an edge. Whoever draws one needs it.
