@@ -1,7 +1,23 @@
-//! Heaps that refuse every growth.
+//! Heaps of any size, and heaps that refuse every growth.
 use linked_list_allocator::LocalHeap;
 use std::alloc::Global;
 use std::test::Fail;
+
+/// Does something on a heap of this many bytes. Returns the result, and how many bytes stay taken.
+///
+/// # Errors
+/// If `alloc` refuses memory for the heap; what failed on the way.
+pub fn on_heap<T, F: FnOnce(Global, &LocalHeap) -> Result<T, Fail>>(
+    alloc: Global,
+    bytes: usize,
+    deed: F,
+) -> Result<(T, usize), Fail>
+    requires { F.IsAlwaysCallable deed }
+{
+    let heap = LocalHeap::new(alloc, bytes)?;
+    let found = deed(alloc, &heap)?;
+    Ok((found, heap.used()))
+}
 
 /// Takes all that a heap has left, so that it refuses every growth until the result is dropped.
 ///

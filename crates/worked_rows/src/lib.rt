@@ -8,22 +8,4 @@
 #![tactic(auto)]
 
 #[cfg(test)]
-mod bfs_tree_rows;
-#[cfg(test)]
-mod data_link_rows;
-#[cfg(test)]
-mod euler_ring_rows;
-#[cfg(test)]
-mod frame_codec_rows;
-#[cfg(test)]
-mod least_heap;
-#[cfg(test)]
-mod link_model_rows;
-#[cfg(test)]
-mod lock_desk_rows;
-#[cfg(test)]
-mod node_core_rows;
-#[cfg(test)]
-mod registers_rows;
-#[cfg(test)]
-mod topology_rows;
+mod tests;

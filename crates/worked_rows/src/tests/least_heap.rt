@@ -2,19 +2,7 @@
 use linked_list_allocator::LocalHeap;
 use std::alloc::Global;
 use std::test::Fail;
-
-/// The answer of a deed on a heap of this size in bytes, and how much stays taken.
-fn on_heap<F: Fn(&LocalHeap) -> Result<Option<bool>, Fail>>(
-    alloc: Global,
-    bytes: usize,
-    deed: &F,
-) -> Result<(Option<bool>, usize), Fail>
-    requires { F.IsAlwaysCallable deed.now }
-{
-    let heap = LocalHeap::new(alloc, bytes)?;
-    let found = deed(&heap)?;
-    Ok((found, heap.used()))
-}
+use test_parts::on_heap;
 
 /// The size, in units of 16 bytes, of the smallest heap that does not refuse a deed, and whether
 /// the deed was right there and every heap so far was freed; 0 if all below 200 refuse it.
@@ -25,7 +13,7 @@ pub fn least_heap<F: Fn(&LocalHeap) -> Result<Option<bool>, Fail>>(
     requires { F.IsAlwaysCallable deed }
 {
     for units in 1..200usize {
-        match on_heap(alloc, units * 16, &deed)? {
+        match on_heap(alloc, units * 16, |_, heap| deed(heap))? {
             (None, 0) => {}
             (found, used) => return Ok((units, found == Some(true) && used == 0)),
         }

@@ -1,5 +1,5 @@
 //! A link that fills, loses and empties; and with memory refused.
-use crate::least_heap::least_heap;
+use super::least_heap::least_heap;
 use link_model::{Frame, Full, Item, Link, NoItem, Payload};
 use linked_list_allocator::LocalHeap;
 use std::alloc::{Allocator, Global};

@@ -1,10 +1,10 @@
 //! All ports of a node in one table; and with memory refused.
-use crate::least_heap::least_heap;
+use super::least_heap::least_heap;
 use linked_list_allocator::LocalHeap;
 use registers::{Heard, OutOfRange, Registers};
 use std::alloc::{Allocator, Global};
 use std::test::Fail;
-use test_parts::{as_expected, is_expected, on_full};
+use test_parts::{as_expected, on_full, on_heap};
 use topology::{Frame, Net, NetFault, Payload};
 
 /// Writes both numbers of a neighbour; any other node is refused.
@@ -152,18 +152,17 @@ fn used<A: Allocator + Copy>(alloc: A, net: &Net) -> Option<bool> {
     }
 }
 
-/// The size of the smallest heap, in units of 16 bytes, with room for them; and whether they are
+/// Whether the smallest heap with room for them has more than three units of 16 bytes, and they are
 /// written there, and with enough memory.
-fn least_used(alloc: Global) -> Result<(usize, bool), Fail> {
+fn are_used_on_the_least(alloc: Global) -> Result<bool, Fail> {
     let net = square(alloc)?;
     let (units, is_so) = least_heap(alloc, |heap| Ok(used(heap, &net)))?;
-    Ok((units, is_so && used(alloc, &net) == Some(true)))
+    Ok(is_so && units > 3 && used(alloc, &net) == Some(true))
 }
 
 #[test]
 fn each_growth_of_new_may_be_refused(rt: HostRuntime) -> Result<(), Fail> {
-    let (units, is_so) = least_used(rt.alloc())?;
-    is_expected(&(is_so && units > 3), &true)
+    as_expected(are_used_on_the_least(rt.alloc()), &true)
 }
 
 /// Whether they are written on a heap with nothing left, and how much was left.
@@ -172,13 +171,7 @@ fn written_on_full(alloc: Global, heap: &LocalHeap) -> Result<(bool, usize), Fai
     on_full(alloc, heap, || are_written(&mut registers))
 }
 
-/// Whether they are written without memory, and how much there was.
-fn written_without_memory(alloc: Global) -> Result<(bool, usize), Fail> {
-    let heap = LocalHeap::new(alloc, 4096)?;
-    written_on_full(alloc, &heap)
-}
-
 #[test]
 fn registers_take_no_memory(rt: HostRuntime) -> Result<(), Fail> {
-    as_expected(written_without_memory(rt.alloc()), &(true, 0))
+    as_expected(on_heap(rt.alloc(), 4096, written_on_full), &((true, 0), 0))
 }

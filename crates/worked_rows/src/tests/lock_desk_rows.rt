@@ -1,11 +1,11 @@
 //! A desk from its first ticket to its last; with memory refused; and client lines in pieces of
 //! any size.
-use crate::least_heap::least_heap;
+use super::least_heap::least_heap;
 use linked_list_allocator::LocalHeap;
 use lock_desk::{AskFault, ClientLine, ClientReader, Desk, DeskAct, OutOfRange, Stranger};
 use std::alloc::{Allocator, Global};
 use std::test::Fail;
-use test_parts::{as_expected, is_expected, on_full};
+use test_parts::{as_expected, is_expected, on_full, on_heap};
 
 /// What is done to a desk, and what it answers.
 #[derive(Clone, Copy)]
@@ -236,29 +236,16 @@ const WITHOUT_MEMORY: [Deed<'static>; 12] = [
 
 /// The place of the first deed that a desk answers otherwise on a heap with nothing left, and how
 /// much was left.
-fn first_wrong_on_full(
-    alloc: Global,
-    heap: &LocalHeap,
-    deeds: &[Deed<'_>],
-) -> Result<(Option<usize>, usize), Fail> {
+fn first_wrong_on_full(alloc: Global, heap: &LocalHeap) -> Result<(Option<usize>, usize), Fail> {
     let mut desk = Desk::new(heap, 2)?;
-    on_full(alloc, heap, || first_wrong(&mut desk, deeds))
-}
-
-/// The same, on a heap of this size with nothing else on it.
-fn first_wrong_without_memory(
-    alloc: Global,
-    deeds: &[Deed<'_>],
-) -> Result<(Option<usize>, usize), Fail> {
-    let heap = LocalHeap::new(alloc, 4096)?;
-    first_wrong_on_full(alloc, &heap, deeds)
+    on_full(alloc, heap, || first_wrong(&mut desk, &WITHOUT_MEMORY))
 }
 
 #[test]
 fn a_desk_takes_no_memory(rt: HostRuntime) -> Result<(), Fail> {
     as_expected(
-        first_wrong_without_memory(rt.alloc(), &WITHOUT_MEMORY),
-        &(None, 0),
+        on_heap(rt.alloc(), 4096, first_wrong_on_full),
+        &((None, 0), 0),
     )
 }
 

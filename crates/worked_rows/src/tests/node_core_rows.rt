@@ -1,10 +1,10 @@
 //! One node, and two that hear each other, event by event.
-use crate::least_heap::least_heap;
+use super::least_heap::least_heap;
 use linked_list_allocator::LocalHeap;
 use node_core::{AskFault, DeskAct, Item, Node, OutOfRange, Payload, Stranger, Ticked};
 use std::alloc::{Allocator, Global};
 use std::test::Fail;
-use test_parts::{as_expected, is_expected, on_full};
+use test_parts::{as_expected, on_full, on_heap};
 use topology::{Net, NetFault};
 
 /// Two nodes, 0 the root, capacity 1.
@@ -303,38 +303,24 @@ fn used<A: Allocator + Copy>(alloc: A, net: &Net) -> Option<bool> {
     }
 }
 
-/// The size of the smallest heap, in units of 16 bytes, with room for a node; and whether the node
+/// Whether the smallest heap with room for a node has more than eight units of 16 bytes, and the node
 /// does so there, and with enough memory.
-fn least_used(alloc: Global) -> Result<(usize, bool), Fail> {
+fn is_used_on_the_least(alloc: Global) -> Result<bool, Fail> {
     let net = net_of_two(alloc, 0)?;
     let (units, is_so) = least_heap(alloc, |heap| Ok(used(heap, &net)))?;
-    Ok((units, is_so && used(alloc, &net) == Some(true)))
+    Ok(is_so && units > 8 && used(alloc, &net) == Some(true))
 }
 
 #[test]
 fn each_growth_of_new_may_be_refused(rt: HostRuntime) -> Result<(), Fail> {
-    let (units, is_so) = least_used(rt.alloc())?;
-    is_expected(&(is_so && units > 8), &true)
+    as_expected(is_used_on_the_least(rt.alloc()), &true)
 }
 
 /// The place of the first deed that two nodes answer otherwise on a heap with nothing left, and
 /// how much was left.
-fn first_wrong_on_full(
-    alloc: Global,
-    heap: &LocalHeap,
-    deeds: &[Deed<'_>],
-) -> Result<(Option<usize>, usize), Fail> {
+fn first_wrong_on_full(alloc: Global, heap: &LocalHeap) -> Result<(Option<usize>, usize), Fail> {
     let mut nodes = both(alloc, 0, heap)?;
-    on_full(alloc, heap, || first_wrong(&mut nodes, deeds))
-}
-
-/// The same, on its own heap.
-fn first_wrong_without_memory(
-    alloc: Global,
-    deeds: &[Deed<'_>],
-) -> Result<(Option<usize>, usize), Fail> {
-    let heap = LocalHeap::new(alloc, 8192)?;
-    first_wrong_on_full(alloc, &heap, deeds)
+    on_full(alloc, heap, || first_wrong(&mut nodes, &WITHOUT_MEMORY))
 }
 
 /// The near one's queue is full, and then each kind of deed is done.
@@ -357,7 +343,7 @@ const WITHOUT_MEMORY: [Deed<'static>; 13] = [
 #[test]
 fn nodes_take_no_memory(rt: HostRuntime) -> Result<(), Fail> {
     as_expected(
-        first_wrong_without_memory(rt.alloc(), &WITHOUT_MEMORY),
-        &(None, 0),
+        on_heap(rt.alloc(), 8192, first_wrong_on_full),
+        &((None, 0), 0),
     )
 }
