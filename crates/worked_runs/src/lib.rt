@@ -9,18 +9,4 @@
 #![tactic(auto)]
 
 #[cfg(test)]
-mod events;
-#[cfg(test)]
-mod judged;
-#[cfg(test)]
-mod no_memory;
-#[cfg(test)]
-mod recorded;
-#[cfg(test)]
-mod simulated;
-#[cfg(test)]
-mod texts;
-#[cfg(test)]
-mod worlds;
-#[cfg(test)]
-mod woven;
+mod tests;

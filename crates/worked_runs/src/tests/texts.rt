@@ -19,6 +19,21 @@ harm desk 0 5 0 no
 harm desk 1 6 0 no
 ";
 
+/// How two nodes start.
+pub const TWO_AT_START: &str = "\
+node 0 distance 2 parent none token no lent none waiting 0
+node 1 distance 2 parent none token no lent none waiting 0
+";
+
+/// What is shown after two nodes if nothing is on their links, no node is privileged, and no sweep has
+/// passed.
+pub const TWO_AT_REST: &str = "\
+link 0 1 items 0
+link 1 0 items 0
+privileged 0 lending 0
+sweeps 0 of 69
+";
+
 /// How the nodes of the square start.
 pub const SQUARE_AT_START: &str = "\
 node 0 distance 4 parent none token no lent none waiting 0
@@ -26,6 +41,15 @@ node 1 distance 4 parent none token no lent none waiting 0
 node 2 distance 4 parent none token no lent none waiting 0
 node 3 distance 4 parent none token no lent none waiting 0
 ";
+
+/// These texts, one after the other.
+pub fn joined(alloc: Global, texts: &[&str]) -> Result<String, AllocError> {
+    let mut all = String::new(alloc);
+    for text in texts {
+        all.push_str(text)?;
+    }
+    Ok(all)
+}
 
 /// One round of a network: each node ticks, and then each sends to each neighbour, which takes, so
 /// often that one more item goes over than the link holds.

@@ -1,12 +1,12 @@
 //! Edges that join and go, and the text of a world, on a heap without a free byte: they take no
 //! memory.
-use crate::texts::SQUARE_AT_START;
-use crate::worlds::{event_of, first_unlike, square};
+use super::texts::SQUARE_AT_START;
+use super::worlds::{event_of, first_unlike, square};
 use linked_list_allocator::LocalHeap;
 use run_model::EventFault;
 use std::alloc::{Allocator, Global};
 use std::test::Fail;
-use test_parts::{as_expected, on_full};
+use test_parts::{as_expected, on_full, on_heap};
 use world::simulation::{SimFault, state_text};
 use world::streams::MemorySink;
 use world::{Judge, World};
@@ -100,15 +100,9 @@ fn shown_on_full(alloc: Global, heap: &LocalHeap) -> Result<(bool, usize), Fail>
     )
 }
 
-/// The same for its own heap.
-fn shown_without_memory(alloc: Global) -> Result<(bool, usize), Fail> {
-    let heap = LocalHeap::new(alloc, 65536)?;
-    shown_on_full(alloc, &heap)
-}
-
 #[test]
 fn a_world_changes_its_edges_and_is_shown_without_memory(rt: HostRuntime) -> Result<(), Fail> {
-    as_expected(shown_without_memory(rt.alloc()), &(true, 0))
+    as_expected(on_heap(rt.alloc(), 65536, shown_on_full), &((true, 0), 0))
 }
 
 /// The same for a judge of a world on a heap, and how much the heap had left.
@@ -117,14 +111,7 @@ fn judged_on_full(alloc: Global, heap: &LocalHeap) -> Result<(bool, usize), Fail
     on_full(alloc, heap, || all_judged(world))
 }
 
-/// The same for its own heap, and how much of it stays taken.
-fn judged_without_memory(alloc: Global) -> Result<((bool, usize), usize), Fail> {
-    let heap = LocalHeap::new(alloc, 65536)?;
-    let found = judged_on_full(alloc, &heap)?;
-    Ok((found, heap.used()))
-}
-
 #[test]
 fn a_judge_sees_edges_change_without_memory(rt: HostRuntime) -> Result<(), Fail> {
-    as_expected(judged_without_memory(rt.alloc()), &((true, 0), 0))
+    as_expected(on_heap(rt.alloc(), 65536, judged_on_full), &((true, 0), 0))
 }

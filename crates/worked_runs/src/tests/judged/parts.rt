@@ -1,9 +1,9 @@
 //! A world that was taken apart and put together goes on as if it had not been.
 use super::*;
-use crate::worlds::said;
+use crate::tests::worlds::said;
 use linked_list_allocator::LocalHeap;
 use std::test::Fail;
-use test_parts::{as_expected, on_full};
+use test_parts::{as_expected, on_full, on_heap};
 
 /// The distance and parent of the far one of two nodes, and whether it is privileged.
 fn far<A: Allocator + Copy>(world: &World<A>) -> Option<(u16, Option<u16>, bool)> {
@@ -68,14 +68,10 @@ fn goes_over_on_full(alloc: Global, heap: &LocalHeap) -> Result<(bool, usize), F
     on_full(alloc, heap, || goes_over(world))
 }
 
-/// The same for its own heap, and how much of it stays taken.
-fn goes_over_without_memory(alloc: Global) -> Result<((bool, usize), usize), Fail> {
-    let heap = LocalHeap::new(alloc, 16384)?;
-    let found = goes_over_on_full(alloc, &heap)?;
-    Ok((found, heap.used()))
-}
-
 #[test]
 fn a_world_is_taken_apart_and_put_together_without_memory(rt: HostRuntime) -> Result<(), Fail> {
-    as_expected(goes_over_without_memory(rt.alloc()), &((true, 0), 0))
+    as_expected(
+        on_heap(rt.alloc(), 16384, goes_over_on_full),
+        &((true, 0), 0),
+    )
 }

@@ -1,8 +1,8 @@
 //! A long run that is judged twice: by a judge, and directly by the definition of a sweep. After
 //! each event the sweeps, the nodes without a full tick and the tallies of all links are the same.
 use super::*;
-use crate::texts::round_of;
-use crate::worlds::square;
+use crate::tests::texts::round_of;
+use crate::tests::worlds::square;
 use std::test::Fail;
 use test_parts::is_expected;
 use topology::Net;

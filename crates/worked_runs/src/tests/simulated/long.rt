@@ -1,6 +1,7 @@
 //! How long a text of events may be.
 use super::{ROOM, run};
-use crate::worlds::two_nodes;
+use crate::tests::texts::{TWO_AT_REST, TWO_AT_START, joined};
+use crate::tests::worlds::two_nodes;
 use std::alloc::{AllocError, Global};
 use std::test::Fail;
 use test_parts::as_expected;
@@ -55,17 +56,6 @@ fn with_long_text(
 /// The refusal line of that text.
 const UNREAD: &str = "line 1: Unread\n";
 
-/// What it leads to.
-const OUTPUT: &str = "\
-line 1: Unread
-node 0 distance 2 parent none token no lent none waiting 0
-node 1 distance 2 parent none token no lent none waiting 0
-link 0 1 items 0
-link 1 0 items 0
-privileged 0 lending 0
-sweeps 0 of 69
-";
-
 /// The report of it.
 const ONE_REFUSED: Summary = Summary {
     refused: 1,
@@ -76,7 +66,8 @@ const ONE_REFUSED: Summary = Summary {
 /// Whether a text of a gibibyte leads to the state at the start, after its refusal line; and whether
 /// a text with one byte more is refused, after the same line.
 fn is_limited(alloc: Global, net: &Net) -> Result<(bool, bool), AllocError> {
-    let whole = with_long_text(alloc, net, 1_073_741_824, OUTPUT)?;
+    let output = joined(alloc, &[UNREAD, TWO_AT_START, TWO_AT_REST])?;
+    let whole = with_long_text(alloc, net, 1_073_741_824, output.as_str())?;
     let long = with_long_text(alloc, net, 1_073_741_825, UNREAD)?;
     Ok((
         whole == (Ok(ONE_REFUSED), true),

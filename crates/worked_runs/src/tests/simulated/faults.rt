@@ -1,10 +1,10 @@
 //! Simulations whose source, sink or memory fails, at each of their calls in turn.
 use super::{ROOM, run};
-use crate::worlds::two_nodes;
-use linked_list_allocator::LocalHeap;
+use crate::tests::texts::{TWO_AT_REST, joined};
+use crate::tests::worlds::two_nodes;
 use std::alloc::{AllocError, Global};
 use std::test::Fail;
-use test_parts::as_expected;
+use test_parts::{as_expected, on_heap};
 use world::Net;
 use world::simulation::{SimFault, Summary};
 use world::streams::{Fused, MemorySink, MemorySource};
@@ -27,21 +27,10 @@ const REFUSALS: [(usize, &str); 7] = [
     (78, "line 8: Unread\n"),
 ];
 
-/// What the lines lead to.
-const OUTPUT: &str = "\
-line 1: NoNode
-line 2: NoLink
-line 3: NoItem
-line 4: OutOfRange
-line 6: Twice
-line 7: Stranger
-line 8: Unread
+/// How two nodes are shown after the lines: a ticket waits at node 1.
+const NODES: &str = "\
 node 0 distance 2 parent none token no lent none waiting 0
 node 1 distance 2 parent none token no lent none waiting 1
-link 0 1 items 0
-link 1 0 items 0
-privileged 0 lending 0
-sweeps 0 of 69
 ";
 
 /// The refusal lines of the lines that end within the first `bytes` bytes.
@@ -53,6 +42,21 @@ fn refusals_within(alloc: Global, bytes: usize) -> Result<String, AllocError> {
         }
     }
     Ok(text)
+}
+
+/// Two nodes, and what the lines lead to there.
+#[derive(Drop)]
+struct Case {
+    net: Net,
+    output: String,
+}
+
+/// Two nodes, for which all refusal lines are written, and then the state.
+fn case_of_two(alloc: Global) -> Result<Case, Fail> {
+    let net = two_nodes(alloc)?;
+    let refusals = refusals_within(alloc, LINES.len())?;
+    let output = joined(alloc, &[refusals.as_str(), NODES, TWO_AT_REST])?;
+    Ok(Case { net, output })
 }
 
 /// The report of all lines.
@@ -89,18 +93,18 @@ fn are_refusals(alloc: Global, taken: &[u8], bytes: usize) -> Result<bool, Alloc
 /// lines, else the whole output.
 fn with_a_failing_read(
     alloc: Global,
-    net: &Net,
+    case: &Case,
     piece: usize,
     calls: u64,
 ) -> Result<Outcome, AllocError> {
     let mut source = Fused::new(MemorySource::new(LINES.as_bytes(), piece), calls);
     let mut sink = MemorySink::new(alloc, ROOM)?;
-    let answer = run(alloc, net, &mut source, &mut sink);
+    let answer = run(alloc, &case.net, &mut source, &mut sink);
     let has_failed = source.has_failed();
     let is_written = if has_failed {
         are_refusals(alloc, sink.taken(), (calls as usize).saturating_mul(piece))?
     } else {
-        sink.taken() == OUTPUT.as_bytes()
+        sink.taken() == case.output.as_bytes()
     };
     Ok(Outcome {
         has_failed,
@@ -113,30 +117,30 @@ fn with_a_failing_read(
 /// whole.
 fn with_a_failing_write(
     alloc: Global,
-    net: &Net,
+    case: &Case,
     piece: usize,
     calls: u64,
 ) -> Result<Outcome, AllocError> {
     let mut source = MemorySource::new(LINES.as_bytes(), piece);
     let mut sink = Fused::new(MemorySink::new(alloc, ROOM)?, calls);
-    let answer = run(alloc, net, &mut source, &mut sink);
+    let answer = run(alloc, &case.net, &mut source, &mut sink);
     let has_failed = sink.has_failed();
     let taken = sink.inner().taken();
-    let is_whole = taken.len() == OUTPUT.len();
+    let is_whole = taken.len() == case.output.len();
     Ok(Outcome {
         has_failed,
         answer,
-        is_written: OUTPUT.as_bytes().starts_with(taken) && is_whole != has_failed,
+        is_written: case.output.as_bytes().starts_with(taken) && is_whole != has_failed,
     })
 }
 
 /// The first number of calls before the failing read for which a simulation is wrong, or fails
 /// though there is no further read, if any.
-fn first_wrong_read(alloc: Global, net: &Net, piece: usize) -> Result<Option<u64>, AllocError> {
+fn first_wrong_read(alloc: Global, case: &Case, piece: usize) -> Result<Option<u64>, AllocError> {
     // As many reads as there are pieces, and one that finds the end.
     let reads = LINES.len().div_ceil(piece.max(1)) as u64 + 1;
     for calls in 0..=reads {
-        let outcome = with_a_failing_read(alloc, net, piece, calls)?;
+        let outcome = with_a_failing_read(alloc, case, piece, calls)?;
         if !outcome.is_right(SimFault::Read) || outcome.has_failed != (calls < reads) {
             return Ok(Some(calls));
         }
@@ -145,9 +149,9 @@ fn first_wrong_read(alloc: Global, net: &Net, piece: usize) -> Result<Option<u64
 }
 
 /// The same for a failing write: there is at least one write, and after all writes no call fails.
-fn first_wrong_write(alloc: Global, net: &Net, piece: usize) -> Result<Option<u64>, AllocError> {
+fn first_wrong_write(alloc: Global, case: &Case, piece: usize) -> Result<Option<u64>, AllocError> {
     for calls in 0..1000u64 {
-        let outcome = with_a_failing_write(alloc, net, piece, calls)?;
+        let outcome = with_a_failing_write(alloc, case, piece, calls)?;
         if !outcome.is_right(SimFault::Write) || (calls == 0 && !outcome.has_failed) {
             return Ok(Some(calls));
         }
@@ -158,22 +162,16 @@ fn first_wrong_write(alloc: Global, net: &Net, piece: usize) -> Result<Option<u6
     Ok(Some(1000))
 }
 
-/// The first size of pieces with such a number for a failing read, and the number.
-fn first_wrong_read_of_all(alloc: Global) -> Result<Option<(usize, u64)>, Fail> {
-    let net = two_nodes(alloc)?;
+/// The first size of pieces for which there is such a number, and the number.
+fn first_wrong_of_all<F: Fn(Global, &Case, usize) -> Result<Option<u64>, AllocError>>(
+    alloc: Global,
+    first_wrong: F,
+) -> Result<Option<(usize, u64)>, Fail>
+    requires { F.IsAlwaysCallable first_wrong }
+{
+    let case = case_of_two(alloc)?;
     for piece in PIECES {
-        if let Some(calls) = first_wrong_read(alloc, &net, piece)? {
-            return Ok(Some((piece, calls)));
-        }
-    }
-    Ok(None)
-}
-
-/// The same for a failing write.
-fn first_wrong_write_of_all(alloc: Global) -> Result<Option<(usize, u64)>, Fail> {
-    let net = two_nodes(alloc)?;
-    for piece in PIECES {
-        if let Some(calls) = first_wrong_write(alloc, &net, piece)? {
+        if let Some(calls) = first_wrong(alloc, &case, piece)? {
             return Ok(Some((piece, calls)));
         }
     }
@@ -182,31 +180,31 @@ fn first_wrong_write_of_all(alloc: Global) -> Result<Option<(usize, u64)>, Fail>
 
 #[test]
 fn a_read_that_fails_leaves_the_refusals_of_whole_lines(rt: HostRuntime) -> Result<(), Fail> {
-    as_expected(first_wrong_read_of_all(rt.alloc()), &None)
+    as_expected(first_wrong_of_all(rt.alloc(), first_wrong_read), &None)
 }
 
 #[test]
 fn a_write_that_fails_leaves_a_beginning(rt: HostRuntime) -> Result<(), Fail> {
-    as_expected(first_wrong_write_of_all(rt.alloc()), &None)
+    as_expected(first_wrong_of_all(rt.alloc(), first_wrong_write), &None)
 }
 
 /// Simulates into a sink with `room` bytes. Returns the answer, and whether all of them are
 /// filled.
 fn with_room(
     alloc: Global,
-    net: &Net,
+    case: &Case,
     room: usize,
 ) -> Result<(Result<Summary, SimFault>, bool), AllocError> {
     let mut source = MemorySource::new(LINES.as_bytes(), 7);
     let mut sink = MemorySink::new(alloc, room)?;
-    let answer = run(alloc, net, &mut source, &mut sink);
-    let is_filled = sink.taken().len() == room && OUTPUT.as_bytes().starts_with(sink.taken());
+    let answer = run(alloc, &case.net, &mut source, &mut sink);
+    let is_filled = sink.taken().len() == room && case.output.as_bytes().starts_with(sink.taken());
     Ok((answer, is_filled))
 }
 
 /// The right result.
-fn wanted_with_room(room: usize) -> (Result<Summary, SimFault>, bool) {
-    let answer = if room < OUTPUT.len() {
+fn wanted_with_room(case: &Case, room: usize) -> (Result<Summary, SimFault>, bool) {
+    let answer = if room < case.output.len() {
         Err(SimFault::Write)
     } else {
         Ok(ALL)
@@ -216,9 +214,9 @@ fn wanted_with_room(room: usize) -> (Result<Summary, SimFault>, bool) {
 
 /// The first number of bytes of a sink with another result, if any.
 fn first_wrong_room(alloc: Global) -> Result<Option<usize>, Fail> {
-    let net = two_nodes(alloc)?;
-    for room in 0..=OUTPUT.len() {
-        if with_room(alloc, &net, room)? != wanted_with_room(room) {
+    let case = case_of_two(alloc)?;
+    for room in 0..=case.output.len() {
+        if with_room(alloc, &case, room)? != wanted_with_room(&case, room) {
             return Ok(Some(room));
         }
     }
@@ -230,19 +228,6 @@ fn a_sink_with_too_little_room_is_filled(rt: HostRuntime) -> Result<(), Fail> {
     as_expected(first_wrong_room(rt.alloc()), &None)
 }
 
-/// Simulates on a heap of `bytes` bytes. Returns the answer, and how much of the heap stays taken.
-fn on_a_heap(
-    alloc: Global,
-    net: &Net,
-    bytes: usize,
-    source: &mut MemorySource<'_>,
-    sink: &mut MemorySink,
-) -> Result<(Result<Summary, SimFault>, usize), AllocError> {
-    let heap = LocalHeap::new(alloc, bytes)?;
-    let answer = run(&heap, net, source, sink);
-    Ok((answer, heap.used()))
-}
-
 /// The size, in units of 16 bytes, of the first heap that does not refuse a simulation, or keeps
 /// something, or writes something although it refuses; the answer there, and how much stays taken.
 fn first_heap(
@@ -250,9 +235,13 @@ fn first_heap(
     net: &Net,
     source: &mut MemorySource<'_>,
     sink: &mut MemorySink,
-) -> Result<Option<(usize, Result<Summary, SimFault>, usize)>, AllocError> {
+) -> Result<Option<(usize, Result<Summary, SimFault>, usize)>, Fail> {
     for units in 1..1000usize {
-        let (answer, used) = on_a_heap(alloc, net, units * 16, source, sink)?;
+        let (answer, used) = on_heap(
+            alloc,
+            units * 16,
+            |_, heap| Ok(run(heap, net, source, sink)),
+        )?;
         if answer != Err(SimFault::Memory) || used > 0 || !sink.taken().is_empty() {
             return Ok(Some((units, answer, used)));
         }
@@ -265,20 +254,15 @@ fn first_heap(
 type LeastHeap = (bool, Result<Summary, SimFault>, usize, bool);
 
 /// What is found there; none if all heaps refuse.
-fn least_heap(alloc: Global, net: &Net) -> Result<Option<LeastHeap>, AllocError> {
+fn least_heap(alloc: Global) -> Result<Option<LeastHeap>, Fail> {
+    let case = case_of_two(alloc)?;
     let mut source = MemorySource::new(LINES.as_bytes(), 7);
     let mut sink = MemorySink::new(alloc, ROOM)?;
-    let Some((units, answer, used)) = first_heap(alloc, net, &mut source, &mut sink)? else {
+    let Some((units, answer, used)) = first_heap(alloc, &case.net, &mut source, &mut sink)? else {
         return Ok(None);
     };
-    let is_written = sink.taken() == OUTPUT.as_bytes();
+    let is_written = sink.taken() == case.output.as_bytes();
     Ok(Some((units > 10, answer, used, is_written)))
-}
-
-/// The same for two nodes.
-fn least_heap_of_two(alloc: Global) -> Result<Option<LeastHeap>, Fail> {
-    let net = two_nodes(alloc)?;
-    Ok(least_heap(alloc, &net)?)
 }
 
 #[test]
@@ -286,5 +270,5 @@ fn refused_memory_leaves_all_unread_and_unwritten(rt: HostRuntime) -> Result<(),
     // The same as with ample memory; the source still had all its bytes, and the sink all its
     // room.
     let want = Some((true, Ok(ALL), 0, true));
-    as_expected(least_heap_of_two(rt.alloc()), &want)
+    as_expected(least_heap(rt.alloc()), &want)
 }

@@ -1,5 +1,5 @@
 //! The text that shows a world, in a sink without room for all of it.
-use crate::worlds::{happen, start, two_nodes};
+use crate::tests::worlds::{happen, start, two_nodes};
 use std::alloc::{AllocError, Global};
 use std::test::Fail;
 use test_parts::as_expected;

@@ -1,11 +1,11 @@
 //! Recordings whose source fails, and recordings without enough memory.
-use crate::texts::FORGED;
-use crate::worlds::two_nodes;
+use super::texts::FORGED;
+use super::worlds::two_nodes;
 use linked_list_allocator::LocalHeap;
 use run_recording::{Window, record};
 use std::alloc::{Allocator, Global};
 use std::test::Fail;
-use test_parts::as_expected;
+use test_parts::{as_expected, on_heap};
 use world::Net;
 use world::simulation::SimFault;
 use world::streams::{Fused, MemorySource, Source};
@@ -80,9 +80,7 @@ fn recorded_within<R: Source>(
     source: &mut R,
     size: usize,
 ) -> Result<(Recorded, usize), Fail> {
-    let heap = LocalHeap::new(alloc, size)?;
-    let answer = recorded(&heap, net, source);
-    Ok((answer, heap.used()))
+    on_heap(alloc, size, |_, heap| Ok(recorded(heap, net, source)))
 }
 
 /// The recording of the forged tokens on the smallest heap with enough memory, and whether that

@@ -1,7 +1,7 @@
 //! Judged runs of events: what they lead to was worked out by hand. A row gives its events as a
 //! text, a line each.
-use crate::texts::ROUND;
-use crate::worlds::{event_of, start, two_nodes};
+use super::texts::ROUND;
+use super::worlds::{event_of, start, two_nodes};
 use run_model::Event;
 use std::alloc::{AllocFailed, Allocator, Global};
 use std::test::Fail;

@@ -7,7 +7,7 @@ use linked_list_allocator::LocalHeap;
 use run_model::Event;
 use std::alloc::{AllocError, Allocator, Global};
 use std::test::Fail;
-use test_parts::{as_expected, fill};
+use test_parts::{as_expected, fill, on_heap};
 use weaving::{Entry, Journal, weave};
 
 const SEND: Event = Event::Send { from: 0, to: 1 };
@@ -81,13 +81,7 @@ fn woven_on_full(alloc: Global, heap: &LocalHeap) -> Result<(bool, usize), Fail>
     woven_without_memory(alloc, heap, &both, &mut events)
 }
 
-/// The same for its own heap.
-fn woven_on_a_heap(alloc: Global) -> Result<(bool, usize), Fail> {
-    let heap = LocalHeap::new(alloc, 4096)?;
-    woven_on_full(alloc, &heap)
-}
-
 #[test]
 fn weaving_fills_the_room_that_is_there_and_takes_no_memory(rt: HostRuntime) -> Result<(), Fail> {
-    as_expected(woven_on_a_heap(rt.alloc()), &(true, 0))
+    as_expected(on_heap(rt.alloc(), 4096, woven_on_full), &((true, 0), 0))
 }

@@ -1,10 +1,10 @@
 //! A judge takes no memory.
 use super::*;
-use crate::texts::FORGED;
-use crate::worlds::happen;
+use crate::tests::texts::FORGED;
+use crate::tests::worlds::happen;
 use linked_list_allocator::LocalHeap;
 use std::test::Fail;
-use test_parts::{as_expected, on_full};
+use test_parts::{as_expected, on_full, on_heap};
 use topology::Net;
 
 /// An event of each kind that is not in a round.
@@ -36,15 +36,12 @@ fn takes_each_kind_on_full(alloc: Global, heap: &LocalHeap) -> Result<(bool, usi
     on_full(alloc, heap, || takes_each_kind(&mut world))
 }
 
-/// The same for its own heap.
-fn takes_each_kind_without_memory(alloc: Global) -> Result<(bool, usize), Fail> {
-    let heap = LocalHeap::new(alloc, 16384)?;
-    takes_each_kind_on_full(alloc, &heap)
-}
-
 #[test]
 fn a_world_takes_no_memory(rt: HostRuntime) -> Result<(), Fail> {
-    as_expected(takes_each_kind_without_memory(rt.alloc()), &(true, 0))
+    as_expected(
+        on_heap(rt.alloc(), 16384, takes_each_kind_on_full),
+        &((true, 0), 0),
+    )
 }
 
 /// What happens after a round; the last event leads to one loan.
@@ -87,18 +84,6 @@ fn judged_on_full(
     Ok(Some(found))
 }
 
-/// The same on a heap of this size in bytes, and how much of it stays taken.
-fn judged_within(
-    alloc: Global,
-    bytes: usize,
-    net: &Net,
-    round: &[Event],
-) -> Result<(Option<(bool, usize)>, usize), Fail> {
-    let heap = LocalHeap::new(alloc, bytes)?;
-    let found = judged_on_full(alloc, &heap, net, round)?;
-    Ok((found, heap.used()))
-}
-
 /// Whether the smallest heap that does not refuse a world has more than 40 units of 16 bytes, what
 /// is found there, and how much of it stays taken.
 type LeastHeap = (bool, (bool, usize), usize);
@@ -107,7 +92,11 @@ type LeastHeap = (bool, (bool, usize), usize);
 /// that does keeps something.
 fn least_heap(alloc: Global, net: &Net, round: &[Event]) -> Result<Option<LeastHeap>, Fail> {
     for units in 1..400usize {
-        match judged_within(alloc, units * 16, net, round)? {
+        match on_heap(
+            alloc,
+            units * 16,
+            |alloc, heap| judged_on_full(alloc, heap, net, round),
+        )? {
             (Some(found), used) => return Ok(Some((units > 40, found, used))),
             (None, 0) => {}
             (None, _) => return Ok(None),

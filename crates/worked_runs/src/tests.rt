@@ -1,0 +1,9 @@
+//! The tests, by what they are of, and what they share.
+mod events;
+mod judged;
+mod no_memory;
+mod recorded;
+mod simulated;
+mod texts;
+mod worlds;
+mod woven;
