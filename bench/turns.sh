@@ -9,4 +9,4 @@ set -euo pipefail
 seeds=${1:-1000}
 cd "$(dirname "$0")/../crates/worked_nodes"
 rt test > /dev/null 2>&1
-TOKENTREE_SEEDS=$seeds out/worked_nodes_tests replays::rows::turns_of_three_and_of_five_nodes_are_a_run
+TOKENTREE_SEEDS=$seeds out/worked_nodes_tests tests::replays::rows::turns_of_three_and_of_five_nodes_are_a_run

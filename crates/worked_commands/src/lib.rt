@@ -5,14 +5,4 @@
 #![tactic(auto)]
 
 #[cfg(test)]
-mod measure;
-#[cfg(test)]
-mod nets;
-#[cfg(test)]
-mod network;
-#[cfg(test)]
-mod output;
-#[cfg(test)]
-mod plots;
-#[cfg(test)]
-mod simulate;
+mod tests;

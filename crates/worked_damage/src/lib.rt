@@ -9,16 +9,4 @@
 #![tactic(auto)]
 
 #[cfg(test)]
-mod calls;
-#[cfg(test)]
-mod changed_bytes;
-#[cfg(test)]
-mod heaps;
-#[cfg(test)]
-mod plain_files;
-#[cfg(test)]
-mod plans;
-#[cfg(test)]
-mod refused_memory;
-#[cfg(test)]
-mod stores;
+mod tests;

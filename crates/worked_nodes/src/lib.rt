@@ -10,30 +10,4 @@
 #![tactic(auto)]
 
 #[cfg(test)]
-mod crowd_rows;
-#[cfg(test)]
-mod door_rows;
-#[cfg(test)]
-mod draws;
-#[cfg(test)]
-mod ends;
-#[cfg(test)]
-mod failure_rows;
-#[cfg(test)]
-mod memory_rows;
-#[cfg(test)]
-mod nodes;
-#[cfg(test)]
-mod pace_rows;
-#[cfg(test)]
-mod pipe_rows;
-#[cfg(test)]
-mod plays;
-#[cfg(test)]
-mod replays;
-#[cfg(test)]
-mod restart_rows;
-#[cfg(test)]
-mod stage;
-#[cfg(test)]
-mod wires;
+mod tests;

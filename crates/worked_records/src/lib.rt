@@ -7,10 +7,4 @@
 #![tactic(auto)]
 
 #[cfg(test)]
-mod again_rows;
-#[cfg(test)]
-mod entry_rows;
-#[cfg(test)]
-mod order_rows;
-#[cfg(test)]
-mod page_rows;
+mod tests;

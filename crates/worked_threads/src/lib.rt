@@ -5,16 +5,4 @@
 #![tactic(auto)]
 
 #[cfg(test)]
-mod copies;
-#[cfg(test)]
-mod damaged;
-#[cfg(test)]
-mod full;
-#[cfg(test)]
-mod memory;
-#[cfg(test)]
-mod ran;
-#[cfg(test)]
-mod sameness;
-#[cfg(test)]
-mod steps;
+mod tests;

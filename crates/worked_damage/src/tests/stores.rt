@@ -1,5 +1,5 @@
 //! Stores without room, and stores that fail once.
-use crate::calls::{File, NEWER, started, two};
+use super::calls::{File, NEWER, started, two};
 use node_state_file::{FusedStore, MemoryStore, StartFault, Store, StoreFault};
 use std::alloc::{AllocError, Global};
 use std::test::Fail;

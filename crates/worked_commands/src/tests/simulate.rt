@@ -1,5 +1,5 @@
 //! Readers that are interrupted, or fail after some bytes.
-use crate::nets::two_nodes;
+use super::nets::two_nodes;
 use command_parts::{Fault, ReadSource, WriteSink, simulate_between};
 use std::alloc::Global;
 use std::io::{BufWriter, Error, ErrorKind, Read, Write};

@@ -1,6 +1,6 @@
 //! Runs that no command makes: some are written by hand, and so are their texts; others begin in a
 //! world that is not scrambled. Two nodes have the sharper bound 35 and the bound 69.
-use crate::nets::two_nodes;
+use super::nets::two_nodes;
 use experiments::{Recovery, Settling, Watch};
 use schedules::{Slow, give_slow_round};
 use std::alloc::Global;

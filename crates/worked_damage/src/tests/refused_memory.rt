@@ -1,6 +1,6 @@
 //! Refusing each growth in turn, and a heap without a free byte.
-use crate::calls::{NEWER, reread, started, two, written};
-use crate::heaps::{End, meets_each_refusal};
+use super::calls::{NEWER, reread, started, two, written};
+use super::heaps::{End, meets_each_refusal};
 use damage_tool::{scramble_node, scramble_world};
 use linked_list_allocator::LocalHeap;
 use node_core::NodeState;

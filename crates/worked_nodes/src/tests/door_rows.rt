@@ -1,6 +1,6 @@
 //! Doors that fail while a node runs, turn by turn.
-use crate::nodes::{Run, on_stage, row, run_of, turn_once, with_made};
-use crate::stage::Stage;
+use super::nodes::{Run, on_stage, row, run_of, turn_once, with_made};
+use super::stage::Stage;
 use node_follower::Follower;
 use std::alloc::{AllocError, Global};
 use std::test::Fail;

@@ -1,7 +1,7 @@
 //! Plays: what happens between one node and the other ends of its connections, act by act.
-use crate::nodes::{Run, WITH_TOKEN, on_stage, row, run_of, run_with, stored, with_made};
-use crate::stage::Stage;
-use crate::wires::{Pair, Queue, ROOM};
+use super::nodes::{Run, WITH_TOKEN, on_stage, row, run_of, run_with, stored, with_made};
+use super::stage::Stage;
+use super::wires::{Pair, Queue, ROOM};
 use flight_records::Deed;
 use node_core::Node;
 use node_loop::Notes;

@@ -1,6 +1,6 @@
 //! Records, read a page at a time: the one of `entry_rows`, cut at every place and given in pieces of
 //! some sizes; one that is longer than a page; and one whose source fails once.
-use crate::entry_rows::{ENDS, RECORD, written};
+use super::entry_rows::{ENDS, RECORD, written};
 use byte_streams::{Fused, MemorySource, Source};
 use flight_records::{Deed, Entry, Noted, write_entry};
 use record_pages::{PageReader, Stop};

@@ -3,8 +3,8 @@ ghost use Rattle.std.specs.Prelude.{◌≡◌};
 ghost use Rattle.node_core.specs.Site.{site_of};
 ghost use Rattle.node_core.specs.View.{site_in};
 
-use crate::nodes::{on_stage, row, stored, with_made};
-use crate::stage::{Stage, StageDoors};
+use super::nodes::{on_stage, row, stored, with_made};
+use super::stage::{Stage, StageDoors};
 use linked_list_allocator::LocalHeap;
 use node_core::Node;
 use node_loop::{NodeRun, Notes};

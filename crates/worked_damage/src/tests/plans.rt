@@ -2,8 +2,8 @@
 //! taken.
 ghost use Rattle.std.specs.Prelude.{⊤};
 
-use crate::calls::two;
-use crate::heaps::{End, meets_each_refusal};
+use super::calls::two;
+use super::heaps::{End, meets_each_refusal};
 use experiments::{
     Chances, EventSink, Order, PlanFault, Recovery, Scheduler, give_plan, measure_run,
 };

@@ -1,7 +1,7 @@
 //! Copies of this program with limited memory: starts of threads that are refused, and a run
 //! without any memory once its threads are started.
-use crate::full::{Full, TURNS, take_small};
-use crate::ran::{lend, net_of, ran, start, ticks};
+use super::full::{Full, TURNS, take_small};
+use super::ran::{lend, net_of, ran, start, ticks};
 use std::alloc::Global;
 use std::env;
 use std::path::Path;

@@ -1,6 +1,6 @@
 //! The events that the accounts of turns make, and the world that they lead to.
-use crate::nodes::stored;
-use crate::replays::account::{Account, Deed, Line};
+use crate::tests::nodes::stored;
+use crate::tests::replays::account::{Account, Deed, Line};
 use damage_tool::scramble_world;
 use frame_codec::encode;
 use judge::{Judge, World};

@@ -1,10 +1,10 @@
 //! The ends of connections that nodes hold.
 ghost use Rattle.std.specs.Prelude.{◌≡◌, ◌≤◌, length};
 
-use crate::replays::account::{Deed, LINE, Line};
-use crate::replays::desk::Desk;
-use crate::stage::{Mistake, Stage};
-use crate::wires::{Pair, ROOM, Wire};
+use super::replays::account::{Deed, LINE, Line};
+use super::replays::desk::Desk;
+use super::stage::{Mistake, Stage};
+use super::wires::{Pair, ROOM, Wire};
 use socket_links::{Pipe, ReadAnswer, WriteAnswer};
 use std::cell::Cell;
 

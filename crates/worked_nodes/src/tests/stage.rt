@@ -1,8 +1,10 @@
 //! What nodes in memory share, and the doors through which connections come to them.
-use crate::ends::{End, Part};
-use crate::replays::account::Account;
-use crate::replays::desk::Desk;
-use crate::wires::{Queue, ROOM};
+ghost use Rattle.node_loop.specs.node_connections.Doors.{Opens};
+
+use super::ends::{End, Part};
+use super::replays::account::Account;
+use super::replays::desk::Desk;
+use super::wires::{Queue, ROOM};
 use node_loop::{Door, Doors};
 use std::alloc::{AllocError, Global};
 use std::cell::Cell;
@@ -142,6 +144,23 @@ pub struct StageDoors<'a> {
     pub failures: u64,
 }
 
+impl<'a> StageDoors<'a> {
+    /// The connection that comes so from the stage, unless this is the call that fails.
+    fn door_of<F: FnOnce(&'a Stage) -> Option<End<'a>>>(&mut self, come: F) -> Door<End<'a>>
+        requires { F.IsAlwaysCallable come }
+        ensures { Opens result self.old.failures self.new.failures }
+    {
+        if self.stage.trips() {
+            self.failures = self.failures.saturating_add(1);
+            return Door::Failed;
+        }
+        match come(self.stage) {
+            Some(end) => Door::Came(end),
+            None => Door::Nobody,
+        }
+    }
+}
+
 impl<'a> Doors for StageDoors<'a> {
     type P = End<'a>;
 
@@ -150,35 +169,17 @@ impl<'a> Doors for StageDoors<'a> {
     fn wait(&mut self, _rest: u64) {}
 
     fn link(&mut self) -> Door<End<'a>> {
-        if self.stage.trips() {
-            self.failures = self.failures.saturating_add(1);
-            return Door::Failed;
-        }
-        match self.stage.link(self.node) {
-            Some(end) => Door::Came(end),
-            None => Door::Nobody,
-        }
+        let node = self.node;
+        self.door_of(|stage| stage.link(node))
     }
 
     fn client(&mut self) -> Door<End<'a>> {
-        if self.stage.trips() {
-            self.failures = self.failures.saturating_add(1);
-            return Door::Failed;
-        }
-        match self.stage.client(self.node) {
-            Some(end) => Door::Came(end),
-            None => Door::Nobody,
-        }
+        let node = self.node;
+        self.door_of(|stage| stage.client(node))
     }
 
     fn connect(&mut self, neighbour: u16) -> Door<End<'a>> {
-        if self.stage.trips() {
-            self.failures = self.failures.saturating_add(1);
-            return Door::Failed;
-        }
-        match self.stage.connect(self.node, neighbour) {
-            Some(end) => Door::Came(end),
-            None => Door::Nobody,
-        }
+        let node = self.node;
+        self.door_of(|stage| stage.connect(node, neighbour))
     }
 }

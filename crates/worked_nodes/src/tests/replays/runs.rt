@@ -1,10 +1,10 @@
 //! Nodes that run over memory, turn by turn, and their replay.
-use crate::draws::Draws;
-use crate::nodes::{Run, started};
-use crate::replays::desk::{CLIENTS, Desk};
-use crate::replays::replay::{Counts, NO_NODE, Replay, Wrong};
-use crate::stage::{Mistake, Stage};
-use crate::wires::{Pair, ROOM};
+use crate::tests::draws::Draws;
+use crate::tests::nodes::{Run, started};
+use crate::tests::replays::desk::{CLIENTS, Desk};
+use crate::tests::replays::replay::{Counts, NO_NODE, Replay, Wrong};
+use crate::tests::stage::{Mistake, Stage};
+use crate::tests::wires::{Pair, ROOM};
 use node_loop::Notes;
 use pace::{Manner, Pace};
 use std::alloc::Global;

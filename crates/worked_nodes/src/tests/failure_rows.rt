@@ -1,8 +1,8 @@
 //! Connections and stores that fail.
-use crate::nodes::{
+use super::nodes::{
     Run, RunWith, WITH_TOKEN, on_stage, row, runs_of, started, stored, turn_all, with_made,
 };
-use crate::stage::Stage;
+use super::stage::Stage;
 use node_loop::Notes;
 use node_state_file::{FusedStore, MemoryStore, StoreFault};
 use std::alloc::{AllocError, Global};

@@ -1,7 +1,9 @@
 //! Runs with some seeds, and connections with deliberate mistakes.
-use crate::replays::replay::{Counts, OTHER_NODE, SENT_ON_FULL, SENT_OTHER, TOOK_OTHER, Wrong};
-use crate::replays::runs::{Shape, run_seed};
-use crate::stage::Mistake;
+use crate::tests::replays::replay::{
+    Counts, OTHER_NODE, SENT_ON_FULL, SENT_OTHER, TOOK_OTHER, Wrong,
+};
+use crate::tests::replays::runs::{Shape, run_seed};
+use crate::tests::stage::Mistake;
 use std::env;
 use std::test::Fail;
 use test_parts::as_expected;

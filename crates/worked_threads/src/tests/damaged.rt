@@ -1,5 +1,5 @@
 //! Damage between runs.
-use crate::ran::{LINE, happen, judged_right, line, made, ran, tree};
+use super::ran::{LINE, happen, judged_right, line, made, ran, tree};
 use damage_tool::scramble_world;
 use rand_core::SeedableRng;
 use rand_pcg::Lcg64Xsh32;

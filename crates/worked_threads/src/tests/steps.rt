@@ -1,6 +1,6 @@
 //! Runs in which nodes wait for one another.
-use crate::ran::{LINE, Tree, happen, judged_right, line, made, ran, ticks, tree};
-use crate::sameness::is_same_world;
+use super::ran::{LINE, Tree, happen, judged_right, line, made, ran, ticks, tree};
+use super::sameness::is_same_world;
 use std::alloc::Global;
 use std::sync::Wait;
 use std::test::Fail;

@@ -1,5 +1,5 @@
 //! State files with one byte changed.
-use crate::calls::{File, NEWER, reread, two};
+use super::calls::{File, NEWER, reread, two};
 use node_state_file::FileFault;
 use std::alloc::Global;
 use std::test::Fail;

@@ -3,7 +3,7 @@ ghost use Rattle.std.specs.Prelude.{◌≡◌};
 ghost use Rattle.node_core.specs.Site.{site_of};
 ghost use Rattle.node_core.specs.View.{site_in};
 
-use crate::stage::{Stage, StageDoors};
+use super::stage::{Stage, StageDoors};
 use node_core::Node;
 use node_loop::{NodeRun, Notes};
 use node_state_file::{MOST_BYTES, MemoryStore, StartFault, Store, start};

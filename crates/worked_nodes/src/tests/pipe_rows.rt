@@ -1,8 +1,8 @@
 //! Frames between two links whose pipes fail.
-use crate::ends::{End, Part};
-use crate::nodes::row;
-use crate::stage::Stage;
-use crate::wires::Queue;
+use super::ends::{End, Part};
+use super::nodes::row;
+use super::stage::Stage;
+use super::wires::Queue;
 use socket_links::{Flow, Offer, Pull, SocketLink};
 use std::alloc::{AllocError, Global};
 use std::test::Fail;

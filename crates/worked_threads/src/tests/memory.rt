@@ -1,5 +1,5 @@
 //! Memory that is refused before the first turn.
-use crate::ran::{happen, is_shown_as, lend, net_of, shown, start};
+use super::ran::{happen, is_shown_as, lend, net_of, shown, start};
 use linked_list_allocator::LocalHeap;
 use std::alloc::{Allocator, Global};
 use std::test::Fail;

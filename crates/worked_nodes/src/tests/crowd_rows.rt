@@ -1,7 +1,7 @@
 //! More clients and neighbours than there is room for.
-use crate::nodes::{Run, attend_once, on_stage, row, run_of, turn_once, with_made};
-use crate::stage::Stage;
-use crate::wires::Pair;
+use super::nodes::{Run, attend_once, on_stage, row, run_of, turn_once, with_made};
+use super::stage::Stage;
+use super::wires::Pair;
 use std::alloc::Global;
 use std::test::Fail;
 use test_parts::as_expected;

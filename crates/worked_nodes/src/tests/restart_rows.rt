@@ -1,7 +1,7 @@
 //! A node that starts again from a meaningless state, among running nodes.
-use crate::nodes::{Run, on_stage, row, runs_of, started, stored, turn_all, with_made};
-use crate::stage::Stage;
-use crate::wires::{Pair, Queue, ROOM};
+use super::nodes::{Run, on_stage, row, runs_of, started, stored, turn_all, with_made};
+use super::stage::Stage;
+use super::wires::{Pair, Queue, ROOM};
 use node_state_file::{FileFault, StartFault};
 use std::alloc::Global;
 use std::test::Fail;

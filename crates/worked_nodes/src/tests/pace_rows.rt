@@ -1,8 +1,8 @@
 //! Nodes under load whose pace is damaged again and again.
-use crate::draws::Draws;
-use crate::nodes::{Run, WITH_TOKEN, on_stage, row, runs_of, with_made};
-use crate::stage::Stage;
-use crate::wires::{Pair, ROOM};
+use super::draws::Draws;
+use super::nodes::{Run, WITH_TOKEN, on_stage, row, runs_of, with_made};
+use super::stage::Stage;
+use super::wires::{Pair, ROOM};
 use node_loop::Notes;
 use pace::{Calling, Manner, NodePace, PORTS, Pace, PortPace};
 use std::alloc::Global;

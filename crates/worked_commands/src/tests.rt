@@ -1,0 +1,7 @@
+//! The tests, by what they are of, and what they share.
+mod measure;
+mod nets;
+mod network;
+mod output;
+mod plots;
+mod simulate;

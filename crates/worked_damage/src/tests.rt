@@ -1,0 +1,8 @@
+//! The tests, by what they are of, and what they share.
+mod calls;
+mod changed_bytes;
+mod heaps;
+mod plain_files;
+mod plans;
+mod refused_memory;
+mod stores;

@@ -1,0 +1,5 @@
+//! The tests, by what they are of, and what they share.
+mod again_rows;
+mod entry_rows;
+mod order_rows;
+mod page_rows;
