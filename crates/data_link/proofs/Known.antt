@@ -1,5 +1,5 @@
 -- If near's number has K throughout two sweeps, every number of the link ring has K after them
-use Rattle.std.proofs.Common.{◌≡◌, ℕ, suc, List, [], ◌∷◌, ◌++◌, map, drop, true, sym, subst}
+use Rattle.std.proofs.Common.{◌≡◌, ℕ, suc, List, [], ◌∷◌, ◌++◌, map, drop, true, sym, subst, arith}
 use Rattle.std.specs.List.{AllByRecursion}
 use Rattle.link_model.specs.topology.declared.frame.Frame.{Frame}
 use Rattle.link_model.specs.topology.declared.frame.Payload.{Payload}
@@ -7,8 +7,7 @@ use Rattle.link_model.specs.declared.item.Item.{Item}
 use Rattle.link_model.specs.declared.item.Item.TheVariants as item
 use Rattle.k_state.specs.Ring.{tail_of}
 use Rattle.data_link.specs.Port.{frame_of, port_acked}
-use Rattle.data_link.specs.Edge.{EdgeState, EdgeEvent, SendOut, SendBack, TakeOut, TakeBack, LoseOut, LoseBack, Elsewhere}
-use Rattle.data_link.specs.Edge.{port_taking, edge_step, edge_run, modulus_of, link_ring, newest_first}
+use Rattle.data_link.specs.Edge.{EdgeState, EdgeEvent, SendOut, SendBack, TakeOut, TakeBack, LoseOut, LoseBack, Elsewhere, port_taking, edge_step, edge_run, modulus_of, link_ring, newest_first}
 use Rattle.data_link.specs.Sweep.{Takes, act_out, act_back, list_after, Origin, Before, Sent, takes_sent, hands_over_sent, IsSweep}
 use Rattle.data_link.proofs.LinkSteps.{heard-last}
 use Rattle.data_link.proofs.UnderWay.{All-put, All-rest, All-remove, All-join, OfItem, OfAll, all-stays}
@@ -84,13 +83,7 @@ module _ (K : ℕ → Type 0) where
   }
 
   first-taken : (capacity : ℕ) (s : EdgeState) (e : EdgeEvent) → act_out e ≡ Takes → IsFirstGood Out s.out → AreHeard (edge_step capacity s e)
-  first-taken capacity s SendOut t g = absurd cc
-  first-taken capacity s SendBack t g = absurd cc
-  first-taken capacity s (TakeOut present) t g = out-taken (modulus_of capacity) s present s.out g
-  first-taken capacity s (TakeBack present) t g = absurd cc
-  first-taken capacity s (LoseOut i) t g = absurd cc
-  first-taken capacity s (LoseBack i) t g = absurd cc
-  first-taken capacity s Elsewhere t g = absurd cc
+  first-taken capacity s e t g = grind (arith, out-taken (modulus_of capacity) s)
 
   heard-run : (capacity : ℕ) (s : EdgeState) (es : List EdgeEvent) → AlwaysHas capacity s es → AreHeard s → AreHeard (edge_run capacity s es)
   heard-run capacity s [] k h = h
@@ -124,13 +117,7 @@ module _ (K : ℕ → Type 0) where
 
   second-taken : (capacity : ℕ) (s : EdgeState) (e : EdgeEvent) → act_back e ≡ Takes → IsFirstGood Back s.back
       → AllByRecursion (OfAck K) (edge_step capacity s e).back
-  second-taken capacity s SendOut t g = absurd cc
-  second-taken capacity s SendBack t g = absurd cc
-  second-taken capacity s (TakeOut present) t g = absurd cc
-  second-taken capacity s (TakeBack present) t g = back-taken s.back g
-  second-taken capacity s (LoseOut i) t g = absurd cc
-  second-taken capacity s (LoseBack i) t g = absurd cc
-  second-taken capacity s Elsewhere t g = absurd cc
+  second-taken capacity s e t g = grind (arith, back-taken s.back g)
 
   known-run : (capacity : ℕ) (s : EdgeState) (es : List EdgeEvent) → AlwaysHas capacity s es → AreKnown s → AreKnown (edge_run capacity s es)
   known-run capacity s [] k h = h

@@ -1,5 +1,5 @@
 -- A stretch that hands over more items than a link can hold hands over one that was sent inside it
-use Rattle.std.proofs.Common.{◌≡◌, ℕ, ◌+◌, ◌≤◌, ◌||◌, nat_lt, zero, suc, List, [], ◌∷◌, ◌++◌, length, map, remove, Bool, true, false, refl, ap, subst, arith}
+use Rattle.std.proofs.Common.{◌≡◌, ℕ, ◌+◌, ◌<◌, ◌≤◌, ◌||◌, nat_lt, zero, suc, List, [], ◌∷◌, ◌++◌, length, map, remove, Bool, true, false, refl, ap, subst, arith}
 use Rattle.link_model.specs.declared.item.Item.{Item}
 use Rattle.link_model.specs.declared.item.Item.TheVariants as item
 use Rattle.data_link.specs.Port.{frame_of}
@@ -50,30 +50,30 @@ none-sent : {P : Type 0} (taken rest : Bool) → (taken || rest) ≡ false → (
 none-sent true rest h f = absurd cc
 none-sent false rest h f = f refl h
 
-out-before : (capacity i : ℕ) (s : EdgeState) (es : List EdgeEvent) (os : List Origin) → IsBeside os s.out → hands_over_sent capacity i (map act_out es) os ≡ false → handed_out capacity s es ≤ count_before os
-out-before capacity i s [] os m h = omega arith
-out-before capacity i s (e ∷ es) os m h =
-    let next = list_after capacity (Sent i) (act_out e) os in
-    let beside : IsBeside next (edge_step capacity s e).out = subst (IsBeside next) (out-after capacity s e) (marked-after (λ x. Unit {0}) capacity i (item.Frame (frame_of s.near)) (act_out e) os s.out tt m) in
-    none-sent (takes_sent (act_out e) os) (hands_over_sent capacity (suc i) (map act_out es) next) h
-    (λ t r. omega (arith, act-before capacity i (act_out e) os s.out (marked-length (λ x. Unit {0}) os s.out m) t, out-before capacity (suc i) (edge_step capacity s e) es next beside r))
-
-back-before : (capacity i : ℕ) (s : EdgeState) (es : List EdgeEvent) (os : List Origin) → IsBeside os s.back → hands_over_sent capacity i (map act_back es) os ≡ false → handed_back capacity s es ≤ count_before os
-back-before capacity i s [] os m h = omega arith
-back-before capacity i s (e ∷ es) os m h =
-    let next = list_after capacity (Sent i) (act_back e) os in
-    let beside : IsBeside next (edge_step capacity s e).back = subst (IsBeside next) (back-after capacity s e) (marked-after (λ x. Unit {0}) capacity i (item.Frame (frame_of s.far)) (act_back e) os s.back tt m) in
-    none-sent (takes_sent (act_back e) os) (hands_over_sent capacity (suc i) (map act_back es) next) h
-    (λ t r. omega (arith, act-before capacity i (act_back e) os s.back (marked-length (λ x. Unit {0}) os s.back m) t, back-before capacity (suc i) (edge_step capacity s e) es next beside r))
-
 unless_false : (b : Bool) → (b ≡ false → ⊥) → b ≡ true
 unless_false true f = refl
 unless_false false f = absurd (f refl)
 
+-- so a stretch of one of the two links that hands over none sent inside hands over at most those
+-- that stood there before
+module _ (capacity : ℕ) (act : EdgeEvent → LinkAct) (said : EdgeState → Item) (link : EdgeState → List Item)
+    (link-after : (s : EdgeState) (e : EdgeEvent) → list_after capacity (said s) (act e) (link s) ≡ link (edge_step capacity s e))
+    (handed : EdgeState → List EdgeEvent → ℕ) (none : (s : EdgeState) → handed s [] ≡ 0)
+    (more : (s : EdgeState) (e : EdgeEvent) (es : List EdgeEvent) → handed s (e ∷ es) ≡ takes_item (act e) (link s) + handed (edge_step capacity s e) es) where
+  handed-before : (i : ℕ) (s : EdgeState) (es : List EdgeEvent) (os : List Origin) → IsBeside os (link s) → hands_over_sent capacity i (map act es) os ≡ false → handed s es ≤ count_before os
+  handed-before i s [] os m h = omega (arith, none s)
+  handed-before i s (e ∷ es) os m h =
+      let next = list_after capacity (Sent i) (act e) os in
+      let beside : IsBeside next (link (edge_step capacity s e)) = subst (IsBeside next) (link-after s e) (marked-after (λ x. Unit {0}) capacity i (said s) (act e) os (link s) tt m) in
+      none-sent (takes_sent (act e) os) (hands_over_sent capacity (suc i) (map act es) next) h
+      (λ t r. omega (arith, more s e es, act-before capacity i (act e) os (link s) (marked-length (λ x. Unit {0}) os (link s) m) t, handed-before (suc i) (edge_step capacity s e) es next beside r))
+
+  most-before : (s : EdgeState) (es : List EdgeEvent) → length (link s) ≤ capacity → capacity < handed s es → hands_over_sent capacity 0 (map act es) (map (λ x. Before) (link s)) ≡ true
+  most-before s es fits over = unless_false (hands_over_sent capacity 0 (map act es) (map (λ x. Before) (link s)))
+      (λ h. omega (arith, over, fits, before-start (link s), handed-before 0 s es (map (λ x. Before) (link s)) (marked-start (λ x. Unit {0}) (link s)) h))
+
 pub strict-sweep : (capacity : ℕ) (s : EdgeState) (es : List EdgeEvent) → IsEdgeInRange capacity s → IsStrictSweep capacity s es → IsSweep capacity s es
 strict-sweep capacity s es r w = record {
-  out = unless_false (hands_over_sent capacity 0 (map act_out es) (map (λ x. Before) s.out))
-      (λ h. omega (arith, w.out, r.out_fits, before-start s.out, out-before capacity 0 s es (map (λ x. Before) s.out) (marked-start (λ x. Unit {0}) s.out) h));
-  back = unless_false (hands_over_sent capacity 0 (map act_back es) (map (λ x. Before) s.back))
-      (λ h. omega (arith, w.back, r.back_fits, before-start s.back, back-before capacity 0 s es (map (λ x. Before) s.back) (marked-start (λ x. Unit {0}) s.back) h));
+  out = most-before capacity act_out (λ x. item.Frame (frame_of x.near)) (λ x. x.out) (out-after capacity) (handed_out capacity) (λ x. refl) (λ x e rest. refl) s es r.out_fits w.out;
+  back = most-before capacity act_back (λ x. item.Frame (frame_of x.far)) (λ x. x.back) (back-after capacity) (handed_back capacity) (λ x. refl) (λ x e rest. refl) s es r.back_fits w.back;
 }

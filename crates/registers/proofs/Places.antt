@@ -1,5 +1,5 @@
 -- What a write at one place does to all places.
-use Rattle.std.proofs.Common.{◌≡◌, ◌≢◌, ◌∙◌, ◌↔◌, ap, Bool, Result, Ok, Err, IsOk, OnOk, OnErr, ℕ, ◌<◌, arith, refl, IsTrue, List, length, Contains, slice_set, slice_index_or}
+use Rattle.std.proofs.Common.{◌≡◌, ◌≢◌, ◌∙◌, ◌↔◌, ap, sym, subst, Bool, Result, Ok, Err, IsOk, OnOk, OnErr, ℕ, ◌<◌, arith, refl, IsTrue, List, length, Contains, slice_set, slice_index_or}
 use Rattle.std.proofs.Math.Path.{fun_ext}
 use Rattle.std.proofs.lemmas.Grind.{common_steps}
 use Rattle.std.proofs.lemmas.List.{length-set}
@@ -93,14 +93,25 @@ pub port_changed_on_ok : {X E : Type 0} (r : RegistersView) (w : ℕ) (was new :
 port_changed_on_ok r w was new change (Ok x) ok near read is = port_changed r w was new change ok near read is
 port_changed_on_ok r w was new change (Err e) ok near read is = tt
 
--- it leaves a port in range if it writes only what fits
-pub port_kept : {X E : Type 0} (r : Ranges) (was new : PortView) (change : PortView → PortState) (fits : Bool) (result : Result X E) → IsPortOf r was
+-- and it leaves registers, if it writes only what fits
+port_kept : {X E : Type 0} (r : Ranges) (was new : PortView) (change : PortView → PortState) (fits : Bool) (result : Result X E) → IsPortOf r was
     → (IsOk result ↔ IsTrue fits) → OnOk result (new ≡ record was { state = change was }) → OnErr result (new ≡ was)
     → (IsTrue fits → IsTrue (port_fits r (change was))) → IsPortOf r new
 port_kept r was new change fits (Ok x) ok variant is same good =
     let fit : IsTrue (port_fits r (change was)) = good (variant.0 refl) in
     rw is (record { same = ok.same; fits = fit })
 port_kept r was new change fits (Err e) ok variant is same good = rw same ok
+
+pub registers-written : {X E : Type 0} (r : RegistersView) (w : ℕ) (was new : PortView) (change : PortView → PortState) (fits : Ranges → Bool) (result : Result X E) → IsRegisters r
+    → Contains r.neighbours w → was ≡ slice_index_or r.ports w was
+    → (IsOk result ↔ IsTrue (fits was.ranges)) → OnOk result (new ≡ record was { state = change was }) → OnErr result (new ≡ was)
+    → (IsPortOf r.ranges was → IsTrue (fits r.ranges) → IsTrue (port_fits r.ranges (change was)))
+    → IsRegisters (with_port r w new)
+registers-written r w was new change fits result ok near read variant is same good =
+    let within : w < length r.ports = omega (arith, neighbour_is_node r w ok near, ok.ports) in
+    let had : IsPortOf r.ranges was = subst (IsPortOf r.ranges) (sym read) (ok.ports_fit w was within) in
+    let variant_here = subst (λ ranges. IsOk result ↔ IsTrue (fits ranges)) had.same variant in
+    registers-with_port r w new ok near (port_kept r.ranges was new change (fits r.ranges) result had variant_here is same (good had))
 
 -- the same of values
 pub value_written : (r : RegistersView) (w x : ℕ) → IsRegisters r → Contains r.neighbours w → value_of (with_value r w x) ≡ at (value_of r) w x

@@ -1,20 +1,11 @@
-use Rattle.std.proofs.Common.{rules, Contains}
+use Rattle.std.proofs.Common.{rules}
 use Rattle.data_link.specs.Port.{PortView, counters_fit}
-use Rattle.registers.specs.Registers.{IsPortOf}
-use Rattle.registers.proofs.Places.{registers-with_port, port_kept, port_changed_on_ok}
+use Rattle.registers.proofs.Places.{registers-written, port_changed_on_ok}
 use Rattle.registers.proofs.registers.Registers.set_counters.Goals as goal
 
 pub invariant_of-self : goal.invariant_of-self
 invariant_of-self g c =
-    let was : IsPortOf c.self.inside.ranges c.index_mut.result.now = search rules in
-    let change = λ (p : PortView). record p.state { seq = c.args.seq; last = c.args.last } in
-    let kept : IsPortOf c.self.inside.ranges c.set_counters.new.self =
-    port_kept c.self.inside.ranges c.index_mut.result.now c.set_counters.new.self change (counters_fit c.self.inside.ranges c.args.seq c.args.last) c.set_counters.result was (rw was.same at c.set_counters.ensures.variant) c.set_counters.ensures.ok c.set_counters.ensures.out_of_range (λ fits. search rules) in
-    (c.self.invariant.0, registers-with_port _ _ _ c.self.invariant.1 (search rules) kept)
+    (c.self.invariant.0, registers-written _ c.args.port c.index_mut.result.now c.set_counters.new.self (λ (p : PortView). record p.state { seq = c.args.seq; last = c.args.last }) (λ ranges. counters_fit ranges c.args.seq c.args.last) c.set_counters.result c.self.invariant.1 (search rules) c.index_mut.ensures.value c.set_counters.ensures.variant c.set_counters.ensures.ok c.set_counters.ensures.out_of_range (λ was fits. search rules))
 
 pub returns-clause-port : goal.returns-clause-port
-returns-clause-port g c =
-    let near : Contains c.self.inside.neighbours.items c.args.port = search rules in
-    let change = λ (p : PortView). record p.state { seq = c.args.seq; last = c.args.last } in
-    rw (← c.self.view_is)
-    (port_changed_on_ok _ c.args.port c.index_mut.result.now c.set_counters.new.self change c.set_counters.result c.self.invariant.1 near c.index_mut.ensures.value c.set_counters.ensures.ok)
+returns-clause-port g c = rw (← c.self.view_is) (port_changed_on_ok _ c.args.port c.index_mut.result.now c.set_counters.new.self (λ (p : PortView). record p.state { seq = c.args.seq; last = c.args.last }) c.set_counters.result c.self.invariant.1 (search rules) c.index_mut.ensures.value c.set_counters.ensures.ok)
