@@ -1,8 +1,9 @@
 -- Worlds on two nodes that serve, and worlds that fail in just one way each.
-use Rattle.std.proofs.Common.{◌≡◌, ◌≢◌, ℕ, ◌<◌, ◌≤◌, List, [], ◌∷◌, length, IsTrue, Some, None, IfSome, refl, arith}
+use Rattle.std.proofs.Common.{◌≡◌, ◌≢◌, ℕ, ◌<◌, ◌≤◌, List, [], ◌∷◌, length, IsTrue, Some, None, IfSome, refl, sym, ◌∙◌, false, arith}
 use Rattle.std.proofs.lemmas.Bool.{false≢true}
 use Rattle.std.specs.Prelude.{◌==◌, if◌then◌else◌, IsSome}
 use Rattle.link_model.specs.topology.Network.{IsWalk, IsDistance, IsTrueParent}
+use Rattle.node_core.specs.data_link.Port.{PortState}
 use Rattle.node_core.specs.lock_desk.Desk.{no_desk}
 use Rattle.node_core.specs.State.{LocalState}
 use Rattle.run_model.specs.World.{World}
@@ -47,36 +48,31 @@ one-of_two P not_both u v l k p q =
 
 -- ---- worlds that serve
 
--- the calm world: node 0 is privileged alone, and nobody lends
-pub calm-serves : IsServing calm
-calm-serves = record {
+-- the calm world with other ports serves, if node 1 is not privileged
+abbrev pub with_ports : (ℕ → ℕ → PortState) → World
+with_ports port = record { net = two_nodes; spares = 0; node = λ v. record (calm.node v) { port = port v }; link = calm.link }
+
+serves-with_ports : (port : ℕ → ℕ → PortState) → is_privileged (with_ports port) 1 ≡ false → IsServing (with_ports port)
+serves-with_ports port not_one = record {
   distances = each-distance;
   no_parent = refl;
   some_parent = each-some_parent;
   parents = each-parent;
-  one_privileged = one-of_two (λ v. IsTrue (is_privileged calm v)) (λ a b. false≢true b);
-  one_lending = one-of_two (λ v. IsTrue (is_lending calm v)) (λ a b. false≢true b);
+  one_privileged = one-of_two (λ v. IsTrue (is_privileged (with_ports port) v)) (λ a b. false≢true (sym not_one ∙ b));
+  one_lending = one-of_two (λ v. IsTrue (is_lending (with_ports port) v)) (λ a b. false≢true b);
 }
+
+-- the calm world: node 0 is privileged alone, and nobody lends
+pub calm-serves : IsServing calm
+calm-serves = serves-with_ports (λ v. (calm.node v).port) refl
 
 -- node 0 has copied a wrong distance of node 1
 abbrev pub stale : World
-stale = record {
-  net = two_nodes;
-  spares = 0;
-  node = λ v. record (calm.node v) { port = λ u. record ((calm.node v).port u) { copy = record (((calm.node v).port u).copy) { distance = 2 } } };
-  link = calm.link;
-}
+stale = with_ports (λ v u. record ((calm.node v).port u) { copy = record (((calm.node v).port u).copy) { distance = 2 } })
 
 -- it serves all the same, though the tree is not reached
 pub stale-serves : IsServing stale
-stale-serves = record {
-  distances = each-distance;
-  no_parent = refl;
-  some_parent = each-some_parent;
-  parents = each-parent;
-  one_privileged = one-of_two (λ v. IsTrue (is_privileged stale v)) (λ a b. false≢true b);
-  one_lending = one-of_two (λ v. IsTrue (is_lending stale v)) (λ a b. false≢true b);
-}
+stale-serves = serves-with_ports (λ v u. record ((calm.node v).port u) { copy = record (((calm.node v).port u).copy) { distance = 2 } }) refl
 
 pub stale-tree_not_reached : ¬ IsTreeReached stale
 stale-tree_not_reached tree = let same = (tree.copied 1 0 refl).distance in absurd cc
