@@ -61,6 +61,12 @@ goes-on w last e next fine effect network within matched =
       matched = subst (λ x. AreMatched x next last) same matched;
     }
 
+not-sent : (b u : ℕ) (s : Stamped) (ds : List Note) → b ≢ u → sent_to b (Sent u s ∷ ds) ≡ sent_to b ds
+not-sent b u s ds other = grind (arith, common_steps)
+
+not-taken : (a u : ℕ) (s : Stamped) (ds : List Note) → a ≢ u → taken_from a (Took u s ∷ ds) ≡ taken_from a ds
+not-taken a u s ds other = grind (arith, common_steps)
+
 module _ (w last : World) (account : ℕ → List Note) (v : ℕ) (ds : List Note) (nodes : AreNodes w) (within : IsWithin w) (m : AreMatched w account last) where
   -- only a node has a deed
   somebody : (d : Note) → account v ≡ d ∷ ds → v < w.net.nodes
@@ -74,12 +80,19 @@ module _ (w last : World) (account : ℕ → List Note) (v : ℕ) (ds : List Not
   leads-here : (d : Note) → account v ≡ d ∷ ds → Leads w.net v (w.node v) (d ∷ ds) (last.node v)
   leads-here d is = subst (λ xs. Leads w.net v (w.node v) xs (last.node v)) is (m.nodes v)
 
-  -- what is sent and taken, without one deed
+  -- a part of an account, with one deed and without it
+  part-here : (part : List Note → List Stamped) (d : Note) → account v ≡ d ∷ ds → (s : Stamped) → part (d ∷ ds) ≡ s ∷ part ds → part (account v) ≡ s ∷ part (at account v ds v)
+  part-here part d is s first = ap part is ∙ (first ∙ ap (λ xs. s ∷ part xs) (sym (at-here account v ds)))
+
+  part-there : (part : List Note → List Stamped) (d : Note) → account v ≡ d ∷ ds → (a : ℕ) → (a ≡ v → part (d ∷ ds) ≡ part ds) → part (account a) ≡ part (at account v ds a)
+  part-there part d is a skip = at-each (λ i xs. (i ≡ a) → part (account i) ≡ part xs) account v ds (λ same. ap part is ∙ skip (sym same)) (λ i _ _. refl) a refl
+
+  -- what is sent and taken
   sent-same : (d : Note) → account v ≡ d ∷ ds → (b : ℕ) → sent_to b (d ∷ ds) ≡ sent_to b ds → (a : ℕ) → sent_to b (account a) ≡ sent_to b (at account v ds a)
-  sent-same d is b skip = at-each (λ a xs. sent_to b (account a) ≡ sent_to b xs) account v ds (ap (sent_to b) is ∙ skip) (λ a _. refl)
+  sent-same d is b skip a = part-there (sent_to b) d is a (λ _. skip)
 
   taken-same : (d : Note) → account v ≡ d ∷ ds → (a : ℕ) → taken_from a (d ∷ ds) ≡ taken_from a ds → (b : ℕ) → taken_from a (account b) ≡ taken_from a (at account v ds b)
-  taken-same d is a skip = at-each (λ b xs. taken_from a (account b) ≡ taken_from a xs) account v ds (ap (taken_from a) is ∙ skip) (λ b _. refl)
+  taken-same d is a skip b = part-there (taken_from a) d is b (λ _. skip)
 
   linked : (u b : ℕ) (xs ys : List Stamped) → sent_to b (account u) ≡ xs → taken_from u (account b) ≡ ys
       → IsLinkMatched w.net.capacity (w.link u b) xs ys (last.link u b)
@@ -101,19 +114,11 @@ module _ (w last : World) (account : ℕ → List Note) (v : ℕ) (ds : List Not
 
   -- what v sends to u, and no other link
   sent-here : (u : ℕ) (s : Stamped) → account v ≡ Sent u s ∷ ds → sent_to u (account v) ≡ s ∷ sent_to u (at account v ds v)
-  sent-here u s is =
-      let first : sent_to u (Sent u s ∷ ds) ≡ s ∷ sent_to u ds = grind (arith, common_steps) in
-      ap (sent_to u) is ∙ (first ∙ ap (λ xs. s ∷ sent_to u xs) (sym (at-here account v ds)))
+  sent-here u s is = part-here (sent_to u) (Sent u s) is s (grind (arith, common_steps))
 
   sent-there : (u : ℕ) (s : Stamped) → account v ≡ Sent u s ∷ ds → (a b : ℕ) → ((a ≡ v) × (b ≡ u) → ⊥)
       → sent_to b (account a) ≡ sent_to b (at account v ds a)
-  sent-there u s is a b apart =
-      at-each (λ i xs. (i ≡ a) → sent_to b (account i) ≡ sent_to b xs) account v ds
-      (λ same.
-      let other : b ≢ u = λ e. apart (sym same, e) in
-      let skip : sent_to b (Sent u s ∷ ds) ≡ sent_to b ds = grind (arith, common_steps) in
-      ap (sent_to b) is ∙ skip)
-      (λ i _ _. refl) a refl
+  sent-there u s is a b apart = part-there (sent_to b) (Sent u s) is a (λ same. not-sent b u s ds (λ e. apart (same, e)))
 
   pub sends : (u : ℕ) (s : Stamped) → account v ≡ Sent u s ∷ ds → AllByRecursion (λ t. s.stamp ≤ t) (stamps (taken_from v (at account v ds u)))
       → GoesOn w last (Send v u) (at account v ds)
@@ -147,19 +152,11 @@ module _ (w last : World) (account : ℕ → List Note) (v : ℕ) (ds : List Not
       })) in after
 
   taken-here : (u : ℕ) (s : Stamped) → account v ≡ Took u s ∷ ds → taken_from u (account v) ≡ s ∷ taken_from u (at account v ds v)
-  taken-here u s is =
-      let first : taken_from u (Took u s ∷ ds) ≡ s ∷ taken_from u ds = grind (arith, common_steps) in
-      ap (taken_from u) is ∙ (first ∙ ap (λ xs. s ∷ taken_from u xs) (sym (at-here account v ds)))
+  taken-here u s is = part-here (taken_from u) (Took u s) is s (grind (arith, common_steps))
 
   taken-there : (u : ℕ) (s : Stamped) → account v ≡ Took u s ∷ ds → (a b : ℕ) → ((a ≡ u) × (b ≡ v) → ⊥)
       → taken_from a (account b) ≡ taken_from a (at account v ds b)
-  taken-there u s is a b apart =
-      at-each (λ i xs. (i ≡ b) → taken_from a (account i) ≡ taken_from a xs) account v ds
-      (λ same.
-      let other : a ≢ u = λ e. apart (e, sym same) in
-      let skip : taken_from a (Took u s ∷ ds) ≡ taken_from a ds = grind (arith, common_steps) in
-      ap (taken_from a) is ∙ skip)
-      (λ i _ _. refl) b refl
+  taken-there u s is a b apart = part-there (taken_from a) (Took u s) is b (λ same. not-taken a u s ds (λ e. apart (e, same)))
 
   -- a take of a link on which this item is the oldest
   takes-first : (u : ℕ) (s : Stamped) → account v ≡ Took u s ∷ ds → (x : Item) (rest : List Item) → w.link u v ≡ x ∷ rest → GoesOn w last (Take u v) (at account v ds)
