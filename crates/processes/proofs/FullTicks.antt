@@ -1,5 +1,5 @@
 -- A node that ticks in its turns, and whose loans end, ticks fully once in each such stretch.
-use Rattle.std.proofs.Common.{◌≡◌, ◌⊎◌, inl, inr, ℕ, zero, suc, ◌+◌, ◌*◌, ◌<◌, ◌≤◌, ◌==◌, if◌then◌else◌, ◌&&◌, ◌||◌, max, List, [], ◌∷◌, ◌++◌, Option, Some, None, IsTrue, IsFalse, is_none, is_some, Bool, true, false, refl, ap, ◌∙◌, sym, subst, arith}
+use Rattle.std.proofs.Common.{◌≡◌, ◌⊎◌, inl, inr, ℕ, zero, suc, ◌+◌, ◌*◌, ◌<◌, ◌≤◌, ◌==◌, if◌then◌else◌, ◌&&◌, max, List, [], ◌∷◌, ◌++◌, Option, Some, None, IsTrue, IsFalse, is_none, is_some, Bool, true, false, refl, ap, ◌∙◌, sym, subst, arith}
 use Rattle.std.proofs.lemmas.List.{append_assoc, append-nil}
 use Rattle.std.proofs.lemmas.List.Elements.{Contains-append_cases}
 use Rattle.std.proofs.lemmas.Grind.{common_steps}
@@ -16,31 +16,10 @@ use Rattle.processes.specs.Timing.{after_deed, is_in, is_full, ticks_fully_in}
 use Rattle.processes.specs.Turns.{Turn, TurnsOften}
 use Rattle.processes.specs.Loans.{led, Point, TicksIn, LendsIn, TicksInTurns, NobodyBorrows, LoansEndWithin, LoansKeep, pace_of, TurnsTickFully, PremisesGiveWindows, RecoversInTime, WaitsInTime}
 use Rattle.processes.specs.TimeLaws.{ServesInTime, LendsInTime}
+use Rattle.processes.proofs.Lists.{all-first, all-rest, all-both, all-more, in-none, first-or, left-or, right-or}
 use Rattle.processes.proofs.TurnWindows.{pace-gives-windows}
 
 -- ---- lists
-
-all-first : {X : Type 0} (P : X → Type 0) (xs ys : List X) → AllByRecursion P (xs ++ ys) → AllByRecursion P xs
-all-first P [] ys a = tt
-all-first P (x ∷ xs) ys a = (a.0, all-first P xs ys a.1)
-
-all-rest : {X : Type 0} (P : X → Type 0) (xs ys : List X) → AllByRecursion P (xs ++ ys) → AllByRecursion P ys
-all-rest P [] ys a = a
-all-rest P (x ∷ xs) ys a = all-rest P xs ys a.1
-
-all-both : {X : Type 0} (P : X → Type 0) (xs ys : List X) → AllByRecursion P xs → AllByRecursion P ys → AllByRecursion P (xs ++ ys)
-all-both P [] ys a b = b
-all-both P (x ∷ xs) ys a b = (a.0, all-both P xs ys a.1 b)
-
-all-more : {X : Type 0} (P Q : X → Type 0) (xs : List X) → ((x : X) → P x → Q x) → AllByRecursion P xs → AllByRecursion Q xs
-all-more P Q [] f a = tt
-all-more P Q (x ∷ xs) f a = (f x a.0, all-more P Q xs f a.1)
-
-in-none : {X : Type 0} (x : X) → Contains [] x → ⊥
-in-none x h = grind (arith, common_steps)
-
-first-or : {X : Type 0} (x y : X) (ys : List X) → Contains (y ∷ ys) x → (y ≡ x) ⊎ Contains ys x
-first-or x y ys h = grind (arith, common_steps)
 
 -- an item stands somewhere
 abbrev Split : {X : Type 0} → List X → X → Type 0
@@ -101,14 +80,6 @@ since-deed xs t ys h = (in-time-rest xs (t ∷ ys) h).0
 led-join : (site : Site) (xs ys : List Timed) (x : LocalState) → led site (xs ++ ys) x ≡ led site ys (led site xs x)
 led-join site [] ys x = refl
 led-join site (t ∷ xs) ys x = led-join site xs ys (after_deed site t.deed x)
-
-left-or : (a b : Bool) → IsTrue a → IsTrue (a || b)
-left-or true b h = refl
-left-or false b h = absurd cc
-
-right-or : (a b : Bool) → IsTrue b → IsTrue (a || b)
-right-or true b h = refl
-right-or false b h = h
 
 later-tick : (site : Site) (s e : ℕ) (xs ys : List Timed) (x : LocalState) → IsTrue (ticks_fully_in site s e ys (led site xs x)) → IsTrue (ticks_fully_in site s e (xs ++ ys) x)
 later-tick site s e [] ys x h = h

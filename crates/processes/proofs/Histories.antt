@@ -7,24 +7,15 @@ use Rattle.accounts.specs.Deeds.{Ticks, Sends, Takes, Asks, Leaves}
 use Rattle.processes.specs.Accounts.{Timed}
 use Rattle.processes.specs.Links.{Act, the_accepts, the_gives, accept_at, give_at, accepts_in, gives_in, moment}
 use Rattle.processes.specs.Marks.{Mark, Does, Drops, mark_moment, AreOrdered, done_by, account_of, act_on, history_of}
+use Rattle.processes.proofs.Lists.{all-both, all-more}
 use Rattle.processes.proofs.SameHistory.{AreWeaklyInOrder}
 
 -- one mark's accept at the link from u to v is its accept in u's account
 one-accept : (u v : ℕ) (m : Mark) (acts : List Act) → the_accepts (act_on u v m ++ acts) ≡ accepts_in v (done_by u m) ++ the_accepts acts
-one-accept u v (Does t a Ticks) acts = grind (arith, common_steps)
-one-accept u v (Does t a (Sends b f)) acts = grind (arith, common_steps)
-one-accept u v (Does t a (Takes b f)) acts = grind (arith, common_steps)
-one-accept u v (Does t a (Asks k)) acts = grind (arith, common_steps)
-one-accept u v (Does t a (Leaves k)) acts = grind (arith, common_steps)
-one-accept u v (Drops t a b i) acts = grind (arith, common_steps)
+one-accept u v m acts = grind (arith, common_steps)
 
 one-give : (u v : ℕ) (m : Mark) (acts : List Act) → the_gives (act_on u v m ++ acts) ≡ gives_in u (done_by v m) ++ the_gives acts
-one-give u v (Does t a Ticks) acts = grind (arith, common_steps)
-one-give u v (Does t a (Sends b f)) acts = grind (arith, common_steps)
-one-give u v (Does t a (Takes b f)) acts = grind (arith, common_steps)
-one-give u v (Does t a (Asks k)) acts = grind (arith, common_steps)
-one-give u v (Does t a (Leaves k)) acts = grind (arith, common_steps)
-one-give u v (Drops t a b i) acts = grind (arith, common_steps)
+one-give u v m acts = grind (arith, common_steps)
 
 accepts-join : (v : ℕ) (xs ys : List Timed) → accepts_in v (xs ++ ys) ≡ accepts_in v xs ++ accepts_in v ys
 accepts-join v [] ys = refl
@@ -59,28 +50,20 @@ one-moment u v (Does t a (Asks k)) = tt
 one-moment u v (Does t a (Leaves k)) = tt
 one-moment u v (Drops t a b i) = grind (arith, common_steps)
 
-all-join : {X : Type 0} (P : X → Type 0) (xs ys : List X) → AllByRecursion P xs → AllByRecursion P ys → AllByRecursion P (xs ++ ys)
-all-join P [] ys a b = b
-all-join P (x ∷ xs) ys a b = (a.0, all-join P xs ys a.1 b)
-
-all-lift : {X : Type 0} (P Q : X → Type 0) (xs : List X) → ((x : X) → P x → Q x) → AllByRecursion P xs → AllByRecursion Q xs
-all-lift P Q [] f a = tt
-all-lift P Q (x ∷ xs) f a = (f x a.0, all-lift P Q xs f a.1)
-
 -- acts of later marks are later
 pub acts-later : (u v n : ℕ) (ms : List Mark) → AllByRecursion (λ later. n ≤ mark_moment later) ms → AllByRecursion (λ a. n ≤ moment a) (history_of u v ms)
 acts-later u v n [] all = tt
 acts-later u v n (m ∷ ms) all =
-    all-join (λ a. n ≤ moment a) (act_on u v m) (history_of u v ms)
-    (all-lift (λ a. moment a ≡ mark_moment m) (λ a. n ≤ moment a) (act_on u v m) (λ a e. let l = all.0 in omega (arith, e, l)) (one-moment u v m))
+    all-both (λ a. n ≤ moment a) (act_on u v m) (history_of u v ms)
+    (all-more (λ a. moment a ≡ mark_moment m) (λ a. n ≤ moment a) (act_on u v m) (λ a e. let l = all.0 in omega (arith, e, l)) (one-moment u v m))
     (acts-later u v n ms all.1)
 
 -- at most one act of a mark stands before those of the others
 order-join : (n : ℕ) (xs ys : List Act) → AllByRecursion (λ a. moment a ≡ n) xs → AllByRecursion (λ a. n ≤ moment a) ys → AreWeaklyInOrder ys → AreWeaklyInOrder (xs ++ ys)
 order-join n [] ys same later order = order
 order-join n (x ∷ xs) ys same later order = (
-  all-join (λ b. moment x ≤ moment b) xs ys (all-lift (λ a. moment a ≡ n) (λ b. moment x ≤ moment b) xs (λ b e. let l = same.0 in omega (arith, e, l)) same.1)
-      (all-lift (λ a. n ≤ moment a) (λ b. moment x ≤ moment b) ys (λ b k. let l = same.0 in omega (arith, k, l)) later),
+  all-both (λ b. moment x ≤ moment b) xs ys (all-more (λ a. moment a ≡ n) (λ b. moment x ≤ moment b) xs (λ b e. let l = same.0 in omega (arith, e, l)) same.1)
+      (all-more (λ a. n ≤ moment a) (λ b. moment x ≤ moment b) ys (λ b k. let l = same.0 in omega (arith, k, l)) later),
   order-join n xs ys same.1 later order,
 )
 

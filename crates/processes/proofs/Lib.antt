@@ -1,3 +1,4 @@
+pub mod Lists
 pub mod Changed
 pub mod OneMark
 pub mod Steps

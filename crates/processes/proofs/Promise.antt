@@ -35,18 +35,23 @@ one-history w last account history events p o u v joined =
     (accepts-are u v o.marks ∙ (ap (accepts_in v) (o.nodes u) ∙ sym link.accepted))
     (gives-are u v o.marks ∙ (ap (gives_in u) (o.nodes v) ∙ sym link.given)) (o.losses u v)
 
+-- so the marks hold of the two worlds
+pub all-hold : (w last : World) (account : ℕ → List Timed) (history : ℕ → ℕ → List Act) (events : List Event) → AreProcesses w account history last
+    → (o : IsOrderOf account history events) → Holds w o.marks last
+all-hold w last account history events p o = record {
+  network = p.network;
+  spares = p.spares;
+  nodes = λ v. subst (λ ts. Leads (site_of w.net v) (deeds ts) (w.node v) (last.node v)) (sym (o.nodes v)) (p.nodes v);
+  nobody = λ v out. o.nodes v ∙ p.nobody v out;
+  links = λ u v is.
+      subst (λ acts. Plays w.net.capacity (w.link u v) acts (last.link u v)) (sym (one-history w last account history events p o u v is)) (p.links u v is).plays;
+  nowhere = λ u v out. let none = p.nowhere u v out in (o.losses u v ∙ ap the_losses none.0, none.1);
+}
+
 pub orders-run : NeighboursAreJoined → JoinedBack → JoinedAreNodes → OrdersAreRuns
 orders-run near back joined w last account history events range p o =
-    let holds : Holds w o.marks last = record {
-      network = p.network;
-      spares = p.spares;
-      nodes = λ v. subst (λ ts. Leads (site_of w.net v) (deeds ts) (w.node v) (last.node v)) (sym (o.nodes v)) (p.nodes v);
-      nobody = λ v out. o.nodes v ∙ p.nobody v out;
-      links = λ u v is.
-          subst (λ acts. Plays w.net.capacity (w.link u v) acts (last.link u v)) (sym (one-history w last account history events p o u v is)) (p.links u v is).plays;
-      nowhere = λ u v out. let none = p.nowhere u v out in (o.losses u v ∙ ap the_losses none.0, none.1);
-    } in
-    subst (λ es. (run w es ≡ last) × GoesThrough w es) o.are_events (marks-run near back o.marks w last (λ u v. joined w.net u v range.network) holds)
+    subst (λ es. (run w es ≡ last) × GoesThrough w es) o.are_events
+    (marks-run near back o.marks w last (λ u v. joined w.net u v range.network) (all-hold w last account history events p o))
 
 -- ---- what goes through is without damage
 

@@ -13,6 +13,7 @@ use Rattle.processes.specs.Links.{Act, Accepts, Gives}
 use Rattle.processes.specs.Timing.{passages, passes_in, ticks_fully_in}
 use Rattle.processes.specs.Turns.{Turn, Pace, TurnsOften, GivesOften, Arrives}
 use Rattle.processes.specs.Loans.{led, Point, TicksIn, LendsIn, TicksInTurns, NobodyBorrows, LoansEndWithin, LoansKeep, pace_of}
+use Rattle.processes.proofs.Lists.{in-none, in-one, of-one}
 use Rattle.processes.proofs.TurnWindows.{passes-within}
 
 abbrev turn_at : ℕ → ℕ → Turn
@@ -30,15 +31,6 @@ lent_desk = record { waiting = []; lent = Some 7; left = 0; served = false }
 -- the node lends to ticket 7
 abbrev lending : LocalState → LocalState
 lending s = record s { desk = lent_desk }
-
-in-one : {X : Type 0} (x : X) → Contains (x ∷ []) x
-in-one x = grind (arith, common_steps)
-
-of-one : {X : Type 0} (x y : X) → Contains (x ∷ []) y → y ≡ x
-of-one x y h = grind (arith, common_steps)
-
-in-none : {X : Type 0} (x : X) → Contains [] x → ⊥
-in-none x h = grind (arith, common_steps)
 
 not-both : (b : Bool) → IsTrue b → IsFalse b → ⊥
 not-both true t f = cc

@@ -23,6 +23,7 @@ use Rattle.processes.specs.TimeLaws.{AreBefore, AreSince, world_after}
 use Rattle.processes.specs.Timing.{at_first, passages, passes_in, ticks_fully_in, MovesWithin}
 use Rattle.processes.specs.Turns.{Turn, Pace, TurnsOften, GivesOften, Arrives, KeepsPace, window_of}
 use Rattle.processes.proofs.RowsLinks.{numbered, nothing-yet}
+use Rattle.processes.proofs.Lists.{in-none, in-one, of-one}
 
 abbrev said : Frame
 said = frame_of ((calm.node 0).port 1)
@@ -163,16 +164,6 @@ window-full = refl
 
 abbrev a_turn : Turn
 a_turn = record { begins = 1; ends = 2 }
-
-in-one : {X : Type 0} (x : X) → Contains (x ∷ []) x
-in-one x = (0, omega arith, refl)
-
-of-one : {X : Type 0} (x y : X) → Contains (x ∷ []) y → y ≡ x
-of-one x y (zero, l, is) = sym is
-of-one x y (suc k, l, is) = absurd (omega (arith, l))
-
-in-none : {X : Type 0} (x : X) → Contains [] x → ⊥
-in-none x (k, l, is) = omega (arith, l)
 
 often : (v : ℕ) → v < 2 → TurnsOften three 0 3 (a_turn ∷ [])
 often v below zero from to = (a_turn, in-one a_turn, omega arith, omega arith, omega arith)

@@ -1,7 +1,6 @@
 -- Small accounts, turns and histories, seen through.
 use Rattle.std.proofs.Common.{◌≡◌, ℕ, [], ◌∷◌, None, Some, true, false, refl, ap, arith}
 use Rattle.std.proofs.lemmas.Grind.{common_steps}
-use Rattle.std.specs.List.{Contains}
 use Rattle.topology.specs.declared.frame.Frame.{Frame}
 use Rattle.node_core.specs.Site.{Site}
 use Rattle.node_core.specs.State.{LocalState}
@@ -10,6 +9,7 @@ use Rattle.accounts.specs.Deeds.{Ticks, Leaves}
 use Rattle.processes.specs.Links.{Accepts, Gives, Loses}
 use Rattle.processes.specs.Timing.{passages, passes_in, ticks_fully_in}
 use Rattle.processes.specs.Turns.{Turn, Pace, TurnsOften, GivesOften, Arrives}
+use Rattle.processes.proofs.Lists.{in-none, in-one, of-one}
 
 -- one frame was under way; a second is accepted at 5; they are given at 7 and at 9
 oldest-first : (f : Frame) → passages (None ∷ []) (Accepts 5 f ∷ Gives 7 f ∷ Gives 9 f ∷ []) ≡ record { accepted = None; given = 7 } ∷ record { accepted = Some 5; given = 9 } ∷ []
@@ -48,15 +48,6 @@ five = record { turn = 5; repeat = 8; delay = 1; full = 5 }
 
 abbrev turn_at : ℕ → ℕ → Turn
 turn_at begins ends = record { begins = begins; ends = ends }
-
-in-one : {X : Type 0} (x : X) → Contains (x ∷ []) x
-in-one x = grind (arith, common_steps)
-
-of-one : {X : Type 0} (x y : X) → Contains (x ∷ []) y → y ≡ x
-of-one x y h = grind (arith, common_steps)
-
-in-none : {X : Type 0} (x : X) → Contains [] x → ⊥
-in-none x h = grind (arith, common_steps)
 
 a-turn-in-time : TurnsOften five 0 5 (turn_at 1 3 ∷ [])
 a-turn-in-time s from to = (turn_at 1 3, in-one (turn_at 1 3), omega (arith, to), omega arith, omega arith)

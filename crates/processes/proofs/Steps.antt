@@ -14,7 +14,7 @@ use Rattle.lock_desk.specs.declared.fault.AskFault.{AskFault}
 use Rattle.node_core.specs.Site.{site_of}
 use Rattle.node_core.specs.State.{LocalState}
 use Rattle.node_core.specs.Step.{taken, ticked}
-use Rattle.run_model.specs.World.{World, with_node, with_link}
+use Rattle.run_model.specs.World.{World, at_pair, with_node, with_link}
 use Rattle.run_model.specs.Step.{refusal, step, changed, handed_over, has_room, desk_fault, unless}
 use Rattle.run_model.specs.declared.event.Event.{Event}
 use Rattle.run_model.specs.declared.event.Event.TheVariants.{Send, Take, Lose, Tick, Ask, Leave}
@@ -157,6 +157,25 @@ module _ (near : NeighboursAreJoined) (back : JoinedBack) (w last : World) (ms :
   joined-to : (v u : ℕ) → Contains (neighbours_of w.net v) u → IsTrue (are_joined w.net.edges v u)
   joined-to v u there = ((near w.net v u).0 there).1
 
+  -- a mark that changes one link alone leaves all others, and what holds of them
+  links-next : (m : Mark) (u v : ℕ) (xs : List Item) → Holds w (m ∷ ms) last → ((a b : ℕ) → ((a ≡ u) × (b ≡ v) → ⊥) → history_of a b (m ∷ ms) ≡ history_of a b ms)
+      → Plays w.net.capacity xs (history_of u v ms) (last.link u v)
+      → (a b : ℕ) → IsTrue (are_joined w.net.edges a b) → Plays w.net.capacity (at_pair w.link u v xs a b) (history_of a b ms) (last.link a b)
+  links-next m u v xs h there here =
+      at_pair-each (λ a b ys. IsTrue (are_joined w.net.edges a b) → Plays w.net.capacity ys (history_of a b ms) (last.link a b)) w.link u v xs
+      (λ _. here)
+      (λ a b apart is. subst (λ acts. Plays w.net.capacity (w.link a b) acts (last.link a b)) (there a b apart) (h.links a b is))
+
+  nowhere-next : (m : Mark) (u v : ℕ) (xs : List Item) → Holds w (m ∷ ms) last → ((a b : ℕ) → ((a ≡ u) × (b ≡ v) → ⊥) → history_of a b (m ∷ ms) ≡ history_of a b ms)
+      → IsTrue (are_joined w.net.edges u v)
+      → (a b : ℕ) → IsFalse (are_joined w.net.edges a b) → (the_losses (history_of a b ms) ≡ []) × (last.link a b ≡ at_pair w.link u v xs a b)
+  nowhere-next m u v xs h there joined =
+      at_pair-each (λ a b ys. IsFalse (are_joined w.net.edges a b) → (the_losses (history_of a b ms) ≡ []) × (last.link a b ≡ ys)) w.link u v xs
+      (λ out. absurd (not-apart joined out))
+      (λ a b apart out. let was = h.nowhere a b out in (ap the_losses (sym (there a b apart)) ∙ was.0, was.1)) where
+        not-apart : IsTrue (are_joined w.net.edges u v) → IsFalse (are_joined w.net.edges u v) → ⊥
+        not-apart is out = grind (arith, common_steps)
+
   pub ticks : (t v : ℕ) → Holds w (Does t v Ticks ∷ ms) last → GoesOn w last (Tick v) ms
   ticks t v h =
       let now = tick-step w v (somebody w last t v Ticks ms h) in
@@ -186,22 +205,14 @@ module _ (near : NeighboursAreJoined) (back : JoinedBack) (w last : World) (ms :
       let now = send-step w v u fine here.0 in
       let new = w.link v u ++ item.Frame (frame_of ((w.node v).port u)) ∷ [] in
       let newer : w.link v u ++ item.Frame f ∷ [] ≡ new = ap (λ g. w.link v u ++ item.Frame g ∷ []) own.1 in
-      let not-nowhere : (a b : ℕ) → IsFalse (are_joined w.net.edges a b) → (a ≡ v) × (b ≡ u) → ⊥ = λ a b apart same. no-joined joined apart same in
       goes-on w last (with_link w v u new) (Send v u) ms (fine, now.0) now.1 refl (record {
         network = h.network;
         spares = h.spares;
         nodes = λ a. subst (λ s. Leads (site_of w.net a) (deeds (account_of a ms)) s (last.node a)) (at-same-at w.node v a) (nodes-next w last ms t v d h a);
         nobody = nobody-next w last ms t v d h;
-        links = at_pair-each (λ a b xs. IsTrue (are_joined w.net.edges a b) → Plays w.net.capacity xs (history_of a b ms) (last.link a b)) w.link v u new
-            (λ _. subst (λ xs. Plays w.net.capacity xs (history_of v u ms) (last.link v u)) newer here.1)
-            (λ a b apart is. subst (λ xs. Plays w.net.capacity (w.link a b) xs (last.link a b)) (send-there t v u f ms a b apart) (h.links a b is));
-        nowhere = at_pair-each (λ a b xs. IsFalse (are_joined w.net.edges a b) → (the_losses (history_of a b ms) ≡ []) × (last.link a b ≡ xs)) w.link v u new
-            (λ out. absurd (not-nowhere v u out (refl, refl)))
-            (λ a b apart out. let was = h.nowhere a b out in (ap the_losses (sym (send-there t v u f ms a b apart)) ∙ was.0, was.1));
+        links = links-next (Does t v d) v u new h (send-there t v u f ms) (subst (λ xs. Plays w.net.capacity xs (history_of v u ms) (last.link v u)) newer here.1);
+        nowhere = nowhere-next (Does t v d) v u new h (send-there t v u f ms) joined;
       }) where
-        no-joined : {a b : ℕ} → IsTrue (are_joined w.net.edges v u) → IsFalse (are_joined w.net.edges a b) → (a ≡ v) × (b ≡ u) → ⊥
-        no-joined joined apart same = grind (arith, common_steps)
-
         at-same-at : (f : ℕ → LocalState) (k i : ℕ) → at f k (f k) i ≡ f i
         at-same-at f k i = ap (λ g. g i) (at-same f k)
 
@@ -216,18 +227,13 @@ module _ (near : NeighboursAreJoined) (back : JoinedBack) (w last : World) (ms :
       let rest = here.0 in
       let some : 0 < length (w.link u v) = subst (λ xs. 0 < length xs) (sym here.1) (omega arith) in
       let now = take-step w u v (item.Frame f) rest fine here.1 in
-      let not-nowhere : IsFalse (are_joined w.net.edges u v) → ⊥ = λ apart. grind (arith, common_steps) in
       goes-on w last (with_link (with_node w v (taken (site_of w.net v) u (item.Frame f) (w.node v))) u v rest) (Take u v) ms (fine, some) now refl (record {
         network = h.network;
         spares = h.spares;
         nodes = nodes-next w last ms t v d h;
         nobody = nobody-next w last ms t v d h;
-        links = at_pair-each (λ a b xs. IsTrue (are_joined w.net.edges a b) → Plays w.net.capacity xs (history_of a b ms) (last.link a b)) w.link u v rest
-            (λ _. here.2)
-            (λ a b apart is. subst (λ xs. Plays w.net.capacity (w.link a b) xs (last.link a b)) (take-there t v u f ms a b apart) (h.links a b is));
-        nowhere = at_pair-each (λ a b xs. IsFalse (are_joined w.net.edges a b) → (the_losses (history_of a b ms) ≡ []) × (last.link a b ≡ xs)) w.link u v rest
-            (λ out. absurd (not-nowhere out))
-            (λ a b apart out. let was = h.nowhere a b out in (ap the_losses (sym (take-there t v u f ms a b apart)) ∙ was.0, was.1));
+        links = links-next (Does t v d) u v rest h (take-there t v u f ms) here.2;
+        nowhere = nowhere-next (Does t v d) u v rest h (take-there t v u f ms) joined;
       })
 
   pub drops : (t u v i : ℕ) → Holds w (Drops t u v i ∷ ms) last → GoesOn w last (Lose u v i) ms
@@ -237,18 +243,13 @@ module _ (near : NeighboursAreJoined) (back : JoinedBack) (w last : World) (ms :
       = subst (λ xs. Plays w.net.capacity (w.link u v) xs (last.link u v)) (drop-here t u v i ms) (h.links u v joined) in
       let now = lose-step w u v i (nodes u v joined) joined here.0 in
       let new = remove (w.link u v) i in
-      let not-nowhere : IsFalse (are_joined w.net.edges u v) → ⊥ = λ apart. grind (arith, common_steps) in
       goes-on w last (with_link w u v new) (Lose u v i) ms now.0 now.1 refl (record {
         network = h.network;
         spares = h.spares;
         nodes = h.nodes;
         nobody = h.nobody;
-        links = at_pair-each (λ a b xs. IsTrue (are_joined w.net.edges a b) → Plays w.net.capacity xs (history_of a b ms) (last.link a b)) w.link u v new
-            (λ _. here.1)
-            (λ a b apart is. subst (λ xs. Plays w.net.capacity (w.link a b) xs (last.link a b)) (drop-there t u v i ms a b apart) (h.links a b is));
-        nowhere = at_pair-each (λ a b xs. IsFalse (are_joined w.net.edges a b) → (the_losses (history_of a b ms) ≡ []) × (last.link a b ≡ xs)) w.link u v new
-            (λ out. absurd (not-nowhere out))
-            (λ a b apart out. let was = h.nowhere a b out in (ap the_losses (sym (drop-there t u v i ms a b apart)) ∙ was.0, was.1));
+        links = links-next (Drops t u v i) u v new h (drop-there t u v i ms) here.1;
+        nowhere = nowhere-next (Drops t u v i) u v new h (drop-there t u v i ms) joined;
       }) where
         on-link : (b : Bool) → are_joined w.net.edges u v ≡ b → IsTrue b
         on-link true e = refl

@@ -9,6 +9,7 @@ use Rattle.processes.specs.Accounts.{Timed}
 use Rattle.processes.specs.Links.{Act}
 use Rattle.processes.specs.Timing.{Passage, passages, at_first, is_in, is_since, is_full, after_deed, passes_in, ticks_fully_in}
 use Rattle.processes.specs.Turns.{Turn, Pace, window_of, TurnsOften, GivesOften, Arrives, PaceGivesWindows}
+use Rattle.processes.proofs.Lists.{in-none, first-or, left-or, right-or}
 
 -- a longer stretch holds the tick too
 longer-ticks : (site : Site) (s d e : ℕ) (ts : List Timed) (x : LocalState) → d ≤ e → IsTrue (ticks_fully_in site s d ts x) → IsTrue (ticks_fully_in site s e ts x)
@@ -30,28 +31,15 @@ longer-ticks site s d e (t ∷ ts) x l h =
 
 -- a passage inside the stretch
 one-passes : (s e a : ℕ) (p : Passage) (ps : List Passage) → Contains ps p → p.accepted ≡ Some a → s ≤ a → a ≤ p.given → p.given < e → IsTrue (passes_in s e ps)
-one-passes s e a p [] there is since later soon = absurd (no-more there) where
-  no-more : {X : Type 0} {x : X} → Contains [] x → ⊥
-  no-more h = grind (arith, common_steps)
+one-passes s e a p [] there is since later soon = absurd (in-none p there)
 one-passes s e a p (q ∷ ps) there is since later soon = by-place (first-or p q ps there) (one-passes s e a p ps) where
-  first-or : (p q : Passage) (ps : List Passage) → Contains (q ∷ ps) p → (q ≡ p) ⊎ Contains ps p
-  first-or p q ps h = grind (arith, common_steps)
-
   inside : (s e a : ℕ) (p : Passage) → p.accepted ≡ Some a → s ≤ a → a ≤ p.given → p.given < e → IsTrue (is_since s p.accepted && is_in s e p.given)
   inside s e a p is since later soon = grind (arith, common_steps)
 
-  here : (a b : Bool) → IsTrue a → IsTrue (a || b)
-  here true b h = refl
-  here false b h = absurd cc
-
-  there-too : (a b : Bool) → IsTrue b → IsTrue (a || b)
-  there-too true b h = refl
-  there-too false b h = h
-
   by-place : (q ≡ p) ⊎ Contains ps p → (Contains ps p → p.accepted ≡ Some a → s ≤ a → a ≤ p.given → p.given < e → IsTrue (passes_in s e ps)) → IsTrue (passes_in s e (q ∷ ps))
   by-place (inl same) again =
-      here (is_since s q.accepted && is_in s e q.given) (passes_in s e ps) (subst (λ x. IsTrue (is_since s x.accepted && is_in s e x.given)) (sym same) (inside s e a p is since later soon))
-  by-place (inr rest) again = there-too (is_since s q.accepted && is_in s e q.given) (passes_in s e ps) (again rest is since later soon)
+      left-or (is_since s q.accepted && is_in s e q.given) (passes_in s e ps) (subst (λ x. IsTrue (is_since s x.accepted && is_in s e x.given)) (sym same) (inside s e a p is since later soon))
+  by-place (inr rest) again = right-or (is_since s q.accepted && is_in s e q.given) (passes_in s e ps) (again rest is since later soon)
 
 -- given in the first turn that begins `repeat` later, and taken in the first that begins `delay` after that
 pub passes-within : (pace : Pace) (start until s e : ℕ) (from to : List Turn) (acts : List Act) (passed : List Passage) → TurnsOften pace start until from → TurnsOften pace start until to

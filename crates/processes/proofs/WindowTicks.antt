@@ -13,6 +13,7 @@ use Rattle.run_model.specs.Sweep.{is_full_tick, has_full_tick}
 use Rattle.accounts.specs.Deeds.{Deed, Ticks, Sends, Takes, Asks, Leaves}
 use Rattle.processes.specs.Marks.{Mark, Does, Drops, event_of, mark_moment, account_of}
 use Rattle.processes.specs.Timing.{after_deed, is_in, is_full, ticks_fully_in}
+use Rattle.processes.proofs.Lists.{left-or, right-or}
 use Rattle.processes.proofs.OneMark.{done-here, done-there, take-here}
 use Rattle.processes.proofs.Steps.{Holds, AreNodes, is-own, somebody, tick-step, ask-step, leave-step, take-step, take-fine}
 use Rattle.processes.proofs.Runs.{mark-goes-on}
@@ -89,14 +90,6 @@ full-here w v x is none = grind (arith, common_steps)
 
 since-moment : (s e t : ℕ) → IsTrue (is_in s e t) → 2 * s ≤ suc (2 * t)
 since-moment s e t i = grind (arith, common_steps)
-
-left-or : (a b : Bool) → IsTrue a → IsTrue (a || b)
-left-or true b h = refl
-left-or false b h = absurd cc
-
-right-or : (a b : Bool) → IsTrue b → IsTrue (a || b)
-right-or true b h = refl
-right-or false b h = h
 
 module _ (near : NeighboursAreJoined) (back : JoinedBack) where
   -- the event of a mark does to each node what the mark says

@@ -18,18 +18,18 @@ use Rattle.run_model.specs.Laws.{NetworkStays, RangesStay, SweepsJoin}
 use Rattle.run_model.specs.declared.event.Event.{Event}
 use Rattle.convergence.specs.Sharp.{SharpHeadline, WorldConvergesSooner}
 use Rattle.convergence.specs.Service.{WaitingAreServed}
-use Rattle.accounts.specs.Deeds.{Leads}
-use Rattle.processes.specs.Accounts.{Timed, deeds}
-use Rattle.processes.specs.Links.{Act, Plays, the_losses, moment}
+use Rattle.processes.specs.Accounts.{Timed}
+use Rattle.processes.specs.Links.{Act, Plays, moment}
 use Rattle.processes.specs.Marks.{Mark, event_of, mark_moment, AreOrdered, account_of, act_on, history_of, IsOrderOf}
 use Rattle.processes.specs.Through.{GoesThrough}
 use Rattle.processes.specs.Together.{AreProcesses}
 use Rattle.processes.specs.Timing.{ticks_fully_in, at_first, passages, is_since, passes_in, MovesWithin}
 use Rattle.processes.specs.TimeLaws.{AreBefore, AreSince, world_after, WindowsAreSweeps, ServesInTime, LendsInTime}
+use Rattle.processes.proofs.Lists.{all-first, all-both, all-more}
 use Rattle.processes.proofs.Steps.{Holds, AreNodes}
 use Rattle.processes.proofs.Runs.{marks-run}
 use Rattle.processes.proofs.Histories.{acts-later, one-moment}
-use Rattle.processes.proofs.Promise.{one-history, goes-undamaged, goes-first, lends-after}
+use Rattle.processes.proofs.Promise.{one-history, all-hold, goes-undamaged, goes-first, lends-after}
 use Rattle.processes.proofs.WindowTicks.{holds-after, ticks-after, ticks-inside}
 use Rattle.processes.proofs.WindowLinks.{same-length, NoneSince, early, AreAlike, links-inside}
 
@@ -44,14 +44,6 @@ run-join w (x ∷ xs) ys = run-join (step w x) xs ys
 history-join : (u v : ℕ) (xs ys : List Mark) → history_of u v (xs ++ ys) ≡ history_of u v xs ++ history_of u v ys
 history-join u v [] ys = refl
 history-join u v (x ∷ xs) ys = ap (λ acts. act_on u v x ++ acts) (history-join u v xs ys) ∙ sym (append_assoc (act_on u v x) (history_of u v xs) (history_of u v ys))
-
-all-both : {X : Type 0} (P : X → Type 0) (xs ys : List X) → AllByRecursion P xs → AllByRecursion P ys → AllByRecursion P (xs ++ ys)
-all-both P [] ys a b = b
-all-both P (x ∷ xs) ys a b = (a.0, all-both P xs ys a.1 b)
-
-all-more : {X : Type 0} (P Q : X → Type 0) (xs : List X) → ((x : X) → P x → Q x) → AllByRecursion P xs → AllByRecursion Q xs
-all-more P Q [] f a = tt
-all-more P Q (x ∷ xs) f a = (f x a.0, all-more P Q xs f a.1)
 
 acts-earlier : (u v n : ℕ) (ms : List Mark) → AllByRecursion (λ m. mark_moment m < n) ms → AllByRecursion (λ a. moment a < n) (history_of u v ms)
 acts-earlier u v n [] all = tt
@@ -75,10 +67,6 @@ cut n (m ∷ ms) o = cut-first n m ms o (cut n ms o.1) (cases_lt (mark_moment m)
 ordered-later : (xs ys : List Mark) → AreOrdered (xs ++ ys) → AreOrdered ys
 ordered-later [] ys o = o
 ordered-later (x ∷ xs) ys o = ordered-later xs ys o.1
-
-all-first : {X : Type 0} (P : X → Type 0) (xs ys : List X) → AllByRecursion P (xs ++ ys) → AllByRecursion P xs
-all-first P [] ys a = tt
-all-first P (x ∷ xs) ys a = (a.0, all-first P xs ys a.1)
 
 ordered-first : (xs ys : List Mark) → AreOrdered (xs ++ ys) → AreOrdered xs
 ordered-first [] ys o = tt
@@ -182,18 +170,6 @@ module _ (near : NeighboursAreJoined) (back : JoinedBack) where
   module _ (are-joined : JoinedAreNodes) where
     nodes-of : (w : World) → IsWorldInRange w → AreNodes w
     nodes-of w range = λ u v. are-joined w.net u v range.network
-
-    all-hold : (w last : World) (account : ℕ → List Timed) (history : ℕ → ℕ → List Act) (events : List Event) → AreProcesses w account history last
-        → (o : IsOrderOf account history events) → Holds w o.marks last
-    all-hold w last account history events p o = record {
-      network = p.network;
-      spares = p.spares;
-      nodes = λ v. subst (λ ts. Leads (site_of w.net v) (deeds ts) (w.node v) (last.node v)) (sym (o.nodes v)) (p.nodes v);
-      nobody = λ v out. o.nodes v ∙ p.nobody v out;
-      links = λ u v is.
-          subst (λ acts. Plays w.net.capacity (w.link u v) acts (last.link u v)) (sym (one-history w last account history events p o u v is)) (p.links u v is).plays;
-      nowhere = λ u v out. let none = p.nowhere u v out in (o.losses u v ∙ ap the_losses none.0, none.1);
-    }
 
     all-move : (window start until : ℕ) (w last : World) (account : ℕ → List Timed) (history : ℕ → ℕ → List Act) (events : List Event) → AreProcesses w account history last
         → (o : IsOrderOf account history events) → MovesWithin window start until w account history → Moves window start until w o.marks
