@@ -2,7 +2,7 @@
 use Rattle.std.proofs.Common.{◌≡◌, ℕ, ◌+◌, ◌-◌, ◌<◌, List, [], ◌++◌, length, take, drop, Option, None, Some, ap, sym, ◌∙◌, arith, append_assoc, append-nil}
 use Rattle.std.specs.Prelude.{MatchOption, ⊤, option_map}
 use Rattle.std.proofs.lemmas.Grind.{common_steps}
-use Rattle.std.proofs.lemmas.List.{take-append-drop, take_all, length-drop}
+use Rattle.std.proofs.lemmas.List.{take-append-drop, take_all, length-drop, drop-drop}
 use Rattle.std.proofs.Math.Seq.{take-add}
 use Rattle.topology.specs.declared.frame.Frame.{Frame}
 use Rattle.topology.specs.declared.frame.Ranges.{Ranges}
@@ -19,7 +19,7 @@ goes_both : (xs ys : List ℕ) (before between after : Option (List ℕ)) → Go
 goes_both xs ys None between after first second = grind (arith, common_steps)
 goes_both xs ys (Some bytes) between after first second = grind (arith, common_steps)
 
-rest_of : (bytes : List ℕ) (n : ℕ) → take (length bytes - n) (drop n bytes) ≡ drop n bytes
+pub rest_of : (bytes : List ℕ) (n : ℕ) → take (length bytes - n) (drop n bytes) ≡ drop n bytes
 rest_of bytes n = let len = length-drop n bytes in take_all (length bytes - n) (drop n bytes) (omega (arith, len))
 
 pub goes_more : (bytes : List ℕ) (n count : ℕ) (before between after : Option (List ℕ)) → GoesOn (take n bytes) before between
@@ -152,6 +152,13 @@ module _ {P : Type 0} (gave took : P → Option (List ℕ)) (old : Option P) (be
         | Some xs ↦ λ m. append_assoc xs (take count left) (drop count left) ∙ ap (λ ys. xs ++ ys) (take-append-drop count left) ∙ m
       ] in
       rw (goes, is, append-nil lines) (by_took (took before) k)
+
+  -- so some of a line was written, and what was pulled stands
+  pub written_on : (line : List ℕ) (sent count : ℕ) (reader : Kept) (waits : List ℕ) → GoesOn (take count (drop sent line)) (took before) (took after) → gave after ≡ gave before
+      → ((lines : List ℕ) → Pushes took lines old (drop sent line) → Pushes took (lines ++ []) (Some after) (drop (sent + count) line))
+      × ((q : Ranges) (start : List ℕ) (frames : List Frame) → Pulls q gave start frames old reader waits → Pulls q gave start (frames ++ []) (Some after) reader waits)
+  written_on line sent count reader waits goes same =
+      (pushes_front count (drop sent line) (drop (sent + count) line) goes (sym (drop-drop count sent line)), pulls_none same reader waits)
 
 -- the pipe was there
 pub asked : {X : Type 0} (o : Option X) (x : X) (A B : Type 0) → o ≡ Some x → B → MatchOption o A (λ y. B)
