@@ -7,6 +7,7 @@ use Rattle.node_connections.specs.declared.clients.Client.{Client}
 use Rattle.node_connections.specs.declared.clients.Clients.{Clients}
 use Rattle.node_connections.specs.Lives.{AllRead, IsOfLive, IsReadAt, LivesAt, LiveOn, ReadsAt, Stays, Then}
 use Rattle.node_connections.proofs.GoingOut.{none-in_empty}
+use Rattle.node_connections.proofs.Lives.{stays-at}
 use Rattle.node_connections.proofs.Places.{below-or-last}
 
 module _ {P : Type 0} (gave took : P → Option (List ℕ)) (counts : P → Counts) where
@@ -24,30 +25,25 @@ module _ {P : Type 0} (gave took : P → Option (List ℕ)) (counts : P → Coun
   pub read-gone : (x y : Option (Client P)) → y ≡ None → IsReadAt gave took counts x y
   read-gone x y e = subst (λ z. IsReadAt gave took counts x z) (sym e) tt
 
-  -- it lives before it is read, or after that
-  pub read-then : (x y z : Option (Client P)) → IsReadAt gave took counts x y → LivesAt gave took counts y z → IsReadAt gave took counts x z
-  read-then x y None f g = tt
-  read-then x None (Some c) f g = elim g [ ]
-  read-then None (Some b) (Some c) f g = elim f [ ]
-  read-then (Some a) (Some b) (Some c) f g = record {
-    before = f.before;
-    after = f.after;
-    lives = f.lives;
-    read = f.read;
-    lives_on = Then f.lives_on g;
-  }
-
-  pub then-read : (x y z : Option (Client P)) → LivesAt gave took counts x y → IsReadAt gave took counts y z → IsReadAt gave took counts x z
-  then-read x y None f g = tt
-  then-read x None (Some c) f g = elim g [ ]
-  then-read None (Some b) (Some c) f g = elim f [ ]
-  then-read (Some a) (Some b) (Some c) f g = record {
+  -- it lives before it is read, and after that
+  between : (w x y z : Option (Client P)) → LivesAt gave took counts w x → IsReadAt gave took counts x y → LivesAt gave took counts y z → IsReadAt gave took counts w z
+  between w x y None f g h = tt
+  between w x None (Some d) f g h = elim h [ ]
+  between w None (Some c) (Some d) f g h = elim g [ ]
+  between None (Some b) (Some c) (Some d) f g h = elim f [ ]
+  between (Some a) (Some b) (Some c) (Some d) f g h = record {
     before = g.before;
     after = g.after;
     lives = Then f g.lives;
     read = g.read;
-    lives_on = g.lives_on;
+    lives_on = Then g.lives_on h;
   }
+
+  pub read-then : (x y z : Option (Client P)) → IsReadAt gave took counts x y → LivesAt gave took counts y z → IsReadAt gave took counts x z
+  read-then x y z f g = between x x y z (stays-at gave took counts x) f g
+
+  pub then-read : (x y z : Option (Client P)) → LivesAt gave took counts x y → IsReadAt gave took counts y z → IsReadAt gave took counts x z
+  then-read x y z f g = between x y z z f g (stays-at gave took counts z)
 
 module _ {P A : Type 0} (gave took : P → Option (List ℕ)) (counts : P → Counts) where
   pub all-of_none : (old : Clients P A) → slab_len old.table ≡ 0 → AllRead gave took counts old old

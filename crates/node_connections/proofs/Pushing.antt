@@ -1,12 +1,15 @@
 -- What a port's pipe took goes on from call to call.
-use Rattle.std.proofs.Common.{◌≡◌, ℕ, List, ◌++◌, Option, None, Some, ap, sym, subst, ◌∙◌, append-nil, []}
+use Rattle.std.proofs.Common.{◌≡◌, ℕ, Bool, List, ◌++◌, Option, None, Some, ap, refl, sym, subst, ◌∙◌, append-nil, []}
 use Rattle.std.specs.Prelude.{MatchOption, ⊤}
 use Rattle.socket_links.specs.Counts.{Counts}
 use Rattle.socket_links.specs.declared.link.SocketLink.{SocketLink}
+use Rattle.socket_links.specs.declared.link.Offer.{Offer}
 use Rattle.socket_links.specs.declared.link.Offer.TheVariants as offer
 use Rattle.socket_links.specs.declared.writing.Flow.{Flow}
 use Rattle.socket_links.specs.declared.writing.Flow.TheVariants as flow
 use Rattle.socket_links.specs.Links.{unsent, IsPushed, Offered, Pushed, PushesOn}
+use Rattle.node_connections.specs.declared.port.NodePort.{NodePort}
+use Rattle.node_connections.specs.Speaking.{Follows, OffersLine}
 
 matched : {X : Type 0} (o : Option X) (A B : X → Type 0) → ((x : X) → A x → B x) → MatchOption o ⊤ A → MatchOption o ⊤ B
 matched None A B f h = h
@@ -36,3 +39,9 @@ module _ {P : Type 0} (took : P → Option (List ℕ)) where
   -- nothing at all
   pub stays-on : (link : SocketLink P) → PushesOn took [] link link
   stays-on link lines was = subst (λ xs. IsPushed took xs link) (sym (append-nil lines)) was
+
+-- the answer of the link to a line is the port's
+pub offers-line : {P : Type 0} (gave took : P → Option (List ℕ)) (counts : P → Counts) (line : List ℕ) (old : NodePort P) (link : SocketLink P) (answer : Offer) (new : NodePort P) (is_taken : Bool)
+    → Offered line old.link link answer → Follows gave took counts answer (record old { link = link }) new is_taken → OffersLine gave took counts line old new is_taken
+offers-line gave took counts line old link answer new is_taken offered follows =
+    record { answer = answer; accepted = record old { link = link }; offered = offered; stuck = refl; greeting = refl; follows = follows }

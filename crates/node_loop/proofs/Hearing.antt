@@ -1,7 +1,9 @@
 -- Connections that come, and frames that come on them, one after the other.
-use Rattle.std.proofs.Common.{◌≡◌, ◌≢◌, ◌<◌, ◌≤◌, ◌+◌, ℕ, List, ◌∷◌, ◌++◌, Contains, Option, slice_get, refl, inl, inr, subst, ap, arith, ◌∙◌, append-nil, []}
+use Rattle.std.proofs.Common.{◌≡◌, ◌≢◌, ◌<◌, ◌≤◌, ◌+◌, ℕ, List, ◌∷◌, ◌++◌, Contains, Option, length, slice_get, slice_index_or, refl, inl, inr, subst, ap, arith, ◌∙◌, append-nil, []}
 use Rattle.std.proofs.lemmas.Grind.{common_steps}
+use Rattle.std.specs.Prelude.{slice_set}
 use Rattle.std.proofs.lemmas.Bool.{cases_lt}
+use Rattle.std.proofs.lemmas.List.{length-set}
 use Rattle.topology.specs.declared.frame.Frame.{Frame}
 use Rattle.topology.specs.declared.frame.Ranges.{Ranges}
 use Rattle.link_model.specs.declared.item.Item.TheVariants as item
@@ -15,7 +17,7 @@ use Rattle.node_loop.specs.Hearing.{Hears, TakesAt}
 use Rattle.node_connections.specs.Ports.{AtBoth}
 use Rattle.node_loop.proofs.Became.{joins, one, stays, taken-join}
 use Rattle.node_connections.proofs.Places.{apart, below-or-last, none-below, past}
-use Rattle.node_connections.proofs.Hearing.{Same, both-join, both-same, comes-end, pulls-same}
+use Rattle.node_connections.proofs.Hearing.{Same, both-join, both-same, both-set, comes-end, pulls-same}
 
 module _ {P : Type 0} where
   -- takes at one port
@@ -56,6 +58,14 @@ module _ {P : Type 0} where
       others = λ w n.
           (taken-join w f.takes.deeds g.takes.deeds ∙ (ap (λ zs. zs ++ taken_from w g.takes.deeds) (f.others w n).0 ∙ (g.others w n).0), (g.others w n).1 ∙ (f.others w n).1);
     }
+
+  -- one port changed: there are as many ports, and it stands to its old one as the change says
+  pub counted-set : (ports : List (NodePort P)) (i : ℕ) (q : NodePort P) (n : ℕ) → (length ports ≡ n) × (n ≤ 64) → (length (slice_set ports i q) ≡ n) × (n ≤ 64)
+  counted-set ports i q n are = (length-set ports i q ∙ are.0, are.1)
+
+  pub changed-there : (R : NodePort P → NodePort P → Type 0) (ports : List (NodePort P)) (i n : ℕ) (old new : NodePort P) → (length ports ≡ n) × (n ≤ 64) → i < n → old ≡ slice_index_or ports i old → R old new
+      → AtBoth R (slice_get ports i) (slice_get (slice_set ports i new) i)
+  changed-there R ports i n old new are below read did = let size = are.0 in both-set R ports i old new (omega arith) read did
 
   abbrev pub takes-end : (r : Ranges) (gave took : P → Option (List ℕ)) (counts : P → Counts) (i : ℕ) (x y : NodeView) (a b : List (NodePort P))
       → TakesAt (Comes r gave took) i x y a b → TakesAt (Pulls r gave took counts) i x y a b

@@ -34,32 +34,29 @@ remembers-join a b c f g = record {
   ports = λ p. still-join (port_of a.ports p) (port_of b.ports p) (port_of c.ports p) (f.ports p) (g.ports p);
 }
 
+-- what is so of one port, and of each other
+remembers-at : (old new : Pace) (id : ℕ) → StillGiven (port_of old.ports id) (port_of new.ports id) → ((p : ℕ) → p ≢ id → StillGiven (port_of old.ports p) (port_of new.ports p))
+    → new.manner ≡ old.manner → Remembers old new
+remembers-at old new id here others manner = record {
+  manner = manner;
+  ports = λ p.
+      elim (cases_eq p id) [
+        | inl e ↦ rw e here
+        | inr n ↦ others p n
+      ];
+}
+
 -- a port has a new connection
 pub remembers-attached : (old new : Pace) (id : ℕ) → port_of new.ports id ≡ fresh_port → ((p : ℕ) → p ≢ id → port_of new.ports p ≡ port_of old.ports p) → new.manner ≡ old.manner → Remembers old new
-remembers-attached old new id fresh others manner = record {
-  manner = manner;
-  ports = at;
-} where
-  at : (p : ℕ) → StillGiven (port_of old.ports p) (port_of new.ports p)
-  at p =
-      elim (cases_eq p id) [
-        | inl e ↦ inr (ap (λ x. (port_of new.ports x).given) e ∙ ap (λ x. x.given) fresh)
-        | inr n ↦ subst (λ x. StillGiven (port_of old.ports p) x) (sym (others p n)) (still-same (port_of old.ports p))
-      ]
+remembers-attached old new id fresh others manner =
+    remembers-at old new id (inr (ap (λ x. x.given) fresh)) (λ p n. subst (λ x. StillGiven (port_of old.ports p) x) (sym (others p n)) (still-same (port_of old.ports p))) manner
 
 -- a port brought a frame, and a call may go on at others
 pub remembers-heard : (old new : Pace) (id now : ℕ) (frame : Frame) (calls : ℕ → Bool) → port_of new.ports id ≡ heard_port frame now (port_of old.ports id)
     → ((p : ℕ) → p ≢ id → port_of new.ports p ≡ called_port (calls p) (port_of old.ports p)) → new.manner ≡ old.manner → Remembers old new
-remembers-heard old new id now frame calls heard others manner = record {
-  manner = manner;
-  ports = at;
-} where
-  at : (p : ℕ) → StillGiven (port_of old.ports p) (port_of new.ports p)
-  at p =
-      elim (cases_eq p id) [
-        | inl e ↦ rw e (subst (λ x. StillGiven (port_of old.ports id) x) (sym heard) (still-heard (port_of old.ports id) frame now))
-        | inr n ↦ subst (λ x. StillGiven (port_of old.ports p) x) (sym (others p n)) (still-called (port_of old.ports p) (calls p))
-      ]
+remembers-heard old new id now frame calls heard others manner =
+    remembers-at old new id (subst (λ x. StillGiven (port_of old.ports id) x) (sym heard) (still-heard (port_of old.ports id) frame now))
+    (λ p n. subst (λ x. StillGiven (port_of old.ports p) x) (sym (others p n)) (still-called (port_of old.ports p) (calls p))) manner
 
 -- a tick may call at each of them
 pub remembers-ticked : (old new : Pace) (calls : ℕ → Bool) → ((p : ℕ) → port_of new.ports p ≡ called_port (calls p) (port_of old.ports p)) → new.manner ≡ old.manner → Remembers old new

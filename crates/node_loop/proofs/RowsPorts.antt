@@ -4,7 +4,7 @@ use Rattle.std.proofs.lemmas.Grind.{common_steps}
 use Rattle.std.proofs.lemmas.List.Elements.{All-nil}
 use Rattle.topology.specs.declared.frame.Frame.{Frame}
 use Rattle.topology.specs.declared.frame.Ranges.{Ranges}
-use Rattle.lock_desk.specs.Desk.{no_desk}
+use Rattle.lock_desk.specs.Desk.{DeskState, no_desk}
 use Rattle.lock_desk.specs.declared.act.DeskAct.TheVariants.{Granted, Lost}
 use Rattle.node_core.specs.View.{NodeView, site_in}
 use Rattle.pace.specs.declared.port.PortPace.{PortPace}
@@ -20,21 +20,24 @@ use Rattle.node_loop.specs.Speaking.{sight_at, Speaks, SpeaksTo}
 use Rattle.node_connections.proofs.Hearing.{both-same, pulls-same}
 use Rattle.node_connections.proofs.RowsPorts.{both-lost, comes-nothing, silent}
 
-abbrev small : Ranges
+abbrev pub small : Ranges
 small = record { nodes = 2; counter = 5; ring = 7 }
 
--- the root of two nodes
-abbrev root : NodeView
-root = record {
+-- the root of two nodes as it starts, with this lease and desk
+abbrev pub root_with : ℕ → DeskState → NodeView
+root_with lease desk = record {
   id = 0;
   is_root = true;
   distance = 2;
   parent = None;
   registers = record { ranges = small; neighbours = 1 ∷ []; ports = []; values = [] };
-  desk = record { lease = 0; state = no_desk };
+  desk = record { lease = lease; state = desk };
 }
 
-abbrev some_frame : Frame
+abbrev root : NodeView
+root = root_with 0 no_desk
+
+abbrev pub some_frame : Frame
 some_frame = record { seq = 0; ack = 0; payload = record { distance = 2; parent = None; ring = 0 } }
 
 -- a grant is a loan that begins

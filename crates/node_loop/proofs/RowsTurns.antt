@@ -5,8 +5,7 @@ use Rattle.node_loop.specs.Answers.{lock_answer, after_line, answer_text}
 use Rattle.std.proofs.lemmas.Grind.{common_steps}
 use Rattle.std.proofs.lemmas.List.Elements.{All-nil, All-cons, All-head, All-tail}
 use Rattle.topology.specs.declared.frame.Frame.{Frame}
-use Rattle.topology.specs.declared.frame.Ranges.{Ranges}
-use Rattle.lock_desk.specs.Desk.{DeskState, no_desk}
+use Rattle.lock_desk.specs.Desk.{no_desk}
 use Rattle.lock_desk.specs.declared.act.DeskAct.TheVariants.{Quiet, Granted}
 use Rattle.lock_desk.specs.declared.client_line.ClientLine.TheVariants.{Lock, Unlock, Unknown}
 use Rattle.node_core.specs.Site.{Site}
@@ -22,30 +21,15 @@ use Rattle.node_loop.specs.Moments.{Moment}
 use Rattle.node_loop.specs.Speaking.{IsPlanOf, outlook_of, sent_if}
 use Rattle.node_loop.specs.Turns.{Attends, Turns}
 use Rattle.node_loop.proofs.Accounts.{attend-ticks}
+use Rattle.node_loop.proofs.RowsPorts.{root_with, some_frame}
 
-abbrev small : Ranges
-small = record { nodes = 2; counter = 5; ring = 7 }
-
--- the root of two nodes as it starts, with a lease of 100 ticks, and with this desk
-abbrev root_with : DeskState → NodeView
-root_with desk = record {
-  id = 0;
-  is_root = true;
-  distance = 2;
-  parent = None;
-  registers = record { ranges = small; neighbours = 1 ∷ []; ports = []; values = [] };
-  desk = record { lease = 100; state = desk };
-}
-
+-- the root of two nodes as it starts, with a lease of 100 ticks
 abbrev root : NodeView
-root = root_with no_desk
+root = root_with 100 no_desk
 
 -- what a tick makes of it: the root is at distance 0
 abbrev root_ticked : NodeView
 root_ticked = record root { distance = 0 }
-
-abbrev some_frame : Frame
-some_frame = record { seq = 0; ack = 0; payload = record { distance = 2; parent = None; ring = 0 } }
 
 -- ---- deeds
 
@@ -132,7 +116,7 @@ module _ {P : Type 0} where
 
   -- it lends to ticket 3, with a lease
   abbrev lending : Moment P
-  lending = moment (root_with (record { waiting = []; lent = Some 3; left = 50; served = false }))
+  lending = moment (root_with 100 (record { waiting = []; lent = Some 3; left = 50; served = false }))
 
   -- while such a loan runs it does not tick a millisecond after its last tick, and does after two
   plan-rests : IsPlanOf 2000 lending rests
@@ -278,7 +262,7 @@ sends-taken = refl
 sends_not-refused : sent_if false some_frame ≡ []
 sends_not-refused = refl
 
-looks : outlook_of (root_with (record { waiting = 4 ∷ []; lent = Some 3; left = 50; served = false })) false
+looks : outlook_of (root_with 100 (record { waiting = 4 ∷ []; lent = Some 3; left = 50; served = false })) false
     ≡ record { waits = true; lends = true; has_lease = true; let_go = false }
 looks = refl
 

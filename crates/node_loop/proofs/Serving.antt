@@ -9,19 +9,27 @@ use Rattle.lock_desk.specs.declared.client_line.ClientLine.TheVariants.{Lock, Un
 use Rattle.node_core.specs.Site.{Site}
 use Rattle.node_core.specs.State.{LocalState}
 use Rattle.node_core.specs.View.{NodeView, site_in, state_of}
+use Rattle.slab.specs.Slab.{get}
+use Rattle.socket_links.specs.Counts.{Counts}
+use Rattle.socket_links.specs.declared.pipe.ReadAnswer.{ReadAnswer}
 use Rattle.node_connections.specs.declared.clients.Clients.{Clients}
 use Rattle.node_loop.specs.Answers.{after_line, answer_text}
-use Rattle.node_connections.specs.Clients.{is_connected}
+use Rattle.node_connections.specs.Clients.{answers_of, is_connected}
+use Rattle.node_connections.specs.Ends.{IsOfGone}
+use Rattle.node_connections.specs.Lives.{OthersStay, ReadsAt}
 use Rattle.node_loop.specs.Deeds.{Asks, Deed, IsLeaveOfGone, IsOfClient, Leads, Leaves, Sends, Takes, Ticks}
 use Rattle.node_loop.specs.Noting.{deeds_of_line, Did}
 use Rattle.node_loop.specs.NotesView.{NotesView}
 use Rattle.node_loop.specs.Said.{answers_to, Serves}
-use Rattle.node_connections.specs.Said.{IsLineAlone, IsSaid, NothingSaid}
+use Rattle.node_connections.specs.Said.{IsLineAlone, IsSaid, IsServed, NothingSaid}
 use Rattle.node_loop.specs.Services.{AreGone, deeds_of_all, Goes, Line, lines_of, Service}
 use Rattle.node_loop.proofs.Became.{gone-leaves, leave-kinds}
 use Rattle.node_loop.proofs.Noting.{did-joins, did-none}
 use Rattle.node_loop.proofs.Saying.{answers-join}
-use Rattle.node_connections.proofs.Saying.{is-said-join, SaidTo}
+use Rattle.node_connections.proofs.Heard.{unheard-gone}
+use Rattle.node_connections.proofs.Lives.{nobody}
+use Rattle.node_connections.proofs.Saying.{is-said-join, nothing-gone, SaidTo}
+use Rattle.node_connections.proofs.Served.{served-gone}
 use Rattle.node_connections.proofs.Serving.{stays-gone}
 
 -- ---- tickets that leave
@@ -221,3 +229,12 @@ module _ {P A : Type 0} (took : P → Option (List ℕ)) where
               | inr differ ↦ subst (λ lines. IsSaid took (answers_to (site_in x) t lines) t a b) (sym (other t differ)) (said.1 t differ)
             ];
       }
+
+-- a client that is gone by what a read said leaves, and nobody is served
+pub serves-gone : {P A : Type 0} (gave took : P → Option (List ℕ)) (counts : P → Counts) (k : ℕ) (answer : ReadAnswer) (bytes : List ℕ) (a b c : Clients P A) (x y : NodeView) (n m : NotesView)
+    → IsOfGone answer → ReadsAt gave took counts answer bytes (get a.table k) (get b.table k) → OthersStay k a c → ((t : ℕ) → t ≢ k → answers_of c t ≡ answers_of a t) → is_connected c k ≡ false
+    → Did (IsLeaveOfGone (is_connected c)) x y n m → Serves took (IsServed gave took counts a c) x y n m a c
+serves-gone gave took counts k answer bytes a b c x y n m gone reads others answers closed did =
+    serves-goes took (IsServed gave took counts a c) x y n m a c
+    (served-gone gave took counts k answer bytes a b c gone reads (unheard-gone gave k a c others closed) others answers (nobody (get c.table k) closed))
+    (nothing-gone took k a c others answers closed) did

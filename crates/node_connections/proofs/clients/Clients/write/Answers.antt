@@ -8,6 +8,7 @@ use Rattle.node_connections.specs.Clients.{answers_of}
 use Rattle.node_connections.specs.Lives.{Took, Takes_later}
 use Rattle.node_connections.specs.Said.{SaidAt}
 use Rattle.socket_links.specs.Pipes.{GoesOn, Writes}
+use Rattle.socket_links.specs.declared.pipe.WriteAnswer.{WriteAnswer}
 use Rattle.socket_links.specs.declared.pipe.WriteAnswer.TheVariants as write
 use Rattle.node_connections.proofs.GoingOut.{buffer-at, buffer-other, buffer-set, front-moved, no-items, not-there, nothing-past, out-gone, out-here, out-nothing, rest-put, shorter}
 use Rattle.node_connections.specs.declared.clients.Client.{Client}
@@ -91,14 +92,17 @@ moved g c =
           ∙ ap (λ b. drop c.match-try_write.written b.items) (sym was)),
     )
 
+-- what the pipe said of what it was offered
+writes-as : (g : given.Over) (c : goal.After-self-4-1 g) (answer : WriteAnswer) → c.try_write.result ≡ answer
+    → Writes answer (take c.len-count.result c.read_into-all.new.dst) (g.P.Pipe.took c.in-Some.client.now.pipe) (g.P.Pipe.took c.try_write.new.self) (g.P.Pipe.counts c.in-Some.client.now.pipe) (g.P.Pipe.counts c.try_write.new.self)
+writes-as g c answer is = rw is at c.try_write.ensures.writes
+
 pub returns-clause-out : goal.returns-clause-out
 returns-clause-out g c _ =
     let client = c.in-Some.client.now in
     elim c.match-try_write.branch [
       | in-Wrote w ↦
-          let wrote : Writes (write.Wrote w.in-Wrote.written) (take c.len-count.result c.read_into-all.new.dst) (g.P.Pipe.took client.pipe) (g.P.Pipe.took c.try_write.new.self) (g.P.Pipe.counts client.pipe)
-          (g.P.Pipe.counts c.try_write.new.self) =
-          rw w.in-Wrote.is at c.try_write.ensures.writes in
+          let wrote = writes-as g c (write.Wrote w.in-Wrote.written) w.in-Wrote.is in
           let is : c.match-try_write.written ≡ w.in-Wrote.written = w.written-is in
           let some : 0 < c.match-try_write.written = rw is wrote.0 in
           let most : c.match-try_write.written ≤ length (take c.len-count.result c.read_into-all.new.dst) = rw is wrote.1 in
@@ -106,8 +110,7 @@ returns-clause-out g c _ =
           out-here g.P.Pipe.counts c.args.self.now.table c.args.ticket client (record { pipe = c.try_write.new.self; reader = client.reader }) _ _ c.in-Some.ensures.value
           (inl (shorter (answers_of c.args.self.now c.args.ticket) _ c.match-try_write.written ((moved g c).1 (omega (arith, most, size))) some (subst (λ xs. c.match-try_write.written ≤ length xs) (moved g c).0 most)))
       | in-Later w ↦
-          let wrote : Writes write.Later [] (g.P.Pipe.took client.pipe) (g.P.Pipe.took c.try_write.new.self) (g.P.Pipe.counts client.pipe) (g.P.Pipe.counts c.try_write.new.self) =
-          rw w.in-Later.is at c.try_write.ensures.writes in
+          let wrote = writes-as g c write.Later w.in-Later.is in
           out-here g.P.Pipe.counts c.args.self.now.table c.args.ticket client (record { pipe = c.try_write.new.self; reader = client.reader }) _ _ c.in-Some.ensures.value (inr wrote.2)
     ]
 
@@ -129,15 +132,12 @@ returns-clause-nothing g c _ =
     changed.others (λ t other. ap (λ b. b.items) (buffer-other self.answers.items k t c.read_into-all.new.self c.fill_from_slice-rest.new.self other)) in
     elim c.match-try_write.branch [
       | in-Wrote w ↦
-          let wrote : Writes (write.Wrote w.in-Wrote.written) (take c.len-count.result c.read_into-all.new.dst) (g.P.Pipe.took client.pipe) (g.P.Pipe.took c.try_write.new.self) (g.P.Pipe.counts client.pipe)
-          (g.P.Pipe.counts c.try_write.new.self) =
-          rw w.in-Wrote.is at c.try_write.ensures.writes in
+          let wrote = writes-as g c (write.Wrote w.in-Wrote.written) w.in-Wrote.is in
           let is : c.match-try_write.written ≡ w.in-Wrote.written = w.written-is in
           let most : c.match-try_write.written ≤ length (take c.len-count.result c.read_into-all.new.dst) = rw is wrote.1 in
           all (omega (arith, most, size)) (rw (is, sym (moved g c).0) wrote.2)
       | in-Later w ↦
-          let wrote : Writes write.Later [] (g.P.Pipe.took client.pipe) (g.P.Pipe.took c.try_write.new.self) (g.P.Pipe.counts client.pipe) (g.P.Pipe.counts c.try_write.new.self) =
-          rw w.in-Later.is at c.try_write.ensures.writes in
+          let wrote = writes-as g c write.Later w.in-Later.is in
           let is : c.match-try_write.written ≡ 0 = w.written-is in
           all (omega (arith, is)) (rw (is, wrote.0) (goes-nothing (g.P.Pipe.took client.pipe)))
     ]

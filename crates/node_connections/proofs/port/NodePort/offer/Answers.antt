@@ -1,8 +1,8 @@
-use Rattle.std.proofs.Common.{◌∷◌, ◌++◌, refl, []}
+use Rattle.std.proofs.Common.{◌∷◌, ◌++◌, true, false, refl, []}
 use Rattle.byte_lines.specs.Lines.{newline}
 use Rattle.frame_codec.specs.Spelling.{spelling}
 use Rattle.socket_links.specs.declared.link.Offer.TheVariants as offer
-use Rattle.node_connections.proofs.Pushing.{goes-on, offered-on, stays-on}
+use Rattle.node_connections.proofs.Pushing.{goes-on, offered-on, offers-line, stays-on}
 use Rattle.node_connections.proofs.port.NodePort.offer.Goals as goal
 
 pub returns-in-Taken-clause-line : goal.returns-in-Taken-clause-line
@@ -22,31 +22,10 @@ returns-in-Loose-clause-line g c =
     rw loose.1 (stays-on g.P.Pipe.took c.args.self.now.link)
 
 pub returns-in-Taken-clause-offered : goal.returns-in-Taken-clause-offered
-returns-in-Taken-clause-offered g c = record {
-  answer = offer.Taken;
-  accepted = record { link = c.offer.new.self; greeting = c.args.self.now.greeting; is_stuck = c.args.self.now.is_stuck; made = c.args.self.now.made };
-  offered = rw c.in-Taken.is at c.offer.ensures;
-  stuck = refl;
-  greeting = refl;
-  follows = (c.push_out.ensures.pushed, refl);
-}
+returns-in-Taken-clause-offered g c = offers-line g.P.Pipe.gave g.P.Pipe.took g.P.Pipe.counts _ c.args.self.now c.offer.new.self offer.Taken _ true (rw c.in-Taken.is at c.offer.ensures) (c.push_out.ensures.pushed, refl)
 
 pub returns-in-Busy-clause-offered : goal.returns-in-Busy-clause-offered
-returns-in-Busy-clause-offered g c = record {
-  answer = offer.Busy;
-  accepted = record { link = c.offer.new.self; greeting = c.args.self.now.greeting; is_stuck = c.args.self.now.is_stuck; made = c.args.self.now.made };
-  offered = rw c.in-Busy.is at c.offer.ensures;
-  stuck = refl;
-  greeting = refl;
-  follows = (refl, refl);
-}
+returns-in-Busy-clause-offered g c = offers-line g.P.Pipe.gave g.P.Pipe.took g.P.Pipe.counts _ c.args.self.now c.offer.new.self offer.Busy _ false (rw c.in-Busy.is at c.offer.ensures) (refl, refl)
 
 pub returns-in-Loose-clause-offered : goal.returns-in-Loose-clause-offered
-returns-in-Loose-clause-offered g c = record {
-  answer = offer.Loose;
-  accepted = record { link = c.offer.new.self; greeting = c.args.self.now.greeting; is_stuck = c.args.self.now.is_stuck; made = c.args.self.now.made };
-  offered = rw c.in-Loose.is at c.offer.ensures;
-  stuck = refl;
-  greeting = refl;
-  follows = (refl, refl);
-}
+returns-in-Loose-clause-offered g c = offers-line g.P.Pipe.gave g.P.Pipe.took g.P.Pipe.counts _ c.args.self.now c.offer.new.self offer.Loose _ false (rw c.in-Loose.is at c.offer.ensures) (refl, refl)

@@ -1,5 +1,6 @@
 use Rattle.std.proofs.Common.{ap, refl}
 use Rattle.node_connections.proofs.Lives.{still-join}
+use Rattle.node_loop.specs.Moments.{moment_of}
 use Rattle.node_loop.specs.Noting.{emptied}
 use Rattle.node_loop.proofs.Noting.{turn-grown}
 use Rattle.node_loop.proofs.Turning.{turn-leads}
@@ -12,18 +13,8 @@ returns-clause-noted g c =
     let speaks = c.speak.ensures.spoken in
     record {
       turns = record {
-        heard = record {
-          node = c.listen.new.self.node;
-          ports = c.listen.new.self.ports.items;
-          pace = c.listen.new.self.pace;
-          let_go = c.listen.new.self.let_go;
-        };
-        acted = record {
-          node = c.tick-ticked.new.self.node;
-          ports = c.tick-ticked.new.self.ports.items;
-          pace = c.tick-ticked.new.self.pace;
-          let_go = c.tick-ticked.new.self.let_go;
-        };
+        heard = moment_of c.listen.new.self.node c.listen.new.self.ports.items c.listen.new.self.pace c.listen.new.self.let_go;
+        acted = moment_of c.tick-ticked.new.self.node c.tick-ticked.new.self.ports.items c.tick-ticked.new.self.pace c.tick-ticked.new.self.let_go;
         plan = c.plan-plan.result;
         listens = listens.listens;
         acts = acts.acts;

@@ -1,5 +1,6 @@
 use Rattle.std.proofs.Common.{refl}
 use Rattle.node_connections.proofs.Lives.{still-join}
+use Rattle.node_loop.specs.Moments.{moment_of}
 use Rattle.node_loop.specs.Noting.{emptied}
 use Rattle.node_loop.proofs.Noting.{attend-grown}
 use Rattle.node_loop.proofs.Turning.{attend-leads}
@@ -11,12 +12,7 @@ returns-clause-noted g c =
     let speaks = c.speak.ensures.spoken in
     record {
       attends = record {
-        heard = record {
-          node = c.listen.new.self.node;
-          ports = c.listen.new.self.ports.items;
-          pace = c.listen.new.self.pace;
-          let_go = c.listen.new.self.let_go;
-        };
+        heard = moment_of c.listen.new.self.node c.listen.new.self.ports.items c.listen.new.self.pace c.listen.new.self.let_go;
         plan = c.plan-plan.result;
         listens = listens.listens;
         plans = c.plan-plan.ensures;
