@@ -115,29 +115,35 @@ pair-in_front : (u v : ℕ) (ids more rest : List ℕ) → ids ≡ decimal u ++ 
 pair-in_front u v ids more rest first second =
     first ∙ ap (λ xs. decimal u ++ 32 ∷ xs) second ∙ sym (append_assoc (decimal u) (32 ∷ decimal v) (newline ∷ rest))
 
+-- a word with a space after it, two numbers and a newline, in front of a text
+two_numbers : (x : ℕ) (xs : List ℕ) (u v : ℕ) (e : Event) (text ids more rest : List ℕ) → (x == 35) ≡ false → length (x ∷ xs) ≤ 5 → HasNoNewline (x ∷ xs)
+    → line_event (x ∷ (xs ++ (decimal u ++ 32 ∷ decimal v))) ≡ Some e → u < 100 → v < 100 → text ≡ x ∷ (xs ++ ids)
+    → ids ≡ decimal u ++ 32 ∷ more → more ≡ decimal v ++ newline ∷ rest
+    → (line : List ℕ) × (text ≡ line ++ newline ∷ rest) × HasNoNewline line × (text_line line ≡ Said e)
+two_numbers x xs u v e text ids more rest other few none event a b is first second =
+    let ids_are = pair-in_front u v ids more rest first second in (
+      x ∷ (xs ++ (decimal u ++ 32 ∷ decimal v)),
+      is ∙ ap (λ ys. x ∷ (xs ++ ys)) ids_are ∙ ap (λ ys. x ∷ ys) (sym (append_assoc xs (decimal u ++ 32 ∷ decimal v) (newline ∷ rest))),
+      no_newline-both (x ∷ xs) (decimal u ++ 32 ∷ decimal v) none (pair-no_newline u v a b),
+      said_line x (xs ++ (decimal u ++ 32 ∷ decimal v)) e other
+          (omega (arith, few, length-append xs (decimal u ++ 32 ∷ decimal v), pair-short u v a b)) event,
+    )
+
 module _ (read : NumbersAreRead) where
   -- `send U V`, `take U V` and `tick V`, each with its newline, in front of a text
   pub send_line : (u v : ℕ) (text ids more rest : List ℕ) → u < 100 → v < 100 → text ≡ 115 ∷ 101 ∷ 110 ∷ 100 ∷ 32 ∷ ids
       → ids ≡ decimal u ++ 32 ∷ more → more ≡ decimal v ++ newline ∷ rest
       → (line : List ℕ) × (text ≡ line ++ newline ∷ rest) × HasNoNewline line × (text_line line ≡ Said (Send u v))
-  send_line u v text ids more rest a b is first second = (
-    115 ∷ 101 ∷ 110 ∷ 100 ∷ 32 ∷ (decimal u ++ 32 ∷ decimal v),
-    is ∙ ap (λ xs. 115 ∷ 101 ∷ 110 ∷ 100 ∷ 32 ∷ xs) (pair-in_front u v ids more rest first second),
-    no_newline-both (codes "send ") (decimal u ++ 32 ∷ decimal v) (grind arith) (pair-no_newline u v a b),
-    said_line 115 (101 ∷ 110 ∷ 100 ∷ 32 ∷ (decimal u ++ 32 ∷ decimal v)) (Send u v) refl (omega (arith, pair-short u v a b))
-        (events-read read (Send u v) (grind (arith, small u a, small v b))),
-  )
+  send_line u v text ids more rest a b =
+      two_numbers 115 (101 ∷ 110 ∷ 100 ∷ 32 ∷ []) u v (Send u v) text ids more rest refl (omega arith) (grind arith)
+      (events-read read (Send u v) (grind (arith, small u a, small v b))) a b
 
   pub take_line : (u v : ℕ) (text ids more rest : List ℕ) → u < 100 → v < 100 → text ≡ 116 ∷ 97 ∷ 107 ∷ 101 ∷ 32 ∷ ids
       → ids ≡ decimal u ++ 32 ∷ more → more ≡ decimal v ++ newline ∷ rest
       → (line : List ℕ) × (text ≡ line ++ newline ∷ rest) × HasNoNewline line × (text_line line ≡ Said (Take u v))
-  take_line u v text ids more rest a b is first second = (
-    116 ∷ 97 ∷ 107 ∷ 101 ∷ 32 ∷ (decimal u ++ 32 ∷ decimal v),
-    is ∙ ap (λ xs. 116 ∷ 97 ∷ 107 ∷ 101 ∷ 32 ∷ xs) (pair-in_front u v ids more rest first second),
-    no_newline-both (codes "take ") (decimal u ++ 32 ∷ decimal v) (grind arith) (pair-no_newline u v a b),
-    said_line 116 (97 ∷ 107 ∷ 101 ∷ 32 ∷ (decimal u ++ 32 ∷ decimal v)) (Take u v) refl (omega (arith, pair-short u v a b))
-        (events-read read (Take u v) (grind (arith, small u a, small v b))),
-  )
+  take_line u v text ids more rest a b =
+      two_numbers 116 (97 ∷ 107 ∷ 101 ∷ 32 ∷ []) u v (Take u v) text ids more rest refl (omega arith) (grind arith)
+      (events-read read (Take u v) (grind (arith, small u a, small v b))) a b
 
   pub tick_line : (v : ℕ) (text ids rest : List ℕ) → v < 100 → text ≡ 116 ∷ 105 ∷ 99 ∷ 107 ∷ 32 ∷ ids → ids ≡ decimal v ++ newline ∷ rest
       → (line : List ℕ) × (text ≡ line ++ newline ∷ rest) × HasNoNewline line × (text_line line ≡ Said (Tick v))

@@ -61,15 +61,11 @@ impl EventReader {
             → ended_lines (bytes ++ take result.used piece.now)
             ≡ ended_lines bytes ++ option_to_list result.line }
     {
-        byte_lines::laws::any_cutting();
-        byte_lines::laws::lines_grow();
-        if self.half.is_empty() {
-            if let Some((event, rest)) = usual_line(piece) {
-                return Taken {
-                    used: piece.len() - rest.len(),
-                    line: Some(TextLine::Said(event)),
-                };
-            }
+        if let Some((event, used)) = self.take_usual(piece) {
+            return Taken {
+                used,
+                line: Some(TextLine::Said(event)),
+            };
         }
         let byte_lines::Taken { used, line } = self.half.take(piece, &TextLines);
         Taken { used, line }

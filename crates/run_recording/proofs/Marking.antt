@@ -1,6 +1,9 @@
 -- Places of an array written one after the other.
-use Rattle.std.proofs.Common.{◌≡◌, ap, refl, ℕ, zero, suc, ◌+◌, ◌<◌, List, [], ◌∷◌, ◌++◌, length, take, map, get_or, slice_set, arith}
+use Rattle.std.proofs.Common.{◌≡◌, ◌∙◌, ap, sym, refl, ℕ, zero, suc, ◌+◌, ◌<◌, List, [], ◌∷◌, ◌++◌, length, take, map, get_or, slice_set, arith}
+use Rattle.std.specs.List.{range_with_len}
 use Rattle.std.proofs.lemmas.Grind.{common_steps}
+use Rattle.std.proofs.lemmas.List.FromFn.{map-range_with_len_more}
+use Rattle.std.proofs.Math.Seq.{take-length}
 use Rattle.film_stills.specs.declared.look.Look.{Look}
 use Rattle.run_recording.specs.Seen.{mark_of_look}
 
@@ -21,9 +24,21 @@ written-length items v m = grind (arith, common_steps)
 
 -- taking as many as there are takes all
 pub all_taken : {X : Type 0} (items : List X) (n : ℕ) → length items ≡ n → take n items ≡ items
-all_taken [] n all = grind (arith, common_steps)
-all_taken (a ∷ items) zero all = grind (arith, common_steps)
-all_taken (a ∷ items) (suc n) all = ap (λ xs. a ∷ xs) (all_taken items n (omega (arith, all)))
+all_taken items n all = ap (λ k. take k items) (sym all) ∙ take-length items
+
+-- ---- what a function gives at the first places
+
+-- it is written at the next place
+pub written_next : {X : Type 0} (f : ℕ → X) (items : List X) (v : ℕ) (m : X) → v < length items → take v items ≡ map f (range_with_len 0 v) → m ≡ f v
+    → take (v + 1) (slice_set items v m) ≡ map f (range_with_len 0 (v + 1))
+written_next f items v m room before is =
+    first_written items v m room ∙ ap (λ xs. xs ++ m ∷ []) before ∙ ap (λ x. map f (range_with_len 0 v) ++ x ∷ []) is
+    ∙ sym (map-range_with_len_more f 0 v v (omega arith))
+
+-- it is written at all places
+pub written_all : {X : Type 0} (f : ℕ → X) (items : List X) (v n : ℕ) → v ≡ n → length items ≡ n → take v items ≡ map f (range_with_len 0 v)
+    → items ≡ map f (range_with_len 0 n)
+written_all f items v n end long before = sym (all_taken items v (long ∙ sym end)) ∙ before ∙ ap (λ k. map f (range_with_len 0 k)) end
 
 -- ---- the marks of looks
 

@@ -174,6 +174,11 @@ reader_moves start es r reader h = record {
 pub piece_more : (piece : List ℕ) (at used : ℕ) → take (at + used) piece ≡ take at piece ++ take used (take (length piece - at) (drop at piece))
 piece_more piece at used = take-add at used piece ∙ ap (λ xs. take at piece ++ take used xs) (sym (take_rest piece at))
 
+-- more bytes of a piece, after what was there before it and its first bytes
+pub piece_further : (bytes piece : List ℕ) (at used : ℕ)
+    → bytes ++ take (at + used) piece ≡ (bytes ++ take at piece) ++ take used (take (length piece - at) (drop at piece))
+piece_further bytes piece at used = ap (λ xs. bytes ++ xs) (piece_more piece at used) ∙ sym (append_assoc bytes (take at piece) _)
+
 -- one more line has ended, and its event is recorded
 pub line_ends : (start : World) (bytes more : List ℕ) (line : TextLine) (old new : RecordingView) (reader : Kept)
     → IsReading start bytes old → StandsAfter 64 (bytes ++ more) reader → ended_lines (bytes ++ more) ≡ ended_lines bytes ++ line ∷ []

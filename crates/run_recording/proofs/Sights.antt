@@ -1,5 +1,5 @@
 -- What is seen of a world, and what an event changes in it.
-use Rattle.std.proofs.Common.{◌≡◌, ◌≢◌, ◌∙◌, ap, sym, refl, ℕ, zero, suc, ◌+◌, ◌<◌, ◌≤◌, cond, Bool, true, false, is_some, List, [], ◌∷◌, length, Option, None, map, slice_set, slice_index_or, arith}
+use Rattle.std.proofs.Common.{◌≡◌, ◌≢◌, ◌∙◌, ap, sym, subst, refl, ℕ, zero, suc, ◌+◌, ◌<◌, ◌≤◌, cond, Bool, true, false, is_some, List, [], ◌∷◌, length, Option, None, map, slice_set, slice_index_or, arith}
 use Rattle.std.specs.List.{range_with_len, count_by}
 use Rattle.std.proofs.lemmas.Grind.{common_steps}
 use Rattle.std.proofs.lemmas.List.Sums.{count_by-le-length}
@@ -16,6 +16,7 @@ use Rattle.world.specs.run_model.Privilege.{is_privileged, is_lending}
 use Rattle.world.specs.run_model.NodeCounts.{privileged_count, lending_count}
 use Rattle.world.specs.run_model.Step.{step}
 use Rattle.world.specs.run_model.declared.event.Event.TheVariants.{Send, Take, Lose, Tick, Ask, Leave, Damage}
+use Rattle.world.specs.run_model.declared.event.Harm.{Harm}
 use Rattle.world.specs.run_model.declared.event.Harm.TheVariants as harm
 use Rattle.film_stills.specs.declared.look.Look.{Look}
 use Rattle.film_stills.specs.declared.look.Place.{Place}
@@ -223,6 +224,9 @@ leave_differs w v t = record {
 }
 
 -- ---- so does damage, unless an edge joins or parts
+
+pub harm_differs : (w new : World) (v : ℕ) (h is : Harm) → new ≡ step w (Damage h) → h ≡ is → DiffersAt v w (step w (Damage is)) → DiffersAt v w new
+harm_differs w new v h is stepped same differs = subst (DiffersAt v w) (sym (stepped ∙ ap (λ k. step w (Damage k)) same)) differs
 
 pub own_differs : (w : World) (v : ℕ) (d : ℕ) (p : Option ℕ) → DiffersAt v w (step w (Damage (harm.Own v d p)))
 own_differs w v d p = record {

@@ -19,18 +19,7 @@ returns-clause-recorded g c =
     (c.keep_still.ensures.shows w [] sight place c.requires.reel) (rw there at (c.keep_layers.ensures.keeps [] c.requires.lanes))
 
 pub returns-clause-reading : goal.returns-clause-reading
-returns-clause-reading g c =
-    let w = world_of c.args.world in
-    let sight : c.of-sight.result ≡ sight_of w = c.of-sight.ensures ∙ ap (λ k. sight_of (world_of k)) (c.configuration.ensures ∙ c.new-judge.ensures.configuration) in
-    let net = c.net.ensures ∙ ap (λ k. (world_of k).net) (c.configuration-2.ensures ∙ c.new-judge.ensures.configuration) in
-    let place = ap world_of (c.configuration-3.ensures ∙ c.new-judge.ensures.configuration) in
-    let there = ap world_of (c.configuration-4.ensures ∙ c.new-judge.ensures.configuration) in
-    let moment_is = c.counts_of-start.ensures w sight net in
-    record {
-      stands = c.new.ensures;
-      recorded = begun w _ (column_of c.of-sight.result.marks c.counts_of-start.result) c.new-judge.ensures.judging refl refl refl refl moment_is (c.keep.ensures.shows [] c.requires.strip)
-          (c.keep_still.ensures.shows w [] sight place c.requires.reel) (rw there at (c.keep_layers.ensures.keeps [] c.requires.lanes));
-    }
+returns-clause-reading g c = record { stands = c.new.ensures; recorded = returns-clause-recorded g c }
 
 pub invariant_of-result : goal.invariant_of-result
 invariant_of-result g c =
