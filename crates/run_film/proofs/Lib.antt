@@ -1,4 +1,5 @@
 pub mod Films
+pub mod Paired
 pub mod Places
 pub mod FilmTexts
 pub mod Pages

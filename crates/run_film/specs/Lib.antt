@@ -7,5 +7,6 @@ pub mod Places
 pub mod Curves
 pub mod Symbols
 pub mod Films
+pub mod Pairs
 pub mod Pages
 pub mod FilmTexts

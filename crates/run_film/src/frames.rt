@@ -1,6 +1,6 @@
 //! The frames: each is a dot that travels along the half of its edge on which an event shows it, and rests in the
 //! middle while it is under way.
-ghost use Rattle.std.specs.Prelude.{◌≡◌, ◌<◌, ℕ, IfOk, OnOk, IsTrue, codes};
+ghost use Rattle.std.specs.Prelude.{◌≡◌, IfOk, OnOk, IsTrue, codes};
 ghost use Rattle.std.specs.List.{list_any};
 ghost use Rattle.svg_drawing.specs.Grouped.{grouped_of};
 ghost use Rattle.run_film.specs.Beats.{film_of};
@@ -13,6 +13,7 @@ ghost use Rattle.run_film.specs.Tracks.{pair_code};
 use crate::curve::{between_of, first_quarter, last_quarter, middle_of};
 use crate::material::Material;
 use crate::pace::Shown;
+use crate::pairs::{Paired, put_pairs};
 use crate::shapes::{outline, symbol};
 use crate::stage::Stage;
 use crate::symbols::put_symbol;
@@ -44,41 +45,14 @@ pub fn put_frame_symbols(material: Material<'_>, groups: &mut Vec<Group>) -> Res
     ensures keeps { OnOk result (Keeps (drawn groups.old.items) (drawn groups.new.items)) }
 {
     if material.net.nodes() <= MOST_FRAMED {
-        put_all_frames(material, groups)?;
+        put_pairs(material, groups, Paired::Frames)?;
     }
     Ok(())
 }
 
-/// What the last event of some still does with a frame.
-fn put_all_frames(material: Material<'_>, groups: &mut Vec<Group>) -> Result<(), AllocError>
-    ensures frames { OnOk result (HasFrames (drawn groups.new.items) (film_of material.entry.shown) material.entry.net.now) }
-    ensures keeps { OnOk result (Keeps (drawn groups.old.items) (drawn groups.new.items)) }
-{
-    for from in 0..material.net.nodes() {
-        put_frames_from(material, groups, from)?;
-    }
-    Ok(())
-}
-
-/// The same for the frames from a node.
-fn put_frames_from(
-    material: Material<'_>,
-    groups: &mut Vec<Group>,
-    from: u16,
-) -> Result<(), AllocError>
-    ensures frames { OnOk result ((to : ℕ) → to < material.entry.net.now.nodes
-        → HasFrame (drawn groups.new.items) (film_of material.entry.shown) from to) }
-    ensures keeps { OnOk result (Keeps (drawn groups.old.items) (drawn groups.new.items)) }
-{
-    for to in 0..material.net.nodes() {
-        put_frames_between(material, groups, from, to)?;
-    }
-    Ok(())
-}
-
-/// The same for the frames from a node to another: one that is sent goes to the middle of the edge, one
+/// The frames from a node to another: one that is sent goes to the middle of the edge, one
 /// that is taken comes from there, one that waits rests there, and a cross stands there if one is lost.
-fn put_frames_between(
+pub fn put_frames_between(
     material: Material<'_>,
     groups: &mut Vec<Group>,
     from: u16,

@@ -25,6 +25,7 @@ mod material;
 mod nodes;
 mod pace;
 mod page;
+mod pairs;
 mod playing;
 mod shapes;
 mod stage;

@@ -1,17 +1,17 @@
-//! The edges, the frames and the nodes.
-ghost use Rattle.std.specs.Prelude.{◌≡◌, ◌∷◌, ◌++◌, ◌<◌, ℕ, [], OnOk, IsTrue};
-ghost use Rattle.run_film.specs.declared.track.Track.TheVariants.{Parent, Edge};
+//! The frames and the nodes.
+ghost use Rattle.std.specs.Prelude.{◌≡◌, ◌∷◌, ◌++◌, [], OnOk, IsTrue};
+ghost use Rattle.run_film.specs.declared.track.Track.TheVariants.{Parent};
 ghost use Rattle.run_film.specs.declared.track.Track.TheVariants.{Sweeps, Damage};
-ghost use Rattle.run_film.specs.Beats.{film_of, joins_in};
-ghost use Rattle.run_film.specs.Films.{drawn, AddsNode, IsPlayed, Keeps, ShowsEdges, ShowsFrames, ShowsNodes};
+ghost use Rattle.run_film.specs.Beats.{film_of};
+ghost use Rattle.run_film.specs.Films.{drawn, AddsNode, IsPlayed, Keeps, ShowsFrames, ShowsNodes};
 ghost use Rattle.run_film.specs.Symbols.{is_framed};
 ghost use Rattle.run_film.specs.Tracks.{track_shown};
 
 use crate::material::Material;
+use crate::pairs::{Paired, put_pairs};
 use crate::stage::Stage;
 use crate::tickets::ticket_place;
 use crate::track::Track;
-use crate::waiting::put_all_waiting;
 use crate::words::words;
 use run_recording::MOST_FRAMED;
 use std::alloc::{AllocError, Global};
@@ -19,46 +19,6 @@ use svg_drawing::{Group, Point, Px};
 
 /// Where symbols stand that are drawn at their places.
 pub const ORIGIN: Point = Point { x: Px(0), y: Px(0) };
-
-/// Draws the edges that some still has.
-pub fn put_edges(material: Material<'_>, groups: &mut Vec<Group>) -> Result<(), AllocError>
-    ensures edges { OnOk result (ShowsEdges (drawn groups.new.items) (film_of material.entry.shown) material.entry.net.now) }
-    ensures keeps { OnOk result (Keeps (drawn groups.old.items) (drawn groups.new.items)) }
-{
-    for w in 0..material.net.nodes() {
-        put_edges_of(material, groups, w)?;
-    }
-    Ok(())
-}
-
-/// Draws those between a node and one of a smaller id.
-fn put_edges_of(material: Material<'_>, groups: &mut Vec<Group>, w: u16) -> Result<(), AllocError>
-    ensures edges { OnOk result ((v : ℕ) → v < w → IsTrue (joins_in (film_of material.entry.shown) v w)
-        → IsPlayed (drawn groups.new.items) (track_shown (Edge v w) (film_of material.entry.shown))) }
-    ensures keeps { OnOk result (Keeps (drawn groups.old.items) (drawn groups.new.items)) }
-{
-    for v in 0..w {
-        put_edge(material, groups, v, w)?;
-    }
-    Ok(())
-}
-
-/// Draws the edge between two nodes, if some still has it.
-fn put_edge(
-    material: Material<'_>,
-    groups: &mut Vec<Group>,
-    v: u16,
-    w: u16,
-) -> Result<(), AllocError>
-    ensures edge { OnOk result (IsTrue (joins_in (film_of material.entry.shown) v w)
-        → IsPlayed (drawn groups.new.items) (track_shown (Edge v w) (film_of material.entry.shown))) }
-    ensures keeps { OnOk result (Keeps (drawn groups.old.items) (drawn groups.new.items)) }
-{
-    if material.shown.joins(v, w) {
-        put_track(material, groups, Track::Edge(v, w), ORIGIN)?;
-    }
-    Ok(())
-}
 
 /// Draws a part of the film at a place.
 pub fn put_track(
@@ -81,7 +41,7 @@ pub fn put_frames(material: Material<'_>, groups: &mut Vec<Group>) -> Result<(),
     ensures keeps { OnOk result (Keeps (drawn groups.old.items) (drawn groups.new.items)) }
 {
     if material.net.nodes() <= MOST_FRAMED {
-        put_all_waiting(material, groups)?;
+        put_pairs(material, groups, Paired::Waiting)?;
         put_track(material, groups, Track::Frame, ORIGIN)?;
     }
     Ok(())

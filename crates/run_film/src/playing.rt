@@ -10,9 +10,10 @@ ghost use Rattle.run_film.specs.Pages.{ShowsPage};
 use crate::counts::counts;
 use crate::head::{Said, attributes, head};
 use crate::material::Material;
-use crate::nodes::{put_edges, put_frames, put_nodes, put_said};
+use crate::nodes::{put_frames, put_nodes, put_said};
 use crate::pace::{EMPTY, Pace, Shown};
 use crate::page::{controls, page_head};
+use crate::pairs::{Paired, put_pairs};
 use crate::stage::Stage;
 use crate::symbols::put_symbols;
 use run_recording::{Recording, Reel, Still, first_visits};
@@ -123,7 +124,7 @@ fn put_parts(material: Material<'_>, groups: &mut Vec<Group>) -> Result<(), Allo
     ensures keeps { OnOk result (Keeps (drawn groups.old.items) (drawn groups.new.items)) }
 {
     put_said(material, groups)?;
-    put_edges(material, groups)?;
+    put_pairs(material, groups, Paired::Edge)?;
     put_frames(material, groups)?;
     put_nodes(material, groups)?;
     Ok(())

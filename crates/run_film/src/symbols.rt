@@ -1,12 +1,12 @@
 //! The symbols of which a film is made: each has a short name, and is drawn where a part shows it.
-ghost use Rattle.std.specs.Prelude.{◌≡◌, ◌<◌, ℕ, ◌++◌, ◌∷◌, [], IfOk, OnOk, IsTrue, codes};
+ghost use Rattle.std.specs.Prelude.{◌≡◌, ◌++◌, ℕ, IfOk, OnOk, codes};
 ghost use Rattle.std.specs.Prelude.{List, decimal};
 ghost use Rattle.std.specs.List.{list_any};
 ghost use Rattle.svg_drawing.specs.Grouped.{grouped_of};
-ghost use Rattle.run_film.specs.Beats.{film_of, joins_in};
+ghost use Rattle.run_film.specs.Beats.{film_of};
 ghost use Rattle.run_film.specs.Films.{drawn, Keeps};
 ghost use Rattle.run_film.specs.Shapes.{symbol_shown};
-ghost use Rattle.run_film.specs.Symbols.{has_parent, parents_in, HasArrows, HasDistances, HasEdges};
+ghost use Rattle.run_film.specs.Symbols.{has_parent, parents_in, HasDistances};
 ghost use Rattle.run_film.specs.Symbols.{HasEdge, HasMarks, HasSymbols, IsDefined};
 ghost use Rattle.run_film.specs.Tracks.{pair_code};
 
@@ -14,6 +14,7 @@ use crate::curve::{half, whole};
 use crate::frames::put_frame_symbols;
 use crate::material::Material;
 use crate::pace::Shown;
+use crate::pairs::{Paired, put_pairs};
 use crate::shapes::{circle, form, outline, symbol};
 use crate::stage::Stage;
 use crate::track::{is_named, look_of};
@@ -45,8 +46,8 @@ pub fn put_symbols(material: Material<'_>, groups: &mut Vec<Group>) -> Result<()
     put_others(material, groups)?;
     put_marks(material.alloc, groups)?;
     put_distances(material.alloc, groups, material.net)?;
-    put_arrows(material, groups)?;
-    put_edges(material, groups)?;
+    put_pairs(material, groups, Paired::Arrow)?;
+    put_pairs(material, groups, Paired::Lines)?;
     put_frame_symbols(material, groups)?;
     Ok(())
 }
@@ -166,49 +167,8 @@ fn distance_text(alloc: Global, distance: u16) -> Result<Group, AllocError>
     symbol_of(alloc, name.as_str(), text)
 }
 
-/// The arrow from each node to each parent that it has in some still.
-fn put_arrows(material: Material<'_>, groups: &mut Vec<Group>) -> Result<(), AllocError>
-    ensures arrows { OnOk result (HasArrows (drawn groups.new.items) (film_of material.entry.shown) material.entry.net.now) }
-    ensures keeps { OnOk result (Keeps (drawn groups.old.items) (drawn groups.new.items)) }
-{
-    for v in 0..material.net.nodes() {
-        put_arrows_of(material, groups, v)?;
-    }
-    Ok(())
-}
-
-/// Those of a node.
-fn put_arrows_of(material: Material<'_>, groups: &mut Vec<Group>, v: u16) -> Result<(), AllocError>
-    ensures arrows { OnOk result ((w : ℕ) → w < material.entry.net.now.nodes
-        → IsTrue (parents_in (film_of material.entry.shown) v w)
-        → IsDefined (drawn groups.new.items) (pair_code (codes "a") v w)) }
-    ensures keeps { OnOk result (Keeps (drawn groups.old.items) (drawn groups.new.items)) }
-{
-    for w in 0..material.net.nodes() {
-        put_arrow(material, groups, v, w)?;
-    }
-    Ok(())
-}
-
-/// The arrow from a node to another, if that is its parent in some still.
-fn put_arrow(
-    material: Material<'_>,
-    groups: &mut Vec<Group>,
-    v: u16,
-    w: u16,
-) -> Result<(), AllocError>
-    ensures arrow { OnOk result (IsTrue (parents_in (film_of material.entry.shown) v w)
-        → IsDefined (drawn groups.new.items) (pair_code (codes "a") v w)) }
-    ensures keeps { OnOk result (Keeps (drawn groups.old.items) (drawn groups.new.items)) }
-{
-    if is_parent(material.shown, v, w) {
-        put_symbol(groups, arrow(material.alloc, material.stage, v, w)?)?;
-    }
-    Ok(())
-}
-
 /// Whether a node has another for its parent in some still.
-fn is_parent(shown: Shown<'_>, v: u16, parent: u16) -> bool
+pub fn is_parent(shown: Shown<'_>, v: u16, parent: u16) -> bool
     ensures { result ≡ parents_in (film_of shown.entry) v parent }
 {
     has_parent(shown.opening(), v, parent) || any_has_parent(shown.later(), v, parent)
@@ -229,7 +189,7 @@ fn has_parent(still: &Still, v: u16, parent: u16) -> bool
 }
 
 /// The arrow from a node to a parent.
-fn arrow(alloc: Global, stage: &Stage, v: u16, parent: u16) -> Result<Group, AllocError>
+pub fn arrow(alloc: Global, stage: &Stage, v: u16, parent: u16) -> Result<Group, AllocError>
     ensures { IfOk result (λ group. (grouped_of group).element ≡ symbol_shown (pair_code (codes "a") v parent)) }
 {
     let name = format!(in alloc; "a{v}-{parent}")?;
@@ -242,45 +202,19 @@ fn arrow(alloc: Global, stage: &Stage, v: u16, parent: u16) -> Result<Group, All
     symbol_of(alloc, name.as_str(), line)
 }
 
-/// The lines of each edge that some still has.
-fn put_edges(material: Material<'_>, groups: &mut Vec<Group>) -> Result<(), AllocError>
-    ensures edges { OnOk result (HasEdges (drawn groups.new.items) (film_of material.entry.shown) material.entry.net.now) }
-    ensures keeps { OnOk result (Keeps (drawn groups.old.items) (drawn groups.new.items)) }
-{
-    for w in 0..material.net.nodes() {
-        put_edges_of(material, groups, w)?;
-    }
-    Ok(())
-}
-
-/// Those between a node and one of a smaller id.
-fn put_edges_of(material: Material<'_>, groups: &mut Vec<Group>, w: u16) -> Result<(), AllocError>
-    ensures edges { OnOk result ((v : ℕ) → v < w → IsTrue (joins_in (film_of material.entry.shown) v w)
-        → HasEdge (drawn groups.new.items) v w) }
-    ensures keeps { OnOk result (Keeps (drawn groups.old.items) (drawn groups.new.items)) }
-{
-    for v in 0..w {
-        put_edge(material, groups, v, w)?;
-    }
-    Ok(())
-}
-
-/// The lines of the edge between two nodes, if some still has it: a thin one, and a strong one for the
-/// time in which it is one of the true tree.
-fn put_edge(
+/// The lines of the edge between two nodes: a thin one, and a strong one for the time in which it is one
+/// of the true tree.
+pub fn put_lines(
     material: Material<'_>,
     groups: &mut Vec<Group>,
     v: u16,
     w: u16,
 ) -> Result<(), AllocError>
-    ensures edge { OnOk result (IsTrue (joins_in (film_of material.entry.shown) v w)
-        → HasEdge (drawn groups.new.items) v w) }
+    ensures lines { OnOk result (HasEdge (drawn groups.new.items) v w) }
     ensures keeps { OnOk result (Keeps (drawn groups.old.items) (drawn groups.new.items)) }
 {
-    if material.shown.joins(v, w) {
-        put_symbol(groups, edge(material, "e", 2, v, w)?)?;
-        put_symbol(groups, edge(material, "b", 5, v, w)?)?;
-    }
+    put_symbol(groups, edge(material, "e", 2, v, w)?)?;
+    put_symbol(groups, edge(material, "b", 5, v, w)?)?;
     Ok(())
 }
 

@@ -1,23 +1,19 @@
 //! Frames that wait: they are under way, and the last event did not just send them.
-ghost use Rattle.std.specs.Prelude.{◌≡◌, ◌<◌, ℕ, IfOk, OnOk, IsTrue, codes};
+ghost use Rattle.std.specs.Prelude.{◌≡◌, IfOk, OnOk, IsTrue, codes};
 ghost use Rattle.std.specs.List.{list_any};
 ghost use Rattle.svg_drawing.specs.Grouped.{grouped_of};
-ghost use Rattle.run_film.specs.declared.track.Track.TheVariants.{Waiting};
 ghost use Rattle.run_film.specs.Beats.{film_of};
-ghost use Rattle.run_film.specs.Films.{drawn, IsPlayed, Keeps};
+ghost use Rattle.run_film.specs.Films.{drawn, Keeps};
 ghost use Rattle.run_film.specs.Shapes.{symbol_shown};
 ghost use Rattle.run_film.specs.Symbols.{IsDefined};
-ghost use Rattle.run_film.specs.Tracks.{frames_between, is_waiting, pair_code, sends, track_shown};
-ghost use Rattle.run_film.specs.Tracks.{waits_in};
+ghost use Rattle.run_film.specs.Tracks.{frames_between, is_waiting, pair_code, sends, waits_in};
 
 use crate::curve::waiting_place;
 use crate::material::Material;
-use crate::nodes::{ORIGIN, put_track};
 use crate::pace::Shown;
 use crate::shapes::{circle, symbol};
 use crate::stage::Stage;
 use crate::symbols::put_symbol;
-use crate::track::Track;
 use run_recording::{Event, Still};
 use std::alloc::{AllocError, Global};
 use svg_drawing::Group;
@@ -49,7 +45,7 @@ fn sends(event: Option<Event>, u: u16, v: u16) -> bool
 }
 
 /// Whether a frame waits between two nodes in some still.
-fn waits_in(shown: Shown<'_>, u: u16, v: u16) -> bool
+pub fn waits_in(shown: Shown<'_>, u: u16, v: u16) -> bool
     ensures { result ≡ waits_in (film_of shown.entry) u v }
 {
     is_waiting(shown.opening(), u, v) || any_waits(shown.later(), u, v)
@@ -89,50 +85,4 @@ fn waiting_symbol(alloc: Global, stage: &Stage, u: u16, v: u16) -> Result<Group,
     let name = format!(in alloc; "m{u}-{v}")?;
     let dot = circle(alloc, waiting_place(stage, u, v), 4, "dot", "#22262a")?;
     symbol(alloc, name.as_str())?.holding(dot)
-}
-
-/// Draws the frames that wait between any two nodes in some still.
-pub fn put_all_waiting(material: Material<'_>, groups: &mut Vec<Group>) -> Result<(), AllocError>
-    ensures waiting { OnOk result ((u : ℕ) → u < material.entry.net.now.nodes → (v : ℕ) → v < material.entry.net.now.nodes
-        → IsTrue (waits_in (film_of material.entry.shown) u v)
-        → IsPlayed (drawn groups.new.items) (track_shown (Waiting u v) (film_of material.entry.shown))) }
-    ensures keeps { OnOk result (Keeps (drawn groups.old.items) (drawn groups.new.items)) }
-{
-    for u in 0..material.net.nodes() {
-        put_waiting_from(material, groups, u)?;
-    }
-    Ok(())
-}
-
-/// Those that wait on their way from a node.
-fn put_waiting_from(
-    material: Material<'_>,
-    groups: &mut Vec<Group>,
-    u: u16,
-) -> Result<(), AllocError>
-    ensures waiting { OnOk result ((v : ℕ) → v < material.entry.net.now.nodes → IsTrue (waits_in (film_of material.entry.shown) u v)
-        → IsPlayed (drawn groups.new.items) (track_shown (Waiting u v) (film_of material.entry.shown))) }
-    ensures keeps { OnOk result (Keeps (drawn groups.old.items) (drawn groups.new.items)) }
-{
-    for v in 0..material.net.nodes() {
-        put_waiting(material, groups, u, v)?;
-    }
-    Ok(())
-}
-
-/// Those that wait on their way from a node to another.
-fn put_waiting(
-    material: Material<'_>,
-    groups: &mut Vec<Group>,
-    u: u16,
-    v: u16,
-) -> Result<(), AllocError>
-    ensures waiting { OnOk result (IsTrue (waits_in (film_of material.entry.shown) u v)
-        → IsPlayed (drawn groups.new.items) (track_shown (Waiting u v) (film_of material.entry.shown))) }
-    ensures keeps { OnOk result (Keeps (drawn groups.old.items) (drawn groups.new.items)) }
-{
-    if waits_in(material.shown, u, v) {
-        put_track(material, groups, Track::Waiting(u, v), ORIGIN)?;
-    }
-    Ok(())
 }
