@@ -1,6 +1,5 @@
 pub mod Drawn
 pub mod Head
-pub mod Tree
 pub mod Legend
 pub mod Picture
 pub mod Curves

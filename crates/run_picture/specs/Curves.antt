@@ -1,5 +1,5 @@
 -- The two step curves below the lanes: how many nodes are privileged, and how many lend.
-use Rattle.std.specs.Prelude.{ℕ, suc, ◌+◌, ◌-◌, ◌/◌, ◌==◌, if◌then◌else◌, max, min, List, [], ◌∷◌, ◌++◌, codes, decimal, fold, map}
+use Rattle.std.specs.Prelude.{ℕ, ◌+◌, ◌-◌, ◌/◌, ◌==◌, if◌then◌else◌, max, min, List, [], ◌∷◌, ◌++◌, codes, decimal, fold, map}
 use Rattle.std.specs.List.{flat_map}
 use Rattle.run_recording.specs.declared.column.Column.{Column}
 use Rattle.svg_drawing.specs.declared.canvas.Anchor.TheVariants.{Start, End}
@@ -9,6 +9,7 @@ use Rattle.run_picture.specs.declared.layout.curves.Curve.{Curve}
 use Rattle.run_picture.specs.declared.layout.curves.Curve.TheVariants.{Privileged, Lending}
 use Rattle.svg_drawing.specs.Drawn.{Shown, Pen, line_shown, path_shown, words_shown, whole}
 use Rattle.svg_drawing.specs.Lengths.{px}
+use Rattle.run_picture.specs.Added.{over_each}
 use Rattle.run_picture.specs.Page.{x_of, right_of, ground_of, level_of}
 
 -- the most nodes that are privileged, or lend, in any column, at least 1
@@ -36,8 +37,7 @@ step_in page node place count =
 
 -- so it goes on through these columns, of which the first stands at a place
 abbrev pub steps_from : Page → ℕ → ℕ → List ℕ → List ℕ
-steps_from page node place [] = []
-steps_from page node place (count ∷ counts) = step_in page node place count ++ steps_from page node (suc place) counts
+steps_from page node = over_each (step_in page node)
 
 -- the steps of a curve: it begins at the left end of the columns, where the first count stands
 abbrev pub curve_steps : Page → ℕ → List ℕ → List ℕ

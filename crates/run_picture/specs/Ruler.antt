@@ -6,15 +6,13 @@ use Rattle.run_recording.specs.declared.column.Column.{Column}
 use Rattle.svg_drawing.specs.declared.canvas.Anchor.TheVariants.{Middle, End}
 use Rattle.svg_drawing.specs.declared.colours.Colour.TheVariants.{Red, Ink, Blue}
 use Rattle.run_picture.specs.declared.layout.page.Page.{Page}
+use Rattle.run_picture.specs.declared.layout.ruler.Mark.{Mark}
+use Rattle.run_picture.specs.declared.layout.ruler.Mark.TheVariants.{Damage, Sweep}
 use Rattle.run_picture.specs.declared.layout.ruler.SweepNumber.{SweepNumber}
 use Rattle.svg_drawing.specs.Drawn.{Shown, form_shown, line_shown, path_shown, words_shown, whole}
 use Rattle.svg_drawing.specs.Lengths.{px}
+use Rattle.run_picture.specs.Added.{over_each}
 use Rattle.run_picture.specs.Page.{middle_of, ground_of}
-
--- what stands over columns from left to right, of which the first stands at a place
-abbrev pub over_each : {X : Type 0} → (ℕ → Column → List X) → ℕ → List Column → List X
-over_each over place [] = []
-over_each over place (column ∷ columns) = over place column ++ over_each over (suc place) columns
 
 -- the mark over a column, if damage was accepted in it: from 134 below the upper end of the page on
 abbrev pub damage_over : Page → ℕ → Column → List ℕ
@@ -27,6 +25,11 @@ abbrev pub tick_over : Page → ℕ → Column → List ℕ
 tick_over page place column =
     if nat_lt 0 column.sweeps then codes "M" ++ (decimal (middle_of page place) ++ (codes " " ++ (decimal 164 ++ codes "v10")))
     else []
+
+-- either of them
+abbrev pub mark_over : Mark → Page → ℕ → Column → List ℕ
+mark_over Damage = damage_over
+mark_over Sweep = tick_over
 
 -- how many sweeps have ended in these columns, where as many had before them; the count stays at the
 -- greatest value of 64 bits

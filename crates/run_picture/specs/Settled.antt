@@ -1,5 +1,5 @@
 -- What has settled, as four thin lanes below the picture.
-use Rattle.std.specs.Prelude.{ℕ, suc, ◌+◌, ◌-◌, ◌*◌, ◌/◌, if◌then◌else◌, max, min, List, [], ◌∷◌, ◌++◌, codes, decimal, map}
+use Rattle.std.specs.Prelude.{ℕ, ◌+◌, ◌-◌, ◌*◌, ◌/◌, if◌then◌else◌, max, min, List, [], ◌∷◌, ◌++◌, codes, decimal, map}
 use Rattle.run_recording.specs.layers.declared.whole.Layers.{Layers}
 use Rattle.svg_drawing.specs.declared.canvas.Anchor.TheVariants.{End}
 use Rattle.svg_drawing.specs.declared.colours.Colour.{Colour}
@@ -9,6 +9,7 @@ use Rattle.svg_drawing.specs.Lengths.{px}
 use Rattle.run_picture.specs.declared.layout.page.Page.{Page}
 use Rattle.run_picture.specs.declared.layout.settled.Layer.{Layer}
 use Rattle.run_picture.specs.declared.layout.settled.Layer.TheVariants.{Links, Tree, Ring, Loans}
+use Rattle.run_picture.specs.Added.{over_each}
 use Rattle.run_picture.specs.Page.{ground_of, right_of, x_of}
 
 -- what stands left of a layer's lane
@@ -53,8 +54,7 @@ settled_step page base place level =
     codes "V" ++ (decimal (base - level) ++ (codes "H" ++ decimal (x_of page (place + 1))))
 
 abbrev pub settled_from : Page → ℕ → ℕ → List ℕ → List ℕ
-settled_from page base place [] = []
-settled_from page base place (level ∷ levels) = settled_step page base place level ++ settled_from page base (suc place) levels
+settled_from page base = over_each (settled_step page base)
 
 -- the outline of a lane: from its lower left corner along the levels, and down again
 abbrev pub settled_steps : Page → ℕ → List ℕ → List ℕ

@@ -1,5 +1,5 @@
 -- The network, beside the lanes: each node in its lane, as far to the right as it is from the root.
-use Rattle.std.specs.Prelude.{ℕ, suc, ◌+◌, ◌-◌, ◌/◌, ◌==◌, if◌then◌else◌, nat_lt, max, min, List, [], ◌∷◌, ◌++◌, Option, Some, codes, decimal}
+use Rattle.std.specs.Prelude.{ℕ, ◌+◌, ◌-◌, ◌/◌, ◌==◌, if◌then◌else◌, nat_lt, max, min, List, [], ◌∷◌, ◌++◌, Option, Some, codes, decimal}
 use Rattle.std.specs.List.{flat_map, position}
 use Rattle.topology.specs.Network.{Network, Edge}
 use Rattle.topology.specs.Tree.{distance_of}
@@ -9,6 +9,7 @@ use Rattle.run_picture.specs.declared.layout.page.Page.{Page}
 use Rattle.svg_drawing.specs.Drawn.{Shown, circle_shown, path_shown, words_shown, whole}
 use Rattle.svg_drawing.specs.Lengths.{px}
 use Rattle.run_recording.specs.TreeEdges.{is_on_tree}
+use Rattle.run_picture.specs.Added.{over_each}
 use Rattle.run_picture.specs.Page.{node_x, y_of}
 use Rattle.run_picture.specs.Words.{node_name}
 
@@ -59,8 +60,7 @@ node_shown page net lane v =
 
 -- nodes in lanes below each other, from one on
 abbrev pub nodes_shown : Page → Network → ℕ → List ℕ → List Shown
-nodes_shown page net lane [] = []
-nodes_shown page net lane (v ∷ order) = node_shown page net lane v ++ nodes_shown page net (suc lane) order
+nodes_shown page net = over_each (node_shown page net)
 
 -- the network: all its edges, and over them its nodes
 abbrev pub tree_shown : Page → Network → List ℕ → List Shown

@@ -1,6 +1,6 @@
 //! A run laid out on a page.
-ghost use Rattle.std.specs.Prelude.{◌≡◌, ◌∷◌, ◌++◌, [], IfOk, OnOk, map, string_bytes};
-ghost use Rattle.svg_drawing.specs.Drawn.{given_of, numbered};
+ghost use Rattle.std.specs.Prelude.{◌≡◌, IfOk, OnOk, map};
+ghost use Rattle.svg_drawing.specs.Drawn.{given_of};
 ghost use Rattle.run_picture.specs.Picture.{attributes_of, AddsLastState, AreStatesOf};
 ghost use Rattle.run_picture.specs.Picture.{IsLayeredPicture, IsPicture};
 
@@ -23,7 +23,7 @@ use ruler::draw_ruler;
 use run_recording::{Layers, Recording, first_visits};
 use settled::draw_settled;
 use std::alloc::{AllocError, Global};
-use svg_drawing::{Attribute, Canvas, Colour, Drawing, Point, Px};
+use svg_drawing::{Attribute, Canvas, Colour, Drawing, Element, Point, Px};
 use topology::Net;
 use tree::draw_tree;
 use words::draw_head;
@@ -111,49 +111,14 @@ fn page_attributes(alloc: Global, width: Px, height: Px) -> Result<Vec<Attribute
         ≡ attributes_of width.0 height.0) }
 {
     let (width, height) = (width.0, height.0);
-    let mut attributes = Vec::new(alloc);
-    put(
-        &mut attributes,
-        alloc,
-        "xmlns",
-        "http://www.w3.org/2000/svg",
-    )?;
-    put(&mut attributes, alloc, "version", "1.1")?;
-    put_number(&mut attributes, alloc, "width", width)?;
-    put_number(&mut attributes, alloc, "height", height)?;
-    let shown = format!(in alloc; "0 0 {width} {height}")?;
-    put(&mut attributes, alloc, "viewBox", shown.as_str())?;
-    put(&mut attributes, alloc, "font-family", "sans-serif")?;
-    put(&mut attributes, alloc, "font-size", "11")?;
-    Ok(attributes)
-}
-
-/// Adds an attribute.
-fn put(
-    attributes: &mut Vec<Attribute>,
-    alloc: Global,
-    name: &'static str,
-    value: &str,
-) -> Result<(), AllocError>
-    ensures { OnOk result (map given_of attributes.new.items
-        ≡ map given_of attributes.old.items ++ record { name = name.now; value = value.now } ∷ []) }
-{
-    let value = format!(in alloc; "{value}")?;
-    attributes.push(Attribute { name, value })?;
-    Ok(())
-}
-
-/// Adds an attribute that has a number for its value.
-fn put_number(
-    attributes: &mut Vec<Attribute>,
-    alloc: Global,
-    name: &'static str,
-    number: u32,
-) -> Result<(), AllocError>
-    ensures { OnOk result (map given_of attributes.new.items
-        ≡ map given_of attributes.old.items ++ numbered name.now number ∷ []) }
-{
-    let value = format!(in alloc; "{number}")?;
-    attributes.push(Attribute { name, value })?;
-    Ok(())
+    let view = format!(in alloc; "0 0 {width} {height}")?;
+    let holder = Element::new(alloc, "svg")
+        .with(alloc, "xmlns", "http://www.w3.org/2000/svg")?
+        .with(alloc, "version", "1.1")?
+        .with_number(alloc, "width", width)?
+        .with_number(alloc, "height", height)?
+        .with(alloc, "viewBox", view.as_str())?
+        .with(alloc, "font-family", "sans-serif")?
+        .with(alloc, "font-size", "11")?;
+    Ok(holder.attributes)
 }

@@ -14,12 +14,21 @@ use super::ruler::BOLT;
 use std::alloc::{AllocError, Global};
 use svg_drawing::{Anchor, Canvas, Colour, Point, Px, Stroke};
 
-/// The baselines of the three lines of the legend.
-const COLOURS: Px = Px(68);
+/// Where the three lines of the legend begin.
+const COLOURS: Point = Point {
+    x: Page::MARGIN,
+    y: Px(68),
+};
 
-const SIGNS: Px = Px(86);
+const SIGNS: Point = Point {
+    x: Page::MARGIN,
+    y: Px(86),
+};
 
-const COLUMNS: Px = Px(104);
+const COLUMNS: Point = Point {
+    x: Page::MARGIN,
+    y: Px(104),
+};
 
 /// How wide a letter is taken to be.
 const LETTER: Px = Px(6);
@@ -27,29 +36,14 @@ const LETTER: Px = Px(6);
 /// What the legend explains.
 #[derive(Clone, Copy)]
 pub enum Sign {
-    /// A bar of a lane.
-    Bar {
-        /// Its colour.
-        colour: Colour,
-        /// Its height.
-        height: u32,
-    },
+    /// A bar of a lane: its colour, and its height.
+    Bar(Colour, u32),
     /// The mark of damage.
     Bolt,
-    /// A line that stands over the lanes, or goes through them.
-    Upright {
-        /// Its colour.
-        colour: Colour,
-        /// Its width.
-        width: u32,
-    },
-    /// A line that joins two nodes.
-    Edge {
-        /// Its colour.
-        colour: Colour,
-        /// Its width.
-        width: u32,
-    },
+    /// A line that stands over the lanes, or goes through them: its colour, and its width.
+    Upright(Colour, u32),
+    /// A line that joins two nodes: its colour, and its width.
+    Edge(Colour, u32),
 }
 
 impl Sign {
@@ -58,7 +52,7 @@ impl Sign {
         ensures { result.0 ≡ room_of self }
     {
         match self {
-            Sign::Upright { .. } => Px(16),
+            Sign::Upright(..) => Px(16),
             _ => Px(22),
         }
     }
@@ -78,29 +72,13 @@ fn draw_colours(canvas: &mut Canvas) -> Result<(), AllocError>
     ensures { OnOk result (drawn canvas.new
         ≡ drawn canvas.old ++ meanings_shown 16 68 colour_meanings) }
 {
-    let start = Point {
-        x: Page::MARGIN,
-        y: COLOURS,
-    };
-    let sign = Sign::Bar {
-        colour: Colour::Pale,
-        height: 12,
-    };
-    let next = explain(canvas, start, sign, "distance and parent true")?;
-    let sign = Sign::Bar {
-        colour: Colour::Grey,
-        height: 6,
-    };
+    let sign = Sign::Bar(Colour::Pale, 12);
+    let next = explain(canvas, COLOURS, sign, "distance and parent true")?;
+    let sign = Sign::Bar(Colour::Grey, 6);
     let next = explain(canvas, next, sign, "distance or parent wrong")?;
-    let sign = Sign::Bar {
-        colour: Colour::Gold,
-        height: 9,
-    };
+    let sign = Sign::Bar(Colour::Gold, 9);
     let next = explain(canvas, next, sign, "privileged")?;
-    let sign = Sign::Bar {
-        colour: Colour::Red,
-        height: 12,
-    };
+    let sign = Sign::Bar(Colour::Red, 12);
     explain(canvas, next, sign, "lends the lock, to the ticket written")?;
     Ok(())
 }
@@ -110,30 +88,14 @@ fn draw_signs(canvas: &mut Canvas) -> Result<(), AllocError>
     ensures { OnOk result (drawn canvas.new
         ≡ drawn canvas.old ++ meanings_shown 16 86 sign_meanings) }
 {
-    let start = Point {
-        x: Page::MARGIN,
-        y: SIGNS,
-    };
-    let next = explain(canvas, start, Sign::Bolt, "damage")?;
-    let sign = Sign::Upright {
-        colour: Colour::Ink,
-        width: 1,
-    };
+    let next = explain(canvas, SIGNS, Sign::Bolt, "damage")?;
+    let sign = Sign::Upright(Colour::Ink, 1);
     let next = explain(canvas, next, sign, "a sweep ends")?;
-    let sign = Sign::Upright {
-        colour: Colour::Blue,
-        width: 2,
-    };
+    let sign = Sign::Upright(Colour::Blue, 2);
     let next = explain(canvas, next, sign, "the guarantee holds from here")?;
-    let sign = Sign::Edge {
-        colour: Colour::Ink,
-        width: 3,
-    };
+    let sign = Sign::Edge(Colour::Ink, 3);
     let next = explain(canvas, next, sign, "edge of the tree")?;
-    let sign = Sign::Edge {
-        colour: Colour::Faint,
-        width: 1,
-    };
+    let sign = Sign::Edge(Colour::Faint, 1);
     explain(canvas, next, sign, "other edge")?;
     Ok(())
 }
@@ -144,11 +106,7 @@ fn draw_width(canvas: &mut Canvas, width: u64) -> Result<(), AllocError>
         ≡ drawn canvas.old ++ words_shown 16 104 Start Ink (column_words width) ∷ []) }
 {
     let what = column_words(canvas.alloc(), width)?;
-    let at = Point {
-        x: Page::MARGIN,
-        y: COLUMNS,
-    };
-    canvas.words(at, Anchor::Start, Colour::Ink, what.as_str())
+    canvas.words(COLUMNS, Anchor::Start, Colour::Ink, what.as_str())
 }
 
 /// How many moments a column shows, in words.
@@ -187,10 +145,10 @@ fn draw_sign(canvas: &mut Canvas, at: Point, sign: Sign) -> Result<(), AllocErro
         ≡ drawn canvas.old ++ sign_shown at.x.0 at.y.0 sign ∷ []) }
 {
     match sign {
-        Sign::Bar { colour, height } => draw_bar(canvas, at, colour, Px(height)),
+        Sign::Bar(colour, height) => draw_bar(canvas, at, colour, Px(height)),
         Sign::Bolt => draw_bolt(canvas, at),
-        Sign::Upright { colour, width } => draw_upright(canvas, at, Stroke::whole(colour, width)),
-        Sign::Edge { colour, width } => draw_edge(canvas, at, Stroke::whole(colour, width)),
+        Sign::Upright(colour, width) => draw_upright(canvas, at, Stroke::whole(colour, width)),
+        Sign::Edge(colour, width) => draw_edge(canvas, at, Stroke::whole(colour, width)),
     }
 }
 

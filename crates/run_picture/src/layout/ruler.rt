@@ -1,9 +1,9 @@
 //! What stands above the lanes: damage, sweeps, and from where on the guarantee holds.
 ghost use Rattle.std.specs.Prelude.{◌≡◌, if◌then◌else◌, [], ◌∷◌, ◌++◌, OnOk, IfOk};
 ghost use Rattle.std.specs.Prelude.{string_bytes, length, map};
-ghost use Rattle.run_picture.specs.Added.{Adds};
+ghost use Rattle.run_picture.specs.Added.{over_each, Adds};
 ghost use Rattle.svg_drawing.specs.Drawn.{drawn};
-ghost use Rattle.run_picture.specs.Ruler.{damage_over, tick_over, over_each, AreNumbers};
+ghost use Rattle.run_picture.specs.Ruler.{mark_over, AreNumbers};
 ghost use Rattle.run_picture.specs.Ruler.{has_room, with_number, damage_shown, ticks_shown};
 ghost use Rattle.run_picture.specs.Ruler.{guarantee_shown, guarantees_over, lines_named};
 ghost use Rattle.run_picture.specs.Ruler.{sweeps_shown, IsRuler};
@@ -26,6 +26,15 @@ const DAMAGE: Px = Px(134);
 
 /// Where the ticks of the sweeps begin.
 const SWEEPS: Px = Px(164);
+
+/// A mark over a column.
+#[derive(Clone, Copy)]
+enum Mark {
+    /// Damage was accepted in it.
+    Damage,
+    /// A sweep ends in it.
+    Sweep,
+}
 
 /// The line from which a guarantee holds.
 #[derive(Clone, Copy)]
@@ -100,38 +109,8 @@ fn draw_damage(canvas: &mut Canvas, page: Page, columns: &[Column]) -> Result<()
     ensures { OnOk result (drawn canvas.new
         ≡ drawn canvas.old ++ damage_shown page columns.now ∷ []) }
 {
-    let steps = damage_steps(canvas.alloc(), page, columns)?;
+    let steps = mark_steps(canvas.alloc(), page, columns, Mark::Damage)?;
     canvas.form(steps.as_str(), Colour::Red)
-}
-
-/// The steps of the marks of damage.
-fn damage_steps(alloc: Global, page: Page, columns: &[Column]) -> Result<String, AllocError>
-    ensures { IfOk result (λ steps. string_bytes steps
-        ≡ over_each (damage_over page) 0 columns.now) }
-{
-    let mut steps = String::new(alloc);
-    for place in 0..columns.len() {
-        push_damage(&mut steps, page, place, &columns[place])?;
-    }
-    Ok(steps)
-}
-
-/// Adds the mark over a column, if damage was accepted in it.
-fn push_damage(
-    steps: &mut String,
-    page: Page,
-    place: usize,
-    column: &Column,
-) -> Result<(), AllocError>
-    ensures { OnOk result (string_bytes steps.new
-        ≡ string_bytes steps.old ++ damage_over page place column.now) }
-{
-    if !column.damaged {
-        return Ok(());
-    }
-    let x = page.middle(place).0;
-    let y = DAMAGE.0;
-    write!(steps, "M{x} {y}{BOLT}")
 }
 
 /// Draws a tick over each column in which a sweep ends.
@@ -139,38 +118,44 @@ fn draw_sweeps(canvas: &mut Canvas, page: Page, columns: &[Column]) -> Result<()
     ensures { OnOk result (drawn canvas.new
         ≡ drawn canvas.old ++ ticks_shown page columns.now ∷ []) }
 {
-    let steps = tick_steps(canvas.alloc(), page, columns)?;
+    let steps = mark_steps(canvas.alloc(), page, columns, Mark::Sweep)?;
     canvas.path(steps.as_str(), Stroke::whole(Colour::Ink, 1))
 }
 
-/// The steps of the ticks.
-fn tick_steps(alloc: Global, page: Page, columns: &[Column]) -> Result<String, AllocError>
+/// The steps of the marks over the columns.
+fn mark_steps(
+    alloc: Global,
+    page: Page,
+    columns: &[Column],
+    mark: Mark,
+) -> Result<String, AllocError>
     ensures { IfOk result (λ steps. string_bytes steps
-        ≡ over_each (tick_over page) 0 columns.now) }
+        ≡ over_each (mark_over mark page) 0 columns.now) }
 {
     let mut steps = String::new(alloc);
     for place in 0..columns.len() {
-        push_tick(&mut steps, page, place, &columns[place])?;
+        push_mark(&mut steps, page, place, &columns[place], mark)?;
     }
     Ok(steps)
 }
 
-/// Adds the tick over a column, if a sweep ends in it.
-fn push_tick(
+/// Adds the mark over a column, if what it stands for came in it.
+fn push_mark(
     steps: &mut String,
     page: Page,
     place: usize,
     column: &Column,
+    mark: Mark,
 ) -> Result<(), AllocError>
     ensures { OnOk result (string_bytes steps.new
-        ≡ string_bytes steps.old ++ tick_over page place column.now) }
+        ≡ string_bytes steps.old ++ mark_over mark page place column.now) }
 {
-    if column.sweeps == 0 {
-        return Ok(());
-    }
     let x = page.middle(place).0;
-    let y = SWEEPS.0;
-    write!(steps, "M{x} {y}v10")
+    match mark {
+        Mark::Damage if column.damaged => write!(steps, "M{x} {}{BOLT}", DAMAGE.0),
+        Mark::Sweep if column.sweeps != 0 => write!(steps, "M{x} {}v10", SWEEPS.0),
+        _ => Ok(()),
+    }
 }
 
 /// Writes the numbers over the ticks.

@@ -1,6 +1,7 @@
 use Rattle.std.proofs.Common.{◌≡◌, ◌++◌, take}
 use Rattle.svg_drawing.specs.Drawn.{drawn}
-use Rattle.run_picture.specs.Ruler.{guarantees_over, over_each}
+use Rattle.run_picture.specs.Added.{over_each}
+use Rattle.run_picture.specs.Ruler.{guarantees_over}
 use Rattle.run_picture.proofs.layout.ruler.draw_guarantees.Given as goal
 
 -- the lines of the columns so far are added
