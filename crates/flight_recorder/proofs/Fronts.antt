@@ -1,5 +1,5 @@
 -- What is read at the front of bytes: its numbers have their ranges, and it takes at least one byte.
-use Rattle.std.proofs.Common.{◌≡◌, ap, refl, sym, subst, arith, ℕ, suc, zero, ◌+◌, ◌-◌, ◌%◌, ◌^◌, ◌<◌, ◌≤◌, ◌==◌, Bool, true, false, List, [], ◌∷◌, ◌++◌, length, take, Option, Some, None, Result, Ok, Err, nat_lt, cond, inl, inr, ◌∙◌, drop, append_assoc}
+use Rattle.std.proofs.Common.{◌≡◌, ap, refl, sym, subst, arith, ℕ, suc, zero, ◌+◌, ◌-◌, ◌%◌, ◌^◌, ◌<◌, ◌≤◌, ◌==◌, List, [], ◌∷◌, ◌++◌, length, take, Option, Some, None, Result, Ok, Err, nat_lt, cond, inl, inr, ◌∙◌, drop, append_assoc}
 use Rattle.std.specs.Prelude.{IfSome, slice_index}
 use Rattle.std.specs.Str.{bytes_eq}
 use Rattle.std.proofs.lemmas.Grind.{common_steps}
@@ -7,18 +7,15 @@ use Rattle.std.proofs.lemmas.Bool.{cases_Bool}
 use Rattle.std.proofs.lemmas.List.{length-append, take-append-drop}
 use Rattle.std.proofs.Math.Seq.{drop-append_seam}
 use Rattle.flight_records.specs.leb128.Pieces.{IsOfAtMost}
-use Rattle.std.proofs.lemmas.Bool.Decides.{nat_tests}
 use Rattle.flight_records.specs.leb128.declared.unread.Unread.{Unread}
-use Rattle.flight_records.specs.leb128.declared.unread.Unread.TheVariants.{Short, Invalid}
+use Rattle.flight_records.specs.leb128.declared.unread.Unread.TheVariants.{Invalid}
 use Rattle.flight_records.specs.leb128.Reading.{◌>>=◌, with_low, number_in, number_at, numbers_at}
 use Rattle.flight_records.specs.declared.entry.Entry.{Entry}
 use Rattle.flight_records.specs.declared.entry.Noted.{Noted}
-use Rattle.flight_records.specs.declared.entry.Noted.TheVariants as noted
 use Rattle.flight_records.specs.declared.entry.StatePart.{StatePart}
 use Rattle.flight_records.specs.declared.entry.Deed.{Deed}
 use Rattle.flight_records.specs.Numbers.{fields}
-use Rattle.flight_records.specs.Spelling.{check}
-use Rattle.flight_records.specs.Reading.{narrow, field, optional_of, payload_in, frame_in, candidate_of, candidate, with_fields, entry_with, entry_of, count_of, part_in, deed_in, checked, entry_at}
+use Rattle.flight_records.specs.Reading.{optional_of, payload_in, frame_in, candidate_of, candidate, with_fields, entry_with, entry_of, count_of, part_in, deed_in, checked, entry_at}
 use Rattle.flight_records.specs.Laws.{IsNarrow, IsPayload, IsFrame, IsPart, IsDeed, IsNoted, AreRead, instant_after}
 use Rattle.flight_recorder.specs.Resume.{IsNone}
 

@@ -1,11 +1,11 @@
 -- An entry that was written is read again, a front of it is short, and what is read stands there as
 -- it is written.
-use Rattle.std.proofs.Common.{◌≡◌, ◌∙◌, ap, sym, refl, subst, arith, ℕ, ◌-◌, ◌==◌, Bool, true, List, [], ◌∷◌, ◌++◌, length, take, Result, Ok, Err, ◌⊎◌, inl, inr, append_assoc, cond}
-use Rattle.std.proofs.lemmas.Bool.{cases_Bool, eqb-true}
+use Rattle.std.proofs.Common.{◌≡◌, ◌∙◌, ap, sym, refl, subst, arith, ℕ, ◌-◌, ◌==◌, Bool, true, List, [], ◌∷◌, ◌++◌, length, take, Result, Ok, Err, ◌⊎◌, inl, inr, append_assoc}
+use Rattle.std.proofs.lemmas.Grind.{common_steps}
 use Rattle.std.proofs.lemmas.Bool.Decides.{Decides-eqb}
 use Rattle.std.proofs.lemmas.List.{take_at, length-append, append-nil}
 use Rattle.leb128.specs.declared.unread.Unread.{Unread}
-use Rattle.leb128.specs.declared.unread.Unread.TheVariants.{Short, Invalid}
+use Rattle.leb128.specs.declared.unread.Unread.TheVariants.{Short}
 use Rattle.leb128.specs.Spelling.{leb128, in_a_row}
 use Rattle.leb128.specs.Reading.{◌>>=◌, number_at, numbers_at}
 use Rattle.leb128.specs.Laws.{AreBytes, AreReadAgain, CutAreShort, WhatIsReadIsSpelled as WhatIsSpelled}
@@ -115,23 +115,7 @@ module _ (again : AreReadAgain) (cut : CutAreShort) (spelled : WhatIsSpelled) wh
       → (left ≡ check (take (length bytes - length left) bytes) ∷ rest) × (entry_of last k ns ≡ Ok e)
   unfolding checked
   checked-takes last k ns bytes [] e rest h = absurd cc
-  checked-takes last k ns bytes (c ∷ after) e rest h =
-      let sum = check (take (length bytes - length (c ∷ after)) bytes) in
-      let go : Result (Entry × List ℕ) Unread = (entry_of last k ns >>= λ e. Ok (e, after)) in
-      elim (cases_Bool (c == sum)) [
-        | inl so ↦
-            let e2 : go ≡ Ok (e, rest) = subst (λ t. cond t go (Err Invalid) ≡ Ok (e, rest)) so h in
-            let r = bind_ok (entry_of last k ns) (λ e. Ok (e, after)) (e, rest) e2 in
-            let both : ◌≡◌ {A = Result (Entry × List ℕ) Unread} (Ok (r.0, after)) (Ok (e, rest)) = r.2 in
-            let pair : ◌≡◌ {A = Entry × List ℕ} (r.0, after) (e, rest) = cc in
-            let e-is : r.0 ≡ e = ap (λ (x : Entry × List ℕ). x.0) pair in
-            let rest-is : after ≡ rest = ap (λ (x : Entry × List ℕ). x.1) pair in
-            let c-is : c ≡ sum = eqb-true c sum so in
-            (rw (← c-is) (ap (λ (l : List ℕ). c ∷ l) rest-is), r.1 ∙ ap (λ (x : Entry). Ok x) e-is)
-        | inr not_so ↦
-            let e2 : ◌≡◌ {A = Result (Entry × List ℕ) Unread} (Err Invalid) (Ok (e, rest)) = subst (λ t. cond t go (Err Invalid) ≡ Ok (e, rest)) not_so h in
-            absurd cc
-      ]
+  checked-takes last k ns bytes (c ∷ after) e rest h = (grind (arith, common_steps), grind (arith, common_steps))
 
   pub entry-takes : WhatIsReadIsWritten
   unfolding entry_at spelling

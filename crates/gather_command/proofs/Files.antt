@@ -14,18 +14,11 @@ use Rattle.gather_command.specs.declared.fault.FlawKind.{FlawKind}
 use Rattle.gather_command.specs.declared.fault.FlawKind.TheVariants as kind
 use Rattle.gather_command.specs.declared.fault.GatherFault.{GatherFault}
 use Rattle.gather_command.specs.declared.fault.GatherFault.TheVariants as fault
-use Rattle.gather_command.specs.Reading.{MayFail, IsReadOn, Unsaid, Ends, Tears, Spoils, Nameless, Stops, Further, in_full, start_of, IsFirstOf}
+use Rattle.gather_command.specs.Reading.{MayFail, IsReadOn, Unsaid, Ends, Tears, Spoils, Nameless, Stops, Further, in_full, start_of, IsFirstOf, flaw_for}
 use Rattle.gather_command.specs.View.{FileView, NodeRecordView}
 use Rattle.gather_command.specs.Records.{listed, flaw_at, flaw_of, IsFileFault, IsBegun, ComesOf, ComesFrom, IsToCome, after_file_with, GoesOn}
 
 -- ---- one file
-
--- what a reader's stop says of a file
-abbrev flaw_for : Stop → Option FlawKind
-flaw_for stop.End = None
-flaw_for stop.Torn = Some kind.Torn
-flaw_for stop.Invalid = Some kind.Spoiled
-flaw_for stop.Failed = Some kind.Unreadable
 
 pub further : (C : Type 0) (last : ℕ) (frames : FramesView) (bytes : Option (List ℕ)) (e : Entry) (long : Noted)
     (after : Option (List ℕ)) (now : ℕ) → ReadsNext last (Ok e) bytes after now → lengthened frames e.noted ≡ Some long
@@ -42,7 +35,7 @@ pub nameless : (C : Type 0) (last : ℕ) (frames : FramesView) (bytes : Option (
 nameless C last frames None e after now r l = Unsaid
 nameless C last frames (Some bytes) e after now (left, a, at, n) l = Nameless at l
 
-pub stops : (C : Type 0) (last : ℕ) (frames : FramesView) (bytes : Option (List ℕ)) (s : Stop)
+stops : (C : Type 0) (last : ℕ) (frames : FramesView) (bytes : Option (List ℕ)) (s : Stop)
     (after : Option (List ℕ)) (now : ℕ) → ReadsNext last (Err s) bytes after now → (s ≡ stop.Failed → C)
     → IsReadOn C last frames bytes [] (flaw_for s)
 stops C last frames None s after now r f = Unsaid
@@ -61,11 +54,11 @@ may-fail failures x y (Err stop.Torn) f h = absurd (cc h)
 may-fail failures x y (Err stop.Invalid) f h = absurd (cc h)
 may-fail failures x y (Err stop.Failed) f h = (x, y, f.0, f.1)
 
-pub stops-at : (C : Type 0) (last : ℕ) (frames : FramesView) (bytes : Option (List ℕ)) (s t : Stop)
-    (after : Option (List ℕ)) (now : ℕ) → s ≡ t → ReadsNext last (Err s) bytes after now
-    → (◌≡◌ {A = Result Entry Stop} (Err s) (Err stop.Failed) → C) → IsReadOn C last frames bytes [] (flaw_for t)
-stops-at C last frames bytes s t after now e r f =
-    subst (λ (x : Stop). IsReadOn C last frames bytes [] (flaw_for x)) e
+pub stops-with : (C : Type 0) (last : ℕ) (frames : FramesView) (bytes : Option (List ℕ)) (s : Stop) (flaw : Option FlawKind)
+    (after : Option (List ℕ)) (now : ℕ) → flaw ≡ flaw_for s → ReadsNext last (Err s) bytes after now
+    → (◌≡◌ {A = Result Entry Stop} (Err s) (Err stop.Failed) → C) → IsReadOn C last frames bytes [] flaw
+stops-with C last frames bytes s flaw after now e r f =
+    subst (λ (k : Option FlawKind). IsReadOn C last frames bytes [] k) (sym e)
     (stops C last frames bytes s after now r (λ h. f (ap Err h)))
 
 -- ---- the first entry of a file
@@ -83,6 +76,17 @@ fresh rest s t held last r after now p q z x =
     subst (λ (b : Option (List ℕ)). ReadsNext 0 r b after now) (whole (rest s) ∙ ap rest p)
     (subst (λ (h : List ℕ). ReadsNext 0 r (to_come (rest s) h) after now) q
     (subst (λ (n : ℕ). ReadsNext n r (to_come (rest s) held) after now) z x))
+
+-- it stops so
+pub first-stops : {S : Type 0} (rest : S → Option (List ℕ)) (failures : S → ℕ) (s t left : S) (held page : List ℕ) (last now : ℕ)
+    (why named : Stop) → (s ≡ t) × (held ≡ []) × (last ≡ 0) → why ≡ named
+    → ReadsNext last (Err why) (to_come (rest s) held) (to_come (rest left) page) now
+    → FailsAsSource (Err why) (failures s) (failures left)
+    → IsReadOn (MayFail failures) 0 no_frames (rest t) [] (flaw_for named)
+first-stops rest failures s t left held page last now why named (p, q, z) e r cause =
+    let after = to_come (rest left) page in
+    stops-with (MayFail failures) 0 no_frames (rest t) why (flaw_for named) after now (sym (ap flaw_for e))
+    (fresh rest s t held last (Err why) after now p q z r) (may-fail failures s left (Err why) cause)
 
 -- the start of a state is its own long form, and forgets all frames
 start-long : (n : Noted) (mark v : ℕ) → n ≡ start_of mark v → lengthened no_frames n ≡ Some n

@@ -1,5 +1,6 @@
 -- What was opened and woven is gathered.
 use Rattle.std.proofs.Common.{◌≡◌, ◌∙◌, ap, sym, subst, arith, ℕ, suc, ◌+◌, ◌≤◌, List, [], ◌∷◌, ◌++◌, Option, None, Result, Ok, Err, inl, inr, length, replicate, append_assoc}
+use Rattle.std.proofs.lemmas.Result.{IfErr-weaker}
 use Rattle.std.specs.Prelude.{fold, IfErr, IsErrAnd}
 use Rattle.topology.specs.Network.{Network}
 use Rattle.record_pages.specs.byte_streams.Streams.{Rose}
@@ -19,7 +20,7 @@ use Rattle.gather_command.specs.View.{NodeRecordView}
 use Rattle.gather_command.specs.WeavingView.{WeavingView}
 use Rattle.gather_command.specs.declared.records.Opened.{Opened}
 use Rattle.gather_command.specs.Reading.{Reads, Begins, OpensNoMore}
-use Rattle.gather_command.specs.Records.{IsFileOf, IsRecordOf, AreRecordsOf, NoMore, OneMore, IsToCome, AreToCome, IsRecordFault, IsFault, flaws_in}
+use Rattle.gather_command.specs.Records.{IsFileOf, IsRecordOf, AreRecordsOf, NoMore, OneMore, IsToCome, AreToCome, IsRecordFault, IsFault, IsOpened, flaws_in}
 use Rattle.gather_command.specs.Weave.{IsWoven}
 use Rattle.gather_command.specs.Watch.{Seen, seen_after, seen_of, numbers_of}
 use Rattle.gather_command.specs.Woven.{world_in, IsAtStart, IsBroken}
@@ -67,6 +68,20 @@ record-fault-as R S B D mark v f m b (inr (inl x)) =
     inr (inl (fault-as R S B D mark (record { node = v; side = Second }) f (m Second) (b Second) x))
 record-fault-as R S B D mark v f m b (inr (inr (e, x, y))) = inr (inr (e, m First [] None x, m Second [] None y))
 
+-- what comes of opening a record afterwards may come of it before
+pub opened-before : {S : Type 0} (before after : ℕ → Side → Opened S → Type 0) (rest : S → Option (List ℕ)) (C : Type 0)
+    → OpensNoMore before after → (m mark v : ℕ) → m ≡ mark → (r : Result NodeRecordView GatherFault)
+    → IsOpened C (Reads after rest C) (Begins after rest) m v r → IsOpened C (Reads before rest C) (Begins before rest) mark v r
+opened-before before after rest C same m mark v e (Ok r) opened = λ es flaws x.
+    subst (λ (n : ℕ). IsRecordOf (Reads before rest C) n v es flaws) e
+    (record-as (Reads after rest C) (Reads before rest C) m v es flaws (λ s xs f y. reads-before before after rest C same v s xs f y)
+    (opened es flaws x))
+opened-before before after rest C same m mark v e (Err why) refused =
+    subst (λ (n : ℕ). IsRecordFault (Reads before rest C) (Begins before rest) n v why) e
+    (record-fault-as (Reads after rest C) (Reads before rest C) (Begins after rest) (Begins before rest) m v why
+    (λ s xs f y. reads-before before after rest C same v s xs f y) (λ s first y. begins-before before after rest same v s first y)
+    refused)
+
 -- ---- records are opened one after the other
 
 pub plus-one : (v : ℕ) → v + 1 ≡ suc v
@@ -99,6 +114,13 @@ module _ (C : Type 0) (R : ℕ → Side → List Entry → Option FlawKind → T
       let here = before (r ∷ rest) (opened-more v r rest one (subst (λ (n : ℕ). AreOpened C R mark n rest) (plus-one v) x)) in
       subst (λ (l : List NodeRecordView). AreOpened C R mark 0 (l ++ rest)) (sym same)
       (subst (λ (l : List NodeRecordView). AreOpened C R mark 0 l) (sym (append_assoc nodes (r ∷ []) rest)) here)
+
+-- ---- the exit of a `?`
+
+pub fails-with : {T : Type 0} (P : GatherFault → Type 0) (r : Result T GatherFault) (why : GatherFault)
+    → IsErrAnd r (λ y. y ≡ why) → P why → IfErr r P
+fails-with P (Ok x) why e p = tt
+fails-with P (Err y) why e p = subst P (sym e) p
 
 -- ---- weaving breaks off
 
@@ -145,13 +167,6 @@ module _ {K : Type 0} (R : ℕ → Side → List Entry → Option FlawKind → T
   fault-refused (fault.NoRecord f) x e = (x, e)
   fault-refused (fault.OtherNetwork f) x e = (x, e)
   fault-refused (fault.OtherNode f v) x e = (x, e)
-
--- ---- the exit of a `?`
-
-pub fails-with : {T : Type 0} (P : GatherFault → Type 0) (r : Result T GatherFault) (why : GatherFault)
-    → IsErrAnd r (λ y. y ≡ why) → P why → IfErr r P
-fails-with P (Ok x) why e p = tt
-fails-with P (Err y) why e p = subst P (sym e) p
 
 -- ---- all is gathered
 

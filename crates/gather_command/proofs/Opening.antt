@@ -11,12 +11,16 @@ use Rattle.gather_command.specs.declared.fault.Flaw.{Flaw}
 use Rattle.gather_command.specs.declared.fault.FlawKind.{FlawKind}
 use Rattle.gather_command.specs.Reading.{IsReadOn}
 use Rattle.gather_command.specs.View.{FileView}
-use Rattle.gather_command.specs.Records.{listed, flaw_of, IsFileOf, IsBegun, IsBegunAs, IsOpened, at_first, of_files}
+use Rattle.gather_command.specs.Records.{listed, flaw_of, IsFileOf, IsRecordOf, IsBegun, IsBegunAs, IsOpened, at_first, of_files}
 
 -- ---- files of a record
 
 some-first : {X : Type 0} (x : X) (xs : List X) → x ∷ xs ≢ []
 some-first x xs e = cc e
+
+-- what two files gave, that of the second in front if it is earlier
+abbrev in-order : {X : Type 0} → Bool → List X → List X → List X
+in-order earlier xs ys = if earlier then ys ++ xs else xs ++ ys
 
 -- a file without entries
 empty-file : (R : ℕ → Side → List Entry → Option FlawKind → Type 0) (mark v : ℕ) (side : Side) → R v side [] None
@@ -69,10 +73,16 @@ module _ (C : Type 0) (R : ℕ → Side → List Entry → Option FlawKind → T
         ∙ sym (append-nil (listed (flaw_of (record { node = v; side = First }) (f.first ∷ more) kind)));
   }
 
-  in-turn : (f s : FileView) → IsBegunAs C R mark (record { node = v; side = First }) f
+  -- both files were begun; `earlier` says whether the second comes first
+  of-two : (f s : FileView) → IsBegunAs C R mark (record { node = v; side = First }) f
       → IsBegunAs C R mark (record { node = v; side = Second }) s
-      → nat_lt s.first.instant f.first.instant ≡ false → IsOpened C R B mark v (Ok (at_first f (Some s)))
-  in-turn f s b d order es flaws (own, kind, on, (more, more_kind, next, x, y)) =
+      → (earlier : Bool) → nat_lt s.first.instant f.first.instant ≡ earlier → (es : List Entry) (flaws : List Flaw)
+      → (own more : List Entry) (kind more_kind : Option FlawKind)
+      → IsReadOn C f.last no_frames f.bytes own kind → IsReadOn C s.last no_frames s.bytes more more_kind → es ≢ []
+      → es ≡ in-order earlier (f.first ∷ own) (s.first ∷ more)
+      → flaws ≡ in-order earlier (listed (flaw_of f.file (f.first ∷ own) kind)) (listed (flaw_of s.file (s.first ∷ more) more_kind))
+      → IsRecordOf R mark v es flaws
+  of-two f s b d earlier order es flaws own more kind more_kind on next some x y =
       let file : RecordFile = record { node = v; side = First } in
       let other : RecordFile = record { node = v; side = Second } in
       record {
@@ -82,47 +92,24 @@ module _ (C : Type 0) (R : ℕ → Side → List Entry → Option FlawKind → T
         second_kind = more_kind;
         first_file = begun-file C R mark v First f own kind b on;
         second_file = begun-file C R mark v Second s more more_kind d next;
-        some = λ e. some-first f.first (own ++ s.first ∷ more) (sym x ∙ e);
-        entries = subst (λ (t : Bool). es ≡ (if t then (s.first ∷ more) ++ (f.first ∷ own) else (f.first ∷ own) ++ (s.first ∷ more)))
-            (sym order) x;
-        flaws_are = subst (λ (t : Bool). flaws ≡ (if t
-            then listed (flaw_of other (s.first ∷ more) more_kind) ++ listed (flaw_of file (f.first ∷ own) kind)
-            else listed (flaw_of file (f.first ∷ own) kind) ++ listed (flaw_of other (s.first ∷ more) more_kind)))
+        some = some;
+        entries = subst (λ (t : Bool). es ≡ in-order t (f.first ∷ own) (s.first ∷ more)) (sym order) x;
+        flaws_are = subst (λ (t : Bool). flaws ≡ in-order t (listed (flaw_of file (f.first ∷ own) kind)) (listed (flaw_of other (s.first ∷ more) more_kind)))
             (sym order)
-            (y ∙ ap (λ (l : List Flaw). l ++ listed (flaw_of s.file (s.first ∷ more) more_kind)) (named C R mark v First f (f.first ∷ own) kind b)
-            ∙ ap (λ (l : List Flaw). listed (flaw_of file (f.first ∷ own) kind) ++ l) (named C R mark v Second s (s.first ∷ more) more_kind d));
-      }
-
-  turned : (f s : FileView) → IsBegunAs C R mark (record { node = v; side = First }) f
-      → IsBegunAs C R mark (record { node = v; side = Second }) s
-      → nat_lt s.first.instant f.first.instant ≡ true → IsOpened C R B mark v (Ok (at_first s (Some f)))
-  turned f s b d order es flaws (own, kind, on, (more, more_kind, next, x, y)) =
-      let file : RecordFile = record { node = v; side = First } in
-      let other : RecordFile = record { node = v; side = Second } in
-      record {
-        first = f.first ∷ more;
-        second = s.first ∷ own;
-        first_kind = more_kind;
-        second_kind = kind;
-        first_file = begun-file C R mark v First f more more_kind b next;
-        second_file = begun-file C R mark v Second s own kind d on;
-        some = λ e. some-first s.first (own ++ f.first ∷ more) (sym x ∙ e);
-        entries = subst (λ (t : Bool). es ≡ (if t then (s.first ∷ own) ++ (f.first ∷ more) else (f.first ∷ more) ++ (s.first ∷ own)))
-            (sym order) x;
-        flaws_are = subst (λ (t : Bool). flaws ≡ (if t
-            then listed (flaw_of other (s.first ∷ own) kind) ++ listed (flaw_of file (f.first ∷ more) more_kind)
-            else listed (flaw_of file (f.first ∷ more) more_kind) ++ listed (flaw_of other (s.first ∷ own) kind)))
-            (sym order)
-            (y ∙ ap (λ (l : List Flaw). l ++ listed (flaw_of f.file (f.first ∷ more) more_kind)) (named C R mark v Second s (s.first ∷ own) kind d)
-            ∙ ap (λ (l : List Flaw). listed (flaw_of other (s.first ∷ own) kind) ++ l) (named C R mark v First f (f.first ∷ more) more_kind b));
+            (y ∙ ap (λ (l : List Flaw). in-order earlier l (listed (flaw_of s.file (s.first ∷ more) more_kind))) (named C R mark v First f (f.first ∷ own) kind b)
+            ∙ ap (in-order earlier (listed (flaw_of file (f.first ∷ own) kind))) (named C R mark v Second s (s.first ∷ more) more_kind d));
       }
 
   either : (b : Bool) (f s : FileView) → nat_lt s.first.instant f.first.instant ≡ b
       → IsBegunAs C R mark (record { node = v; side = First }) f
       → IsBegunAs C R mark (record { node = v; side = Second }) s
       → IsOpened C R B mark v (Ok (if b then at_first s (Some f) else at_first f (Some s)))
-  either true f s order x y = turned f s x y order
-  either false f s order x y = in-turn f s x y order
+  either true f s order b d es flaws (own, kind, on, (more, more_kind, next, x, y)) =
+      of-two f s b d true order es flaws more own more_kind kind next on
+      (λ e. some-first s.first (own ++ f.first ∷ more) (sym x ∙ e)) x y
+  either false f s order b d es flaws (own, kind, on, (more, more_kind, next, x, y)) =
+      of-two f s b d false order es flaws own more kind more_kind on next
+      (λ e. some-first f.first (own ++ s.first ∷ more) (sym x ∙ e)) x y
 
   pub opened : (first second : Option FileView) → IsBegun C R B mark (record { node = v; side = First }) (Ok first)
       → IsBegun C R B mark (record { node = v; side = Second }) (Ok second)

@@ -1,5 +1,5 @@
 -- A stretch of the records is gathered.
-use Rattle.std.proofs.Common.{◌≡◌, ◌∙◌, ap, sym, refl, subst, ℕ, suc, ◌<◌, ◌≤◌, ◌⊎◌, arith, List, [], ◌∷◌, ◌++◌, Option, Some, None, Bool, true, false, inl, inr, length, replicate}
+use Rattle.std.proofs.Common.{◌≡◌, ◌∙◌, ap, sym, refl, subst, ℕ, suc, ◌<◌, ◌≤◌, ◌⊎◌, arith, List, [], ◌∷◌, ◌++◌, Option, Some, None, Err, Bool, true, false, inl, inr, length, replicate}
 use Rattle.std.proofs.lemmas.List.Sums.{fold-append}
 use Rattle.std.specs.Prelude.{fold}
 use Rattle.topology.specs.Network.{Network}
@@ -18,6 +18,8 @@ use Rattle.gather_command.specs.declared.fault.GatherFault.{GatherFault}
 use Rattle.gather_command.specs.declared.damage.Difference.{Difference}
 use Rattle.gather_command.specs.declared.summary.Summary.{Summary}
 use Rattle.gather_command.specs.View.{NodeRecordView, heads_in}
+use Rattle.gather_command.specs.declared.records.Opened.{Opened}
+use Rattle.gather_command.specs.Reading.{Reads, Begins, OpensNoMore}
 use Rattle.gather_command.specs.WeavingView.{WeavingView}
 use Rattle.gather_command.specs.Records.{AreRecordsOf, NoMore, OneMore, AreToCome, IsFault, flaws_in}
 use Rattle.gather_command.specs.Weave.{Moment, moment_at, heads_of, events_of, IsLed, IsWoven}
@@ -27,7 +29,7 @@ use Rattle.gather_command.specs.Scene.{events_to}
 use Rattle.gather_command.specs.declared.fault.GatherFault.TheVariants as fault
 use Rattle.gather_command.specs.Gathered.{AreOpened, IsRefused}
 use Rattle.gather_command.specs.Part.{IsFromThenOn, seen_from, IsGatheredOf, IsGatheredFrom, IsWovenFrom}
-use Rattle.gather_command.proofs.Gathers.{record-as, record-fault-as, fault-refused}
+use Rattle.gather_command.proofs.Gathers.{record-as, opened-before, fault-refused}
 use Rattle.gather_command.proofs.Weaves.{heads-agree, one-leads, none-leads, both-lead, was-all}
 
 -- ---- entries pass, and their events go nowhere
@@ -168,11 +170,11 @@ pub opened-as : (C : Type 0) (R S : ℕ → Side → List Entry → Option FlawK
 opened-as C R S mark v rs m opened entries flaws come =
     let (records, n) = opened entries flaws come in (records-as R S mark v entries flaws m records, n)
 
-pub fault-before : (R S : ℕ → Side → List Entry → Option FlawKind → Type 0) (B D : ℕ → Side → Entry → Type 0) (mark n : ℕ)
-    (why : GatherFault) → ((u : ℕ) (s : Side) (xs : List Entry) (f : Option FlawKind) → R u s xs f → S u s xs f)
-    → ((u : ℕ) (s : Side) (e : Entry) → B u s e → D u s e) → IsFault R B mark n why → IsFault S D mark n why
-fault-before R S B D mark n why m b (v, l, x) =
-    (v, l, record-fault-as R S B D mark v why (λ s xs f y. m v s xs f y) (λ s e y. b v s e y) x)
+pub fault-before : {S : Type 0} (before after : ℕ → Side → Opened S → Type 0) (rest : S → Option (List ℕ)) (C : Type 0)
+    → OpensNoMore before after → (mark n : ℕ) (why : GatherFault)
+    → IsFault (Reads after rest C) (Begins after rest) mark n why → IsFault (Reads before rest C) (Begins before rest) mark n why
+fault-before before after rest C same mark n why (v, l, x) =
+    (v, l, opened-before before after rest C same mark mark v refl (Err why) x)
 
 -- from an instant that the entries say
 pub gathered-from : {K : Type 0} (C : Type 0) (R : ℕ → Side → List Entry → Option FlawKind → Type 0)

@@ -1,5 +1,5 @@
 -- A world is set up fact by fact.
-use Rattle.std.proofs.Common.{◌≡◌, ◌∙◌, ap, sym, refl, subst, arith, ℕ, ◌≤◌, List, [], ◌∷◌, ◌++◌}
+use Rattle.std.proofs.Common.{◌≡◌, ◌∙◌, ap, sym, refl, subst, arith, ℕ, suc, ◌+◌, ◌≤◌, List, [], ◌∷◌, ◌++◌}
 use Rattle.std.proofs.lemmas.List.{append-nil}
 use Rattle.std.proofs.lemmas.List.Sums.{fold-append}
 use Rattle.topology.specs.Network.{Network}
@@ -16,6 +16,8 @@ use Rattle.record_gathering.specs.configuration.run_model.Start.{world_with_spar
 use Rattle.record_gathering.specs.configuration.run_model.Laws.{RunsJoin, FrameStays}
 use Rattle.record_gathering.specs.configuration.run_model.declared.event.Event.{Event}
 use Rattle.gather_command.specs.Scene.{SceneView, IsFresh, events_in, HasSet, events_to, IsSetUp}
+use Rattle.gather_command.proofs.Gathers.{plus-one}
+use Rattle.gather_command.proofs.Weaves.{nodes-stay}
 
 module _ {K : Type 0} (takes : K → List Event → K → Type 0) (failures : K → ℕ)
     (takes_none : (s : K) → takes s [] s)
@@ -62,6 +64,13 @@ module _ {K : Type 0} (takes : K → List Event → K → Type 0) (failures : K 
           counted = omega (arith, x.counted, y.counted);
         }
 
+    -- the facts of one node more
+    pub next-set : (all : ℕ → List Fact) (n : ℕ) (more : List Fact) → all (suc n) ≡ all n ++ more → (a b c : SceneView) (s t u : K)
+        → HasSet takes failures a s (all n) b t → HasSet takes failures b t more c u → HasSet takes failures a s (all (n + 1)) c u
+    next-set all n more step a b c s t u x y =
+        subst (λ (fs : List Fact). HasSet takes failures a s fs c u) (sym (ap all (plus-one n) ∙ step))
+        (both-set a b c s t u (all n) more x y)
+
     -- the edges, the nodes and the links
     pub all-set : FrameStays → (net : Network) (w : World) (mark : ℕ) (a b c d : SceneView) (s t u v : K) → mark ≡ network_mark net
         → IsFresh net a → HasSet takes failures a s (edge_facts net w.net) b t
@@ -83,7 +92,7 @@ module _ {K : Type 0} (takes : K → List Event → K → Type 0) (failures : K 
         has.world ∙ ap (λ (x : World). run x (events_in a fs)) fresh.world ∙ ap (run start) are in
         record {
           world = world;
-          nodes = ap (λ (x : World). x.net.nodes) world ∙ (stays start (events_to net w)).nodes;
+          nodes = nodes-stay stays start (gathered d.gathering) (events_to net w) world;
           found = has.found ∙ ap (λ (f : Found). with_events f (events_in a fs)) fresh.found ∙ ap (with_events nothing) are;
           taken = subst (λ (l : List Event). takes s l v) are has.taken;
           counted = has.counted;

@@ -4,6 +4,8 @@ use Rattle.std.proofs.lemmas.List.{append-nil}
 use Rattle.std.proofs.lemmas.List.Sums.{fold-append}
 use Rattle.std.specs.Prelude.{slice_get, slice_set, fold}
 use Rattle.record_gathering.specs.configuration.run_model.World.{World}
+use Rattle.record_gathering.specs.configuration.run_model.Run.{run}
+use Rattle.record_gathering.specs.configuration.run_model.Laws.{FrameStays}
 use Rattle.record_gathering.specs.configuration.run_model.declared.event.Event.{Event}
 use Rattle.record_gathering.specs.flight_records.declared.entry.Entry.{Entry}
 use Rattle.record_gathering.specs.Order.{IsNext, head_of}
@@ -16,6 +18,10 @@ use Rattle.gather_command.specs.Records.{listed, flaws_in, ComesOf, ComesFrom, I
 use Rattle.gather_command.specs.Weave.{Moment, moment_at, events_at, world_after, events_of, next_of, heads_of, without_next, IsLed, Stays, Leads, IsWoven, NoneLeft, Next}
 use Rattle.gather_command.specs.Watch.{Seen, seen_after}
 use Rattle.gather_command.specs.Woven.{world_in, IsTurn, IsNoted, HasPassed, LeadsOn, HasWoven, IsOneWoven}
+
+-- events change no number of nodes
+pub nodes-stay : FrameStays → (w after : World) (es : List Event) → after ≡ run w es → after.net.nodes ≡ w.net.nodes
+nodes-stay stays w after es e = ap (λ (x : World). x.net.nodes) e ∙ (stays w es).nodes
 
 -- ---- what is to come begins with the next entry
 

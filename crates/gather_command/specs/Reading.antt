@@ -1,6 +1,8 @@
 -- What is read of a file of a record: its entries, each with its frame in full, and how it ends.
 use Rattle.std.specs.Prelude.{◌≡◌, ◌≢◌, ℕ, ◌≤◌, List, [], ◌∷◌, Option, Some, None, Ok, Err}
 use Rattle.record_pages.specs.byte_streams.Streams.{Rose}
+use Rattle.record_pages.specs.declared.stop.Stop.{Stop}
+use Rattle.record_pages.specs.declared.stop.Stop.TheVariants as stop
 use Rattle.record_pages.specs.flight_records.declared.entry.Entry.{Entry}
 use Rattle.record_pages.specs.flight_records.declared.entry.Noted.{Noted}
 use Rattle.record_pages.specs.flight_records.declared.entry.Noted.TheVariants as noted
@@ -19,6 +21,13 @@ use Rattle.gather_command.specs.declared.records.Opened.TheVariants as opened
 abbrev pub MayFail : {S : Type 0} → (S → ℕ) → Type 0
 MayFail {S = S} failures =
     (before : S) × (after : S) × (failures before ≤ failures after) × Rose (failures before) (failures after)
+
+-- what is wrong with a file of which no entry is read, for this reason; nothing, at its end
+abbrev pub flaw_for : Stop → Option FlawKind
+flaw_for stop.End = None
+flaw_for stop.Torn = Some Torn
+flaw_for stop.Invalid = Some Spoiled
+flaw_for stop.Failed = Some Unreadable
 
 -- an entry with its frame in full
 abbrev pub in_full : Entry → Noted → Entry

@@ -1,6 +1,6 @@
 //! The record of one node, entry by entry.
 ghost use Rattle.std.specs.Prelude.{◌≡◌};
-ghost use Rattle.gather_command.specs.Reading.{MayFail, Reads, Begins, OpensNoMore};
+ghost use Rattle.gather_command.specs.Reading.{MayFail, Reads, Begins, OpensNoMore, flaw_for};
 ghost use Rattle.gather_command.specs.Records.{flaw_at, IsOpened, at_first, of_both, of_files};
 ghost use Rattle.gather_command.specs.Records.{IsReadBy, after_file, GoesOn};
 
@@ -52,6 +52,18 @@ fn flaw_at(file: RecordFile, instant: u64, kind: Option<FlawKind>) -> Option<Fla
             instant,
         }),
         None => None,
+    }
+}
+
+/// What is wrong with a file of which no entry is read, for this reason; nothing, at its end.
+fn flaw_for(stop: Stop) -> Option<FlawKind>
+    ensures { result ≡ flaw_for stop }
+{
+    match stop {
+        Stop::End => None,
+        Stop::Torn => Some(FlawKind::Torn),
+        Stop::Invalid => Some(FlawKind::Spoiled),
+        Stop::Failed => Some(FlawKind::Unreadable),
     }
 }
 
@@ -181,10 +193,7 @@ impl<S: Source + Drop> NodeRecord<S> {
                     noted,
                 })
             }
-            Err(Stop::End) => Err(None),
-            Err(Stop::Torn) => Err(Some(FlawKind::Torn)),
-            Err(Stop::Invalid) => Err(Some(FlawKind::Spoiled)),
-            Err(Stop::Failed) => Err(Some(FlawKind::Unreadable)),
+            Err(stop) => Err(flaw_for(stop)),
         }
     }
 

@@ -5,7 +5,7 @@ use Rattle.gather_command.specs.declared.gathered.Gathered.{Gathered}
 use Rattle.gather_command.specs.declared.fault.GatherFault.{GatherFault}
 use Rattle.gather_command.specs.Reading.{MayFail, Reads, Begins}
 use Rattle.gather_command.specs.Gathered.{IsRefused}
-use Rattle.gather_command.proofs.Gathers.{reads-before, begins-before, broken-refused, fault-refused, fails-with}
+use Rattle.gather_command.proofs.Gathers.{reads-before, broken-refused, fault-refused, fails-with}
 use Rattle.gather_command.proofs.Parts.{gathered-from, opened-as, fault-before, many-refused}
 use Rattle.gather_command.proofs.part.gather_last.Goals as goal
 
@@ -35,8 +35,7 @@ returns-in_err-nodes-clause-refused g c =
     fails-with (λ (f : GatherFault). IsRefused reads begins failures net sink f sink) c.from_residual-in_err-nodes.result _
     c.from_residual-in_err-nodes.ensures.1
     (fault-refused reads begins failures net sink sink _
-    (fault-before (Reads now rest fails) reads (Begins now rest) begins (network_mark net) net.nodes _
-    (λ v s xs f x. reads-before before now rest fails same v s xs f x) (λ v s e x. begins-before before now rest same v s e x)
+    (fault-before before now rest fails same (network_mark net) net.nodes _
     c.in_err-nodes.ensures.refused) refl)
 
 pub returns-clause-refused : goal.returns-clause-refused

@@ -6,10 +6,7 @@ use Rattle.gather_command.proofs.Scenes.{none-set, both-set}
 use Rattle.gather_command.proofs.scene.set_all.Goals as goal
 
 pub loop-fact-init : goal.loop-fact-init
-loop-fact-init g c =
-    let sink = g.K.EventSink in
-    let laws = g.met.K.EventSink in
-    none-set sink.takes sink.failures laws.takes_none laws.takes_both c.args.scene.now c.args.sink.now
+loop-fact-init g c = none-set g.K.EventSink.takes g.K.EventSink.failures g.met.K.EventSink.takes_none g.met.K.EventSink.takes_both _ _
 
 pub loop-fact-preserved : goal.loop-fact-preserved
 loop-fact-preserved g c =

@@ -5,7 +5,5 @@ use Rattle.record_gathering.proofs.facts.add_parts.Goals as goal
 
 pub loop-edge-preserved : goal.loop-edge-preserved
 loop-edge-preserved g c =
-    let i = c.loop-edge.edge-index in
-    let net = c.args.net.now in
-    one-more (parts net) (parts-append net) _ _ _ c.args.edges.now i _ (take_more c.args.edges.now i _ c.loop-edge-test.true)
+    one-more (parts c.args.net.now) (parts-append c.args.net.now) _ _ _ _ _ _ (take_more c.args.edges.now c.loop-edge.edge-index _ c.loop-edge-test.true)
     c.loop-edge.invariant c.in_ok-add_part.ensures

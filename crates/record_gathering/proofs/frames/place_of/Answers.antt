@@ -6,17 +6,11 @@ use Rattle.record_gathering.proofs.frames.place_of.Goals as goal
 
 pub returns-then-is_frame-clause-in_front : goal.returns-then-is_frame-clause-in_front
 returns-then-is_frame-clause-in_front g c =
-    let h = c.loop-index.invariant in
-    sym (place-here c.args.passage.now.frame ((world_of c.args.world.now).link c.args.passage.now.from c.args.passage.now.to)
-    c.loop-index.index c.item.result c.item.ensures h.in_front h.is_there
-    (sym c.is_frame.ensures ∙ c.if-is_frame.true))
+    sym (place-here _ _ _ _ c.item.ensures c.loop-index.invariant.in_front c.loop-index.invariant.is_there (sym c.is_frame.ensures ∙ c.if-is_frame.true))
 
 pub returns-then-is_frame-clause-is_there : goal.returns-then-is_frame-clause-is_there
 returns-then-is_frame-clause-is_there g c =
-    let h = c.loop-index.invariant in
-    sym (is-here c.args.passage.now.frame ((world_of c.args.world.now).link c.args.passage.now.from c.args.passage.now.to)
-    c.loop-index.index c.item.result c.item.ensures h.in_front h.is_there
-    (sym c.is_frame.ensures ∙ c.if-is_frame.true))
+    sym (is-here _ _ _ _ c.item.ensures c.loop-index.invariant.in_front c.loop-index.invariant.is_there (sym c.is_frame.ensures ∙ c.if-is_frame.true))
 
 pub loop-index-preserved : goal.loop-index-preserved
 loop-index-preserved g c =
