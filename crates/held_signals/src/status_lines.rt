@@ -1,7 +1,7 @@
 //! What the system says of the signals of a process, in the lines of `/proc/self/status`.
 ghost use Rattle.std.specs.Prelude.{◌≡◌, ◌≤◌, ◌++◌, ◌∷◌, [], List, ℕ, length};
 ghost use Rattle.std.specs.Option.{option_to_list};
-ghost use Rattle.byte_lines.specs.Kept.{StandsAfter};
+ghost use Rattle.byte_lines.specs.Kept.{StandsAfter, Kept};
 ghost use Rattle.held_signals.specs.StatusLines.{status_entry, status_entries, entry_of, pending_of};
 ghost use Rattle.held_signals.specs.StatusLines.{shared_of, ignored_of, noted, signal_state, heeded};
 
@@ -82,8 +82,6 @@ pub struct StatusReader {
 }
 
 impl Model for StatusReader {
-    ghost use Rattle.byte_lines.specs.Kept.{Kept};
-
     ghost Value = { Kept };
 
     ghost view = { λ r. r.half };

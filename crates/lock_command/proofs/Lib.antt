@@ -4,3 +4,4 @@ pub mod Comings
 mod RowsWork
 mod RowsCourse
 mod RowsNotices
+mod Heard

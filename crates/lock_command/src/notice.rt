@@ -1,6 +1,7 @@
 //! The lines on standard error.
-ghost use Rattle.std.specs.Prelude.{◌≡◌};
+ghost use Rattle.std.specs.Prelude.{◌≡◌, Some};
 ghost use Rattle.lock_command.specs.Notices.{loss_notice, end_notice, why_unserved, course_notice};
+ghost use Rattle.lock_command.specs.NoticeText.{notice_line, cause_text, fate_text, notice_text};
 
 use crate::seconds::Seconds;
 use lock_client::{Answer, Deed, Event, Outcome};
@@ -100,9 +101,6 @@ pub enum Notice<'a> {
 pub struct NoticeLine<'a>(pub Notice<'a>);
 
 impl fmt::Display for NoticeLine<'_> {
-    ghost use Rattle.std.specs.Prelude.{Some};
-    ghost use Rattle.lock_command.specs.NoticeText.{notice_line};
-
     ghost output = { λ line. Some (notice_line line.0) };
 
     fn fmt<W: fmt::Write>(&self, f: &mut fmt::Formatter<W>) -> fmt::Result {
@@ -112,9 +110,6 @@ impl fmt::Display for NoticeLine<'_> {
 }
 
 impl fmt::Display for Cause {
-    ghost use Rattle.std.specs.Prelude.{Some};
-    ghost use Rattle.lock_command.specs.NoticeText.{cause_text};
-
     ghost output = { λ cause. Some (cause_text cause) };
 
     fn fmt<W: fmt::Write>(&self, f: &mut fmt::Formatter<W>) -> fmt::Result {
@@ -126,9 +121,6 @@ impl fmt::Display for Cause {
 }
 
 impl fmt::Display for Fate {
-    ghost use Rattle.std.specs.Prelude.{Some};
-    ghost use Rattle.lock_command.specs.NoticeText.{fate_text};
-
     ghost output = { λ fate. Some (fate_text fate) };
 
     fn fmt<W: fmt::Write>(&self, f: &mut fmt::Formatter<W>) -> fmt::Result {
@@ -141,9 +133,6 @@ impl fmt::Display for Fate {
 }
 
 impl fmt::Display for Notice<'_> {
-    ghost use Rattle.std.specs.Prelude.{Some};
-    ghost use Rattle.lock_command.specs.NoticeText.{notice_text};
-
     ghost output = { λ notice. Some (notice_text notice) };
 
     fn fmt<W: fmt::Write>(&self, f: &mut fmt::Formatter<W>) -> fmt::Result {

@@ -1,4 +1,7 @@
 //! A time in seconds.
+ghost use Rattle.std.specs.Prelude.{Some};
+ghost use Rattle.lock_command.specs.Seconds.{decimals_text, seconds_text};
+
 use std::fmt;
 
 /// A time. Printed, it is in seconds, with up to three decimals.
@@ -13,9 +16,6 @@ pub struct Seconds {
 struct Decimals(u32);
 
 impl fmt::Display for Decimals {
-    ghost use Rattle.std.specs.Prelude.{Some};
-    ghost use Rattle.lock_command.specs.Seconds.{decimals_text};
-
     ghost output = { λ decimals. Some (decimals_text decimals.0) };
 
     fn fmt<W: fmt::Write>(&self, f: &mut fmt::Formatter<W>) -> fmt::Result {
@@ -34,9 +34,6 @@ impl fmt::Display for Decimals {
 }
 
 impl fmt::Display for Seconds {
-    ghost use Rattle.std.specs.Prelude.{Some};
-    ghost use Rattle.lock_command.specs.Seconds.{seconds_text};
-
     ghost output = { λ seconds. Some (seconds_text seconds.millis) };
 
     fn fmt<W: fmt::Write>(&self, f: &mut fmt::Formatter<W>) -> fmt::Result {

@@ -1,6 +1,6 @@
 //! What a node's process prints of its start.
-ghost use Rattle.std.specs.Prelude.{◌≡◌};
-ghost use Rattle.node_folder.specs.NoteText.{start_fault_name};
+ghost use Rattle.std.specs.Prelude.{◌≡◌, Some};
+ghost use Rattle.node_folder.specs.NoteText.{start_fault_name, note_text, note_line};
 
 use node_state_file::{FileFault, StartFault};
 use std::fmt;
@@ -15,9 +15,6 @@ pub enum Note {
 }
 
 impl fmt::Display for Note {
-    ghost use Rattle.std.specs.Prelude.{Some};
-    ghost use Rattle.node_folder.specs.NoteText.{note_text};
-
     ghost output = { λ note. Some (note_text note) };
 
     fn fmt<W: fmt::Write>(&self, f: &mut fmt::Formatter<W>) -> fmt::Result {
@@ -59,9 +56,6 @@ pub struct NoteLine {
 }
 
 impl fmt::Display for NoteLine {
-    ghost use Rattle.std.specs.Prelude.{Some};
-    ghost use Rattle.node_folder.specs.NoteText.{note_line};
-
     ghost output = { λ line. Some (note_line line.named line.note) };
 
     fn fmt<W: fmt::Write>(&self, f: &mut fmt::Formatter<W>) -> fmt::Result {

@@ -1,7 +1,8 @@
 //! Why a node does not run, or `up` does not keep a network running.
-ghost use Rattle.std.specs.Prelude.{◌≡◌, ◌≢◌};
+ghost use Rattle.std.specs.Prelude.{◌≡◌, ◌≢◌, Some, ◌++◌, decimal, []};
 ghost use Rattle.std.specs.declared.io.ErrorKind.TheVariants.{OutOfMemory};
-ghost use Rattle.process_parts.specs.declared.fault.NodeFault.TheVariants.{Memory, System};
+ghost use Rattle.process_parts.specs.declared.fault.NodeFault.TheVariants.{Memory, System, NoNode};
+ghost use Rattle.process_parts.specs.declared.fault.NodeFault.TheVariants.{Running};
 ghost use Rattle.process_parts.specs.Said.{said_text};
 ghost use Rattle.process_parts.specs.Texts.{refusal_text};
 
@@ -53,8 +54,6 @@ pub enum NodeFault {
 }
 
 impl From<AllocError> for NodeFault {
-    ghost use Rattle.process_parts.specs.declared.fault.NodeFault.TheVariants.{Memory};
-
     ghost from_gives = { λ _ fault. fault ≡ Memory };
 
     fn from(_: AllocError) -> NodeFault {
@@ -88,9 +87,6 @@ pub struct Refusal<'a> {
 }
 
 impl fmt::Display for Refusal<'_> {
-    ghost use Rattle.std.specs.Prelude.{Some};
-    ghost use Rattle.process_parts.specs.Texts.{refusal_text};
-
     ghost output = { λ r. Some (refusal_text r.file.now r.dir.now r.id r.fault) };
 
     fn fmt<W: fmt::Write>(&self, f: &mut fmt::Formatter<W>) -> fmt::Result {
@@ -184,8 +180,6 @@ const NO_INPUT: &str = "standard input is a file or nothing; give a pipe or a te
 struct OfFolder<'a>(&'a str, &'static str);
 
 impl fmt::Display for OfFolder<'_> {
-    ghost use Rattle.std.specs.Prelude.{Some, ◌++◌};
-
     ghost output = { λ words. Some (words.0.now ++ words.1.now) };
 
     fn fmt<W: fmt::Write>(&self, f: &mut fmt::Formatter<W>) -> fmt::Result {
@@ -198,8 +192,6 @@ impl fmt::Display for OfFolder<'_> {
 struct OfFile<'a>(&'a str, &'static str, u16, &'static str);
 
 impl fmt::Display for OfFile<'_> {
-    ghost use Rattle.std.specs.Prelude.{Some, ◌++◌, decimal};
-
     ghost output = { λ words. Some (words.0.now ++ (words.1.now
         ++ (decimal words.2 ++ words.3.now))) };
 
@@ -217,10 +209,6 @@ struct NoSuchNode<'a> {
 }
 
 impl fmt::Display for NoSuchNode<'_> {
-    ghost use Rattle.std.specs.Prelude.{Some, []};
-    ghost use Rattle.process_parts.specs.declared.fault.NodeFault.TheVariants.{NoNode};
-    ghost use Rattle.process_parts.specs.Texts.{refusal_text};
-
     ghost output = { λ r. Some (refusal_text r.file.now [] r.id (NoNode r.nodes)) };
 
     fn fmt<W: fmt::Write>(&self, f: &mut fmt::Formatter<W>) -> fmt::Result {
@@ -240,10 +228,6 @@ struct RunsAlready<'a> {
 }
 
 impl fmt::Display for RunsAlready<'_> {
-    ghost use Rattle.std.specs.Prelude.{Some, []};
-    ghost use Rattle.process_parts.specs.declared.fault.NodeFault.TheVariants.{Running};
-    ghost use Rattle.process_parts.specs.Texts.{refusal_text};
-
     ghost output = { λ r. Some (refusal_text [] r.dir.now r.id Running) };
 
     fn fmt<W: fmt::Write>(&self, f: &mut fmt::Formatter<W>) -> fmt::Result {

@@ -1,7 +1,9 @@
 //! The lines on standard error, and the status after one.
-ghost use Rattle.std.specs.Prelude.{◌≡◌};
+ghost use Rattle.std.specs.Prelude.{◌≡◌, Some, ◌++◌};
 ghost use Rattle.std.specs.IoError.{error_kind};
 ghost use Rattle.status_command.specs.Reasons.{notice_status, why_not_written, IsEnd};
+ghost use Rattle.status_command.specs.NoticeText.{notice_text, never_ran_text, foreign_text};
+ghost use Rattle.status_command.specs.NoticeText.{notice_line, unknown_line};
 
 use network_file::NetworkFault;
 use std::io::ErrorKind;
@@ -48,9 +50,6 @@ pub enum Notice<'a> {
 }
 
 impl fmt::Display for Notice<'_> {
-    ghost use Rattle.std.specs.Prelude.{Some};
-    ghost use Rattle.status_command.specs.NoticeText.{notice_text};
-
     ghost output = { λ notice. Some (notice_text notice) };
 
     fn fmt<W: fmt::Write>(&self, f: &mut fmt::Formatter<W>) -> fmt::Result {
@@ -86,8 +85,6 @@ const FORBIDDEN: &str = "this user may not use the sockets in ";
 struct OfFolder<'a>(&'static str, &'a str);
 
 impl fmt::Display for OfFolder<'_> {
-    ghost use Rattle.std.specs.Prelude.{Some, ◌++◌};
-
     ghost output = { λ words. Some (words.0.now ++ words.1.now) };
 
     fn fmt<W: fmt::Write>(&self, f: &mut fmt::Formatter<W>) -> fmt::Result {
@@ -103,9 +100,6 @@ struct NeverRan<'a> {
 }
 
 impl fmt::Display for NeverRan<'_> {
-    ghost use Rattle.std.specs.Prelude.{Some};
-    ghost use Rattle.status_command.specs.NoticeText.{never_ran_text};
-
     ghost output = { λ n. Some (never_ran_text n.folder.now n.node) };
 
     fn fmt<W: fmt::Write>(&self, f: &mut fmt::Formatter<W>) -> fmt::Result {
@@ -126,9 +120,6 @@ struct Foreign<'a> {
 }
 
 impl fmt::Display for Foreign<'_> {
-    ghost use Rattle.std.specs.Prelude.{Some};
-    ghost use Rattle.status_command.specs.NoticeText.{foreign_text};
-
     ghost output = { λ n. Some (foreign_text n.file.now n.folder.now n.node) };
 
     fn fmt<W: fmt::Write>(&self, f: &mut fmt::Formatter<W>) -> fmt::Result {
@@ -145,9 +136,6 @@ impl fmt::Display for Foreign<'_> {
 pub struct NoticeLine<'a>(pub Notice<'a>);
 
 impl fmt::Display for NoticeLine<'_> {
-    ghost use Rattle.std.specs.Prelude.{Some};
-    ghost use Rattle.status_command.specs.NoticeText.{notice_line};
-
     ghost output = { λ line. Some (notice_line line.0) };
 
     fn fmt<W: fmt::Write>(&self, f: &mut fmt::Formatter<W>) -> fmt::Result {
@@ -196,9 +184,6 @@ pub fn refused<R: Eprint>(rt: &R, notice: Notice<'_>) -> u8
 pub struct UnknownLine<'a>(pub Notice<'a>);
 
 impl fmt::Display for UnknownLine<'_> {
-    ghost use Rattle.std.specs.Prelude.{Some};
-    ghost use Rattle.status_command.specs.NoticeText.{unknown_line};
-
     ghost output = { λ line. Some (unknown_line line.0) };
 
     fn fmt<W: fmt::Write>(&self, f: &mut fmt::Formatter<W>) -> fmt::Result {

@@ -1,4 +1,7 @@
 //! The lines which say that a node is left alone, or has ended as asked.
+ghost use Rattle.std.specs.Prelude.{Some};
+ghost use Rattle.up_process.specs.Texts.{left_line, gone_line, good_end, last_end};
+
 use process_parts::End;
 use std::fmt;
 
@@ -12,9 +15,6 @@ pub struct LeftLine {
 }
 
 impl fmt::Display for LeftLine {
-    ghost use Rattle.std.specs.Prelude.{Some};
-    ghost use Rattle.up_process.specs.Texts.{left_line};
-
     ghost output = { λ line. Some (left_line line.id line.end) };
 
     fn fmt<W: fmt::Write>(&self, f: &mut fmt::Formatter<W>) -> fmt::Result {
@@ -37,9 +37,6 @@ pub struct GoneLine {
 }
 
 impl fmt::Display for GoneLine {
-    ghost use Rattle.std.specs.Prelude.{Some};
-    ghost use Rattle.up_process.specs.Texts.{gone_line};
-
     ghost output = { λ line. Some (gone_line line.id line.end) };
 
     fn fmt<W: fmt::Write>(&self, f: &mut fmt::Formatter<W>) -> fmt::Result {
@@ -53,9 +50,6 @@ impl fmt::Display for GoneLine {
 struct GoodEnd(End);
 
 impl fmt::Display for GoodEnd {
-    ghost use Rattle.std.specs.Prelude.{Some};
-    ghost use Rattle.up_process.specs.Texts.{good_end};
-
     ghost output = { λ end. Some (good_end end.0) };
 
     fn fmt<W: fmt::Write>(&self, f: &mut fmt::Formatter<W>) -> fmt::Result {
@@ -71,9 +65,6 @@ impl fmt::Display for GoodEnd {
 struct LastEnd(End);
 
 impl fmt::Display for LastEnd {
-    ghost use Rattle.std.specs.Prelude.{Some};
-    ghost use Rattle.up_process.specs.Texts.{last_end};
-
     ghost output = { λ end. Some (last_end end.0) };
 
     fn fmt<W: fmt::Write>(&self, f: &mut fmt::Formatter<W>) -> fmt::Result {
