@@ -7,11 +7,12 @@ ghost use Rattle.network_words.specs.Ends.{is_of_service, names_service, serves,
 
 use crate::program::{ABOUT, NAME, Runtime, VERSION};
 use crate::refusal::{Refusal, status};
-use clap::ArgMatches;
+use clap::{ArgMatches, Command};
 use command_faults::Fault;
 use command_grammar::{Grammar, Program, parser};
 use fault_hints::{explain_network, explain_reading, explain_writing};
 use program_ends::{fails, fault_status, print_status, shows};
+use std::alloc::{AllocError, Global};
 use std::convert::AsStr;
 use std::process::ExitCode;
 
@@ -25,17 +26,7 @@ pub fn matches_of<'a, R: Print + Eprint + AllocGlobal, S: AsStr>(
     commands: &[&Grammar<'a>],
 ) -> Result<ArgMatches<'a>, ExitCode> {
     let is_lock = asks_for_lock(words);
-    let program = Program {
-        name: NAME,
-        about: ABOUT,
-        help,
-        version: VERSION,
-    };
-    let named = match parser(rt.alloc(), &program, commands) {
-        Ok(parser) => parser.bin_name(NAME),
-        Err(error) => Err(error),
-    };
-    let Ok(parser) = named else {
+    let Ok(parser) = named_parser(rt.alloc(), help, commands) else {
         return Err(fails(rt, Fault::Memory, fault_status(is_lock)));
     };
     let command = match words {
@@ -44,6 +35,24 @@ pub fn matches_of<'a, R: Print + Eprint + AllocGlobal, S: AsStr>(
     };
     let matches = parser.try_get_matches_from(words);
     matches.map_err(|error| shows(rt, &error, is_lock, command))
+}
+
+/// The parser of these commands, in whose texts the program has its own name. Its help ends with this text.
+///
+/// # Errors
+/// If memory runs out.
+fn named_parser<'a>(
+    alloc: Global,
+    help: &'a str,
+    commands: &[&Grammar<'a>],
+) -> Result<Command<'a>, AllocError> {
+    let program = Program {
+        name: NAME,
+        about: ABOUT,
+        help,
+        version: VERSION,
+    };
+    parser(alloc, &program, commands)?.bin_name(NAME)
 }
 
 /// The status of a command line. If it fails, says why.
