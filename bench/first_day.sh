@@ -190,7 +190,12 @@ for _ in range(30):
     time.sleep(0.1)
 drawing.stdin.close()
 assert drawing.wait() == 0
-said = os.read(ours, 65536)
+said = b""
+try:
+    while part := os.read(ours, 65536):
+        said += part
+except OSError:
+    pass  # All was read: nobody has the other end any more.
 open("said", "wb").write(said)
 sys.exit(not (b"\r1 MB of events" in said and said.endswith(b"\r\x1b[K")))
 PYTHON
