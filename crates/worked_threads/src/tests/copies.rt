@@ -61,7 +61,7 @@ fn in_a_copy(rt: HostRuntime) -> Result<(), Fail> {
 
 /// A script with which a shell becomes its first word, for that test, with as many kilobytes of
 /// addresses as the second says; a thread's stack takes 8,192 of them.
-const LIMITED: &str = "ulimit -S -s 8192; ulimit -v $1; exec \"$0\" copies::in_a_copy";
+const LIMITED: &str = "ulimit -S -s 8192; ulimit -v $1; exec \"$0\" tests::copies::in_a_copy";
 
 /// The words for that shell, and the variable that makes the copy run nodes.
 fn add_words(command: &mut Command, program: Path, kilobytes: &str, how: &str) -> Result<(), Fail> {
