@@ -3,6 +3,8 @@
 ghost use Rattle.bfs_tree.specs.Laws.{StageRises, StageIncludes, FirstStage, LastStage};
 ghost use Rattle.bfs_tree.specs.Laws.{ExactDistance, ExactParent, StepDistanceFits, StepParentFits};
 
+use topology::laws as topology_laws;
+
 /// One round of the tree. Copies that are exact below k and at least k elsewhere give a distance
 /// that is exact below k + 1 and at least k + 1 elsewhere. Everything is of stage 0, and what is of
 /// stage n is exact, so n rounds do from any start. What is of a later stage is of each earlier one
@@ -13,9 +15,9 @@ pub fn one_round()
     ensures first { FirstStage }
     ensures last { LastStage }
 {
-    topology::laws::tree();
-    topology::laws::neighbours();
-    topology::laws::joined();
+    topology_laws::tree();
+    topology_laws::neighbours();
+    topology_laws::joined();
 }
 
 /// Exact copies give the true distance and the true parent: the neighbour of smallest id that is
@@ -24,9 +26,9 @@ pub fn exact_step()
     ensures distance { ExactDistance }
     ensures parent { ExactParent }
 {
-    topology::laws::tree();
-    topology::laws::neighbours();
-    topology::laws::joined();
+    topology_laws::tree();
+    topology_laws::neighbours();
+    topology_laws::joined();
 }
 
 /// Whatever the copies, a step's distance is at most n, and its parent is a node or none. Whoever

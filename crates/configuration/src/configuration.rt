@@ -21,7 +21,7 @@ use crate::links::Links;
 use run_model::{AskFault, Event, EventFault, Happened, Item, NoItem, Node, Stranger};
 use std::alloc::{AllocError, Allocator, Global};
 use std::marker::Model;
-use topology::Net;
+use topology::{Net, laws as topology_laws};
 
 /// The event's refusal for a refusal of the desk.
 fn desk_fault(fault: AskFault) -> EventFault
@@ -144,7 +144,7 @@ impl<A: Allocator + Copy> Configuration<A> {
     pub fn assure_ranges(&self)
         ensures { IsWorldInRange (world_of self.now) }
     {
-        topology::laws::joined();
+        topology_laws::joined();
         let nodes = self.links.net().nodes();
         for v in 0..nodes {
             let _known_ranges = self.nodes[usize::from(v)].ranges();
@@ -240,8 +240,8 @@ impl<A: Allocator + Copy> Configuration<A> {
             × Contains (neighbours_of (world_of self.now).net to) from) }
         ensures err { IfErr result (λ fault. link_fault (world_of self.now) from to ≡ Some fault) }
     {
-        topology::laws::neighbours();
-        topology::laws::joined();
+        topology_laws::neighbours();
+        topology_laws::joined();
         self.find_nodes(from, to)?;
         if !self.links.are_joined(from, to) {
             return Err(EventFault::NoLink);

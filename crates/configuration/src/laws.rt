@@ -1,6 +1,7 @@
 //! What holds for networks that serve: each law is the contract of a function that does nothing.
 ghost use Rattle.configuration.specs.Sight.{SightsDecide};
 
+use run_model::laws as run_model_laws;
 pub use run_model::laws::{
     in_range, moments, own_changes, runs, start, stretches, strict_sweeps, sweep_counts,
     sweep_numbers, ticks,
@@ -12,6 +13,6 @@ pub use run_model::laws::{
 pub fn sights()
     ensures { SightsDecide }
 {
-    run_model::laws::own_changes();
-    run_model::laws::runs();
+    run_model_laws::own_changes();
+    run_model_laws::runs();
 }

@@ -40,12 +40,8 @@ impl<A: Allocator + Copy> Model for Links<A> {
 
     ghost Value = { LinksView };
 
-    ghost view = { λ l. record {
-      net = l.net;
-      places = l.places;
-      links = l.links.items;
-      spares = l.spares.items;
-    } };
+    ghost view = { λ l. record
+        { net = l.net; places = l.places; links = l.links.items; spares = l.spares.items } };
 
     ghost invariant = { λ l. IsLinks
         (record { net = l.net; places = l.places; links = l.links.items; spares = l.spares.items })

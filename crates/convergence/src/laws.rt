@@ -13,6 +13,10 @@ ghost use Rattle.convergence.specs.Service.{MovesClearDesks};
 ghost use Rattle.convergence.specs.Service.{WaitingAreServed};
 ghost use Rattle.run_model.specs.Headline.{Headline};
 
+use crate::ring_laws;
+use lock_desk::laws as lock_desk_laws;
+use run_model::laws as run_model_laws;
+use tree_convergence::laws as tree_convergence_laws;
 pub use tree_convergence::laws::links;
 
 /// All that this crate knows about the layers below. Each law here is proved only from these.
@@ -20,20 +24,20 @@ pub fn below()
     ensures { Below }
 {
     topology::laws::tree();
-    lock_desk::laws::loans_need_privilege();
-    lock_desk::laws::waiting_tickets_are_served();
-    lock_desk::laws::one_loan_a_stay();
-    run_model::laws::runs();
-    run_model::laws::in_range();
-    run_model::laws::sweep_numbers();
-    run_model::laws::ticks();
-    tree_convergence::laws::links();
-    tree_convergence::laws::payloads();
-    tree_convergence::laws::tree();
-    crate::ring_laws::one_token();
-    crate::ring_laws::settled();
-    crate::ring_laws::ring();
-    crate::ring_laws::visits();
+    lock_desk_laws::loans_need_privilege();
+    lock_desk_laws::waiting_tickets_are_served();
+    lock_desk_laws::one_loan_a_stay();
+    run_model_laws::runs();
+    run_model_laws::in_range();
+    run_model_laws::sweep_numbers();
+    run_model_laws::ticks();
+    tree_convergence_laws::links();
+    tree_convergence_laws::payloads();
+    tree_convergence_laws::tree();
+    ring_laws::one_token();
+    ring_laws::settled();
+    ring_laws::ring();
+    ring_laws::visits();
 }
 
 /// Loans on a good token ring: a loan with privilege keeps it, and one sweep ends every other loan.

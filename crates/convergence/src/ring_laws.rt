@@ -9,16 +9,22 @@ ghost use Rattle.convergence.specs.RingLaws.{TokenRingTurnsGoodSoon};
 ghost use Rattle.convergence.specs.RingService.{PrivilegeGoesRound, PrivilegeVisits, MachinesMove};
 ghost use Rattle.convergence.specs.Legs.{EachTour};
 
+use euler_ring::laws as euler_ring_laws;
+use k_state::laws as k_state_laws;
+use run_model::laws as run_model_laws;
+use topology::laws as topology_laws;
+use tree_convergence::laws as tree_convergence_laws;
+
 /// The legs of the tour: each goes on from the one before, and the first from the last; each node
 /// has one for each of its tree neighbours; only the first is the special machine's; and there are
 /// 2(n-1). Proofs that follow a value round the token ring need these.
 pub fn legs()
     ensures { EachTour }
 {
-    topology::laws::joined();
-    euler_ring::laws::round_a_node();
-    euler_ring::laws::true_view();
-    euler_ring::laws::the_tour();
+    topology_laws::joined();
+    euler_ring_laws::round_a_node();
+    euler_ring_laws::true_view();
+    euler_ring_laws::the_tour();
 }
 
 /// All that this crate knows about the layers below, and about the tour. The laws below are proved
@@ -26,22 +32,22 @@ pub fn legs()
 pub fn below()
     ensures { Below }
 {
-    topology::laws::joined();
-    topology::laws::neighbours();
-    topology::laws::tree();
-    k_state::laws::stays_good();
-    k_state::laws::turns_good();
-    k_state::laws::parallel_copies();
-    k_state::laws::privilege();
-    k_state::laws::ages();
-    euler_ring::laws::true_view();
-    run_model::laws::runs();
-    run_model::laws::in_range();
-    run_model::laws::sweep_numbers();
-    run_model::laws::ticks();
-    tree_convergence::laws::links();
-    tree_convergence::laws::payloads();
-    tree_convergence::laws::tree();
+    topology_laws::joined();
+    topology_laws::neighbours();
+    topology_laws::tree();
+    k_state_laws::stays_good();
+    k_state_laws::turns_good();
+    k_state_laws::parallel_copies();
+    k_state_laws::privilege();
+    k_state_laws::ages();
+    euler_ring_laws::true_view();
+    run_model_laws::runs();
+    run_model_laws::in_range();
+    run_model_laws::sweep_numbers();
+    run_model_laws::ticks();
+    tree_convergence_laws::links();
+    tree_convergence_laws::payloads();
+    tree_convergence_laws::tree();
     legs();
 }
 

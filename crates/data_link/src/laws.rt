@@ -10,6 +10,7 @@ ghost use Rattle.data_link.specs.Laws.{SweepRefreshesCopy, SweepsMove, TakenIsCo
 ghost use Rattle.data_link.specs.Laws.{ThreeSweepsRefresh, TwoSweepsMove};
 ghost use Rattle.data_link.specs.SixSweeps.{StableAfterSixSweeps};
 
+use k_state::laws as k_state_laws;
 pub use link_model::topology::laws::neighbours;
 
 /// A port in range stays in range, whatever frame in range it takes. Whoever keeps ports needs it.
@@ -28,8 +29,8 @@ pub fn stays_stable()
     ensures stays { StableStays }
     ensures stays_in_runs { StableOutlastsRuns }
 {
-    k_state::laws::stays_good();
-    k_state::laws::fresh_value();
+    k_state_laws::stays_good();
+    k_state_laws::fresh_value();
 }
 
 /// Sweeps move numbers: a strict sweep is a sweep, and two sweeps in a row hold a move.
@@ -44,8 +45,8 @@ pub fn turns_stable()
     ensures after_moves { StableAfterMoves }
     ensures after_sweeps { StableAfterSweeps }
 {
-    k_state::laws::stays_good();
-    k_state::laws::fresh_value();
+    k_state_laws::stays_good();
+    k_state_laws::fresh_value();
 }
 
 /// A link becomes stable within six sweeps, whatever its capacity. Two leave no number on it but
@@ -54,9 +55,9 @@ pub fn turns_stable()
 pub fn six_sweeps()
     ensures { StableAfterSixSweeps }
 {
-    k_state::laws::ages();
-    k_state::laws::stays_good();
-    k_state::laws::fresh_value();
+    k_state_laws::ages();
+    k_state_laws::stays_good();
+    k_state_laws::fresh_value();
 }
 
 /// Payloads on a stable link: what is staged was present, what is copied was staged, and three
@@ -72,6 +73,6 @@ pub fn payloads()
     ensures sweep_refreshes { SweepRefreshesCopy }
     ensures three_sweeps { ThreeSweepsRefresh }
 {
-    k_state::laws::stays_good();
-    k_state::laws::fresh_value();
+    k_state_laws::stays_good();
+    k_state_laws::fresh_value();
 }

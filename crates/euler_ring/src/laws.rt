@@ -5,6 +5,8 @@ ghost use Rattle.euler_ring.specs.Laws.{TrueNeighboursAre, TrueNeighboursAscend,
 ghost use Rattle.euler_ring.specs.Laws.{TourGoesRound, TourHasEachEdge, TourHasNoneTwice};
 ghost use Rattle.euler_ring.specs.Laws.{TourLength, TourComesToEach};
 
+use topology::laws as topology_laws;
+
 /// Round one node, `next_after` and `source_for` undo each other and stay among the tree
 /// neighbours: each machine's value leaves towards one neighbour, and each neighbour is left to by
 /// one machine.
@@ -22,9 +24,9 @@ pub fn true_view()
     ensures ascend { TrueNeighboursAscend }
     ensures own_view { OwnViewIsTrue }
 {
-    topology::laws::tree();
-    topology::laws::neighbours();
-    topology::laws::joined();
+    topology_laws::tree();
+    topology_laws::neighbours();
+    topology_laws::joined();
 }
 
 /// The tour begins at the special machine, goes on from each stop as the node there sees it, and
@@ -37,8 +39,8 @@ pub fn the_tour()
     ensures length { TourLength }
     ensures each_node { TourComesToEach }
 {
-    topology::laws::tree();
-    topology::laws::neighbours();
-    topology::laws::joined();
-    topology::laws::limits();
+    topology_laws::tree();
+    topology_laws::neighbours();
+    topology_laws::joined();
+    topology_laws::limits();
 }

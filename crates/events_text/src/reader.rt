@@ -8,7 +8,7 @@ ghost use Rattle.events_text.specs.declared.text_line.TextLine.TheVariants.{Said
 
 use super::text_line::{LONGEST, TextLine, text_line};
 use super::usual::usual_line;
-use byte_lines::{HalfLine, LineReading};
+use byte_lines::{HalfLine, LineReading, laws as byte_lines_laws};
 use run_model::Event;
 use std::marker::Model;
 
@@ -85,8 +85,8 @@ impl EventReader {
             → ended_lines (bytes ++ take taken.1 piece.now)
             ≡ ended_lines bytes ++ Said taken.0 ∷ []) }
     {
-        byte_lines::laws::any_cutting();
-        byte_lines::laws::lines_grow();
+        byte_lines_laws::any_cutting();
+        byte_lines_laws::lines_grow();
         if !self.half.is_empty() {
             return None;
         }

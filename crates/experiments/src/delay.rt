@@ -7,7 +7,7 @@ ghost use Rattle.experiments.specs.Watched.{GoesOn};
 use crate::measured_run::happen;
 use crate::watch::Watch;
 use judge::World;
-use run_model::Event;
+use run_model::{Event, laws as run_model_laws};
 use schedules::EventSink;
 use std::alloc::{AllocError, Allocator};
 use topology::Net;
@@ -42,10 +42,10 @@ pub fn replay<A: Allocator + Copy, N: Allocator + Copy>(
 ) -> Result<Option<Delay>, AllocError>
     ensures { IfOk result (IsReplayed net.now harms.now events.now) }
 {
-    run_model::laws::runs();
-    run_model::laws::start();
-    run_model::laws::moments();
-    run_model::laws::sweep_numbers();
+    run_model_laws::runs();
+    run_model_laws::start();
+    run_model_laws::moments();
+    run_model_laws::sweep_numbers();
     layers::laws::sharp();
     let _known_nodes = net.nodes();
     if has_harm(events) {

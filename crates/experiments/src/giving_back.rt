@@ -13,7 +13,7 @@ use byte_streams::Failed;
 use judge::Configuration;
 use rand_pcg::Lcg64Xsh32;
 use run_model::Event;
-use schedules::{Chances, EventSink, give_round, next_step};
+use schedules::{Chances, EventSink, give_round, laws as schedules_laws, next_step};
 use std::alloc::Allocator;
 use topology::Net;
 
@@ -122,7 +122,7 @@ fn give_rounds_back<A: Allocator + Copy, S: EventSink>(
         (world_of lending.old.configuration) lending.old.left count) sink.new) }
     ensures cause { CountsFailures result (S.failures sink.old) (S.failures sink.new) }
 {
-    schedules::laws::taking::<S>();
+    schedules_laws::taking::<S>();
     for i in 0..count {
         give_round_back(net, lending, sink)?;
     }
@@ -160,7 +160,7 @@ fn give_all_back<A: Allocator + Copy, S: EventSink>(
         sink.new) }
     ensures cause { CountsFailures result (S.failures sink.old) (S.failures sink.new) }
 {
-    schedules::laws::taking::<S>();
+    schedules_laws::taking::<S>();
     for node in 0..nodes {
         give_back(node, lending, sink)?;
     }
@@ -216,7 +216,7 @@ fn give_steps_back<A: Allocator + Copy, S: EventSink>(
         sink.new) }
     ensures cause { CountsFailures result (S.failures sink.old) (S.failures sink.new) }
 {
-    schedules::laws::taking::<S>();
+    schedules_laws::taking::<S>();
     for i in 0..steps {
         give_step_back(chances, generator, lending, sink)?;
     }
@@ -240,7 +240,7 @@ fn give_step_back<A: Allocator + Copy, S: EventSink>(
         sink.new) }
     ensures cause { CountsFailures result (S.failures sink.old) (S.failures sink.new) }
 {
-    schedules::laws::taking::<S>();
+    schedules_laws::taking::<S>();
     let event = next_step(&mut lending.configuration, chances, generator);
     sink.take(&event)?;
     match event {

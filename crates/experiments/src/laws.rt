@@ -1,6 +1,8 @@
 //! What holds of whole schedules: each law is the contract of a function that does nothing.
 ghost use Rattle.experiments.specs.Laws.{PlansAreAccepted};
 
+use run_model::laws as run_model_laws;
+use schedules::laws as schedules_laws;
 pub use schedules::laws::taking;
 
 /// No event of a schedule is refused if it begins in the default world: whoever lets the events
@@ -8,10 +10,10 @@ pub use schedules::laws::taking;
 pub fn accepted()
     ensures { PlansAreAccepted }
 {
-    run_model::laws::runs();
-    run_model::laws::start();
-    schedules::laws::scramble();
-    schedules::laws::draws();
-    schedules::laws::accepted();
-    schedules::laws::edges();
+    run_model_laws::runs();
+    run_model_laws::start();
+    schedules_laws::scramble();
+    schedules_laws::draws();
+    schedules_laws::accepted();
+    schedules_laws::edges();
 }

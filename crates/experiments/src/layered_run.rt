@@ -7,6 +7,8 @@ use crate::measured_run::{Scheduler, give_stretches, scrambled_world};
 use crate::watch::Watch;
 use rand_core::SeedableRng;
 use rand_pcg::Lcg64Xsh32;
+use run_model::laws as run_model_laws;
+use schedules::laws as schedules_laws;
 use std::alloc::{AllocError, Allocator};
 use topology::Net;
 
@@ -45,16 +47,16 @@ pub fn measure_layers<A: Allocator + Copy>(
     // layer's definition in the proof; and none is above what the theorem says.
     ensures { IfOk result (IsSettlingOf net.now scheduler seed) }
 {
-    run_model::laws::runs();
-    run_model::laws::start();
-    run_model::laws::moments();
-    run_model::laws::sweep_numbers();
+    run_model_laws::runs();
+    run_model_laws::start();
+    run_model_laws::moments();
+    run_model_laws::sweep_numbers();
     layers::laws::sharp();
-    schedules::laws::scramble();
-    schedules::laws::draws();
-    schedules::laws::accepted();
-    schedules::laws::slow_rounds();
-    schedules::laws::edges();
+    schedules_laws::scramble();
+    schedules_laws::draws();
+    schedules_laws::accepted();
+    schedules_laws::slow_rounds();
+    schedules_laws::edges();
     let _known_nodes = net.nodes();
     let start = scrambled_world(alloc, net, seed)?;
     let mut watch = Watch::with_layers(start);

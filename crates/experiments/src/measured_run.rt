@@ -12,10 +12,10 @@ use crate::watch::Watch;
 use judge::{Configuration, World};
 use rand_core::SeedableRng;
 use rand_pcg::Lcg64Xsh32;
-use run_model::Event;
+use run_model::{Event, laws as run_model_laws};
 use schedules::{
-    Chances, EventSink, Slow, draw_step, give_round, give_slow_round, scramble_world, slow_link,
-    slow_node,
+    Chances, EventSink, Slow, draw_step, give_round, give_slow_round, laws as schedules_laws,
+    scramble_world, slow_link, slow_node,
 };
 use std::alloc::{AllocError, Allocator};
 use topology::Net;
@@ -72,16 +72,16 @@ pub fn measure_run<A: Allocator + Copy>(
     // the seed scrambles; and no run serves later than the theorem says.
     ensures { IfOk result (IsRunOf net.now scheduler seed) }
 {
-    run_model::laws::runs();
-    run_model::laws::start();
-    run_model::laws::moments();
-    run_model::laws::sweep_numbers();
+    run_model_laws::runs();
+    run_model_laws::start();
+    run_model_laws::moments();
+    run_model_laws::sweep_numbers();
     layers::laws::sharp();
-    schedules::laws::scramble();
-    schedules::laws::draws();
-    schedules::laws::accepted();
-    schedules::laws::slow_rounds();
-    schedules::laws::edges();
+    schedules_laws::scramble();
+    schedules_laws::draws();
+    schedules_laws::accepted();
+    schedules_laws::slow_rounds();
+    schedules_laws::edges();
     let _known_nodes = net.nodes();
     let start = scrambled_world(alloc, net, seed)?;
     let mut watch = Watch::new(start);

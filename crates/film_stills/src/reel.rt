@@ -37,12 +37,8 @@ impl<A: Allocator + Copy> Model for Reel<A> {
 
     ghost Value = { ReelView };
 
-    ghost view = { λ r. record {
-      opening = r.opening;
-      stills = r.stills.items;
-      limit = r.limit;
-      crowded = r.crowded;
-    } };
+    ghost view = { λ r. record
+        { opening = r.opening; stills = r.stills.items; limit = r.limit; crowded = r.crowded } };
 
     ghost invariant = { λ r. (2 ≤ r.limit)
         × (length r.stills.items ≤ r.limit)

@@ -1,6 +1,8 @@
 //! What holds of recorders: the law is the contract of a function that does nothing.
 ghost use Rattle.flight_recorder.specs.Laws.{FilesAreRecords};
 
+use flight_records::laws as flight_records_laws;
+
 /// What is written to a file, page after page, is a record that begins with the start of a state, of
 /// all that was noted since the file began; a file that is left is whole; and reading it gives what
 /// was noted. A recorder that goes on after the front of a file, of which the rest is cut off, leaves a file
@@ -8,8 +10,8 @@ ghost use Rattle.flight_recorder.specs.Laws.{FilesAreRecords};
 pub fn files_are_records()
     ensures { FilesAreRecords }
 {
-    flight_records::laws::records_grow();
-    flight_records::laws::one_reading();
-    flight_records::laws::pieces_are_read();
-    flight_records::laws::short_forms_stand();
+    flight_records_laws::records_grow();
+    flight_records_laws::one_reading();
+    flight_records_laws::pieces_are_read();
+    flight_records_laws::short_forms_stand();
 }

@@ -2,6 +2,8 @@
 ghost use Rattle.flight_records.specs.Laws.{WrittenIsRead, CutIsRead, WhatIsReadIsWritten};
 ghost use Rattle.flight_records.specs.Laws.{PiecesAreRead, RecordsGrow, ShortFormsStand};
 
+use leb128::laws as leb128_laws;
+
 /// Every list of entries, each no earlier than the one before, is read again as it was written,
 /// whatever follows; at whatever place the bytes are cut, the whole entries in front of the cut
 /// are read, and then the bytes are short; and what is read stands there as it is written. Whoever
@@ -11,7 +13,7 @@ pub fn one_reading()
     ensures cut { CutIsRead }
     ensures only { WhatIsReadIsWritten }
 {
-    leb128::laws::one_reading();
+    leb128_laws::one_reading();
 }
 
 /// An entry at the front of a piece of a record is read in the same way if more bytes follow; what is
@@ -20,7 +22,7 @@ pub fn one_reading()
 pub fn pieces_are_read()
     ensures { PiecesAreRead }
 {
-    leb128::laws::reading_in_pieces();
+    leb128_laws::reading_in_pieces();
 }
 
 /// An entry that is written at the end of a record, after the instant of its last entry, makes a

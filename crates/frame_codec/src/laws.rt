@@ -1,6 +1,8 @@
 //! The laws of frame lines.
 ghost use Rattle.frame_codec.specs.Laws.{OneReading, AnyCutting, JunkEndsAtNewline};
 
+use byte_lines::laws as byte_lines_laws;
+
 /// A line is read as a frame exactly if it is the frame's spelling and the frame is in range. So
 /// what is encoded is read again, no two frames share a line, and no other line is read. Whoever
 /// sends frames as text stands on it.
@@ -13,7 +15,7 @@ pub fn one_reading()
 pub fn any_cutting()
     ensures { AnyCutting }
 {
-    byte_lines::laws::any_cutting();
+    byte_lines_laws::any_cutting();
 }
 
 /// Junk spoils at most the line that it joins: after the next newline all is read as if the junk
@@ -21,5 +23,5 @@ pub fn any_cutting()
 pub fn junk_ends_at_newline()
     ensures { JunkEndsAtNewline }
 {
-    byte_lines::laws::any_cutting();
+    byte_lines_laws::any_cutting();
 }

@@ -9,7 +9,7 @@ ghost use Rattle.frame_codec.specs.Reading.{frame_of};
 ghost use Rattle.frame_codec.specs.Lines.{ReadsFrames, ReadsOn};
 
 use crate::frame_line::read_line;
-use byte_lines::{HalfLine, LineReading, Taken};
+use byte_lines::{HalfLine, LineReading, Taken, laws as byte_lines_laws};
 use std::alloc::{AllocError, Allocator};
 use std::marker::Model;
 use topology::{Frame, Net, Ranges};
@@ -46,7 +46,7 @@ impl LineReader {
         ensures any_cutting { ReadsOn (ranges_of net.now) self.old self.new (byte ∷ [])
             (option_to_list result) }
     {
-        byte_lines::laws::any_cutting();
+        byte_lines_laws::any_cutting();
         let lines = FrameLines(net.ranges());
         self.half.push(byte, &lines).flatten()
     }
@@ -65,7 +65,7 @@ impl LineReader {
             (take result.0 piece.now)
             (option_to_list result.1) }
     {
-        byte_lines::laws::any_cutting();
+        byte_lines_laws::any_cutting();
         find_frame(&mut self.half, piece, &FrameLines(net.ranges()))
     }
 
@@ -96,7 +96,7 @@ impl LineReader {
             (vec_capacity out.old
             < vec_len out.old + (length self.old.first + length piece.now) / 22) }
     {
-        byte_lines::laws::any_cutting();
+        byte_lines_laws::any_cutting();
         out.reserve((self.half.len() + piece.len()) / 22)?;
         read_frames(&mut self.half, piece, &FrameLines(net.ranges()), out);
         Ok(())
@@ -110,7 +110,7 @@ fn find_frame(half: &mut HalfLine<21>, piece: &[u8], lines: &FrameLines) -> (usi
     ensures frames { ReadsFrames lines.now.0 half.old half.new (take result.0 piece.now)
         (option_to_list result.1) }
 {
-    byte_lines::laws::any_cutting();
+    byte_lines_laws::any_cutting();
     let mut at = 0;
     while at < piece.len() {
         let Taken { used, line } = half.take(&piece[at..], lines);
@@ -135,7 +135,7 @@ fn read_frames<A: Allocator>(
     ensures { (frames : List Frame) × (out.new.items ≡ out.old.items ++ frames)
         × ReadsFrames lines.now.0 half.old half.new piece.now frames }
 {
-    byte_lines::laws::any_cutting();
+    byte_lines_laws::any_cutting();
     let mut rest = piece;
     while !rest.is_empty() {
         let Taken { used, line } = half.take(rest, lines);

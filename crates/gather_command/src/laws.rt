@@ -2,13 +2,15 @@
 //! function that does nothing.
 ghost use Rattle.gather_command.specs.Laws.{WeavingIsFaithful, StretchesAreFaithful};
 
+use record_gathering::laws as record_gathering_laws;
+
 /// None of the events is refused where weaving began, so a simulation of them replays what was recorded;
 /// and each entry of each node is among them, in its order. Whoever trusts a recording stands on it.
 pub fn weaving_is_faithful()
     ensures { WeavingIsFaithful }
 {
-    record_gathering::laws::accepted_is_enough();
-    record_gathering::laws::runs();
+    record_gathering_laws::accepted_is_enough();
+    record_gathering_laws::runs();
 }
 
 /// A list that begins in the midst is set up as the world stood then; a simulation refuses none of its
@@ -16,10 +18,10 @@ pub fn weaving_is_faithful()
 pub fn stretches_are_faithful()
     ensures { StretchesAreFaithful }
 {
-    record_gathering::laws::accepted_is_enough();
-    record_gathering::laws::facts_join();
-    record_gathering::laws::set_ups_are_reached();
-    record_gathering::laws::runs();
-    record_gathering::laws::start();
-    record_gathering::laws::in_range();
+    record_gathering_laws::accepted_is_enough();
+    record_gathering_laws::facts_join();
+    record_gathering_laws::set_ups_are_reached();
+    record_gathering_laws::runs();
+    record_gathering_laws::start();
+    record_gathering_laws::in_range();
 }

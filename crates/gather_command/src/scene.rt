@@ -14,7 +14,9 @@ use crate::weaving::SPARE_PAIRS;
 use command_parts::EventSink;
 use node_recorder::network_mark;
 use record_gathering::facts::{add_edges, add_links, add_state};
-use record_gathering::{Configuration, Event, Fact, Found, Gathering};
+use record_gathering::{
+    Configuration, Event, Fact, Found, Gathering, laws as record_gathering_laws,
+};
 use std::alloc::{AllocError, Global};
 use std::marker::Model;
 use topology::Net;
@@ -85,8 +87,8 @@ fn set_all<K: EventSink>(
     ensures broken { IfErr result (λ fault.
         IsBroken fault (K.failures sink.old) (K.failures sink.new)) }
 {
-    record_gathering::laws::facts_join();
-    record_gathering::laws::runs();
+    record_gathering_laws::facts_join();
+    record_gathering_laws::runs();
     let mut events = Vec::new(alloc);
     for fact in facts {
         scene.sets(fact, &mut events, sink)?;
@@ -147,8 +149,8 @@ fn set_nodes<K: EventSink>(
     ensures broken { IfErr result (λ fault.
         IsBroken fault (K.failures sink.old) (K.failures sink.new)) }
 {
-    record_gathering::laws::facts_join();
-    record_gathering::laws::runs();
+    record_gathering_laws::facts_join();
+    record_gathering_laws::runs();
     for node in 0..world.net().nodes() {
         set_node(alloc, scene, network, world, node, sink)?;
     }
@@ -186,8 +188,8 @@ fn set_all_links<K: EventSink>(
     ensures broken { IfErr result (λ fault.
         IsBroken fault (K.failures sink.old) (K.failures sink.new)) }
 {
-    record_gathering::laws::facts_join();
-    record_gathering::laws::runs();
+    record_gathering_laws::facts_join();
+    record_gathering_laws::runs();
     for from in 0..world.net().nodes() {
         set_links(alloc, scene, world, from, sink)?;
     }
@@ -209,8 +211,8 @@ pub fn set_up<K: EventSink>(
     ensures broken { IfErr result (λ fault.
         IsBroken fault (K.failures sink.old) (K.failures sink.new)) }
 {
-    record_gathering::laws::facts_join();
-    record_gathering::laws::runs();
+    record_gathering_laws::facts_join();
+    record_gathering_laws::runs();
     let mut scene = Scene::new(alloc, net)?;
     set_edges(alloc, &mut scene, net, world.net(), sink)?;
     set_nodes(alloc, &mut scene, network_mark(net), world, sink)?;

@@ -27,13 +27,8 @@ impl Model for Sight {
 
     ghost Value = { Seen };
 
-    ghost view = { λ s. record {
-      found = s.found;
-      damage = s.damage;
-      watch = s.watch;
-      delays = s.delays;
-      span = s.span;
-    } };
+    ghost view = { λ s. record
+        { found = s.found; damage = s.damage; watch = s.watch; delays = s.delays; span = s.span } };
 }
 
 /// Whether what is noted is a tick.

@@ -41,11 +41,7 @@ impl<S: Source + Drop> Model for Weaving<S> {
 
     ghost Value = { WeavingView };
 
-    ghost view = { λ w. record {
-      gathering = w.gathering;
-      records = w.nodes.items;
-      seen = w.sight;
-    } };
+    ghost view = { λ w. record { gathering = w.gathering; records = w.nodes.items; seen = w.sight } };
 
     ghost invariant = { λ w. (w.heads.items ≡ heads_in w.nodes.items)
         × ((gathered w.gathering).net.nodes ≡ length w.nodes.items)

@@ -11,7 +11,7 @@ ghost use Rattle.judge.specs.Laid.{IsLaid};
 use configuration::PairTable;
 use std::alloc::{AllocError, Allocator, Global};
 use std::marker::Model;
-use topology::Net;
+use topology::{Net, laws as topology_laws};
 
 /// What is known about one link in a stretch: how many of the items that were there when the
 /// stretch began are still there (they are the oldest), and whether an item that was sent inside
@@ -85,7 +85,7 @@ fn lay_all<A: Allocator, N: Allocator + Copy>(table: &mut PairTable<A>, net: &Ne
     ensures laid { IsLaid net.now.nodes (are_joined net.now.edges) table.new
         (2 * length net.now.edges + 1) }
 {
-    topology::laws::joined();
+    topology_laws::joined();
     let _known_nodes = net.nodes();
     table.clear();
     let mut place = 1;
@@ -131,7 +131,7 @@ impl<A: Allocator + Copy> Tallies<A> {
         ensures empty { IfOk result (λ t. (u v : ℕ) → tally_of t u v ≡ no_tally) }
         ensures looked { IfOk result (λ t. t.looked ≡ 0) }
     {
-        topology::laws::joined();
+        topology_laws::joined();
         let mut table = PairTable::new(alloc, net.nodes())?;
         lay_all(&mut table, net);
         let none = Tally {
@@ -220,7 +220,7 @@ impl<A: Allocator> Tallies<A> {
         // Nothing is left to renew, on a link or elsewhere.
         ensures empty { (u v : ℕ) → tally_of self.new u v ≡ no_tally }
     {
-        topology::laws::joined();
+        topology_laws::joined();
         lay_all(&mut self.table, net);
         forget(&mut self.places);
         self.unrenewed = 0;

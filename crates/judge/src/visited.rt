@@ -7,6 +7,7 @@ ghost use Rattle.judge.specs.Visited.{ticked_or_took};
 
 use configuration::{Configuration, Happened};
 use std::alloc::Allocator;
+use topology::laws as topology_laws;
 
 /// The mask with the bit of a node.
 fn with(mask: u64, node: u16) -> u64
@@ -22,7 +23,7 @@ pub fn privileged_nodes<A: Allocator + Copy>(configuration: &Configuration<A>) -
     ensures { (v : ℕ) → has_bit result v ≡ (nat_lt v (world_of configuration.now).net.nodes
         && is_privileged (world_of configuration.now) v) }
 {
-    topology::laws::limits();
+    topology_laws::limits();
     let mut mask = 0;
     for node in 0..configuration.net().nodes() {
         if configuration.node(node).privileged() {
@@ -39,7 +40,7 @@ fn visit<A: Allocator + Copy>(configuration: &Configuration<A>, mask: u64, node:
     ensures { (v : ℕ) → has_bit result v
         ≡ (has_bit mask v || (v == node && is_privileged (world_of configuration.now) v)) }
 {
-    topology::laws::limits();
+    topology_laws::limits();
     let _known_nodes = configuration.net().nodes();
     let visited = with(mask, node);
     if visited != mask && configuration.node(node).privileged() {

@@ -14,7 +14,7 @@ use crate::payload_reading::PayloadReading;
 use crate::ring_reading::RingReading;
 use configuration::Configuration;
 use std::alloc::Allocator;
-use topology::Net;
+use topology::{Net, laws as topology_laws};
 
 /// How many links there are, both directions of an edge being one each.
 pub fn link_count<A: Allocator + Copy>(net: &Net<A>) -> usize
@@ -46,7 +46,7 @@ fn stable_count_from<A: Allocator + Copy>(configuration: &Configuration<A>, from
         (links_from (world_of configuration.now).net from) result }
     ensures few { result ≤ (world_of configuration.now).net.nodes }
 {
-    topology::laws::neighbours();
+    topology_laws::neighbours();
     let mut count = 0;
     for to in configuration.net().neighbours(from) {
         if is_stable(configuration, from, *to) {
@@ -60,7 +60,7 @@ fn stable_count_from<A: Allocator + Copy>(configuration: &Configuration<A>, from
 pub fn are_links_stable<A: Allocator + Copy>(configuration: &Configuration<A>) -> bool
     ensures { IsTrue result ↔ AreLinksStable (world_of configuration.now) }
 {
-    topology::laws::joined();
+    topology_laws::joined();
     for from in 0..configuration.net().nodes() {
         if !are_stable_from(configuration, from) {
             return false;
@@ -74,8 +74,8 @@ fn are_stable_from<A: Allocator + Copy>(configuration: &Configuration<A>, from: 
     requires { from < (world_of configuration.now).net.nodes }
     ensures { IsTrue result ↔ AreStableFrom (world_of configuration.now) from }
 {
-    topology::laws::neighbours();
-    topology::laws::joined();
+    topology_laws::neighbours();
+    topology_laws::joined();
     let net = configuration.net();
     let _known_nodes = net.nodes();
     for &to in net.neighbours(from) {

@@ -6,9 +6,9 @@ ghost use Rattle.euler_ring.specs.Tour.{tour};
 ghost use Rattle.topology.specs.Tree.{parent_of};
 ghost use Rattle.layers.specs.Stops.{stop_of, IsOnTree, GoesRound, first_stop};
 
-use euler_ring::{TreeNeighbours, tree_neighbours};
+use euler_ring::{TreeNeighbours, laws as euler_ring_laws, tree_neighbours};
 use std::alloc::Allocator;
-use topology::Net;
+use topology::{Net, laws as topology_laws};
 
 /// A stop of the tour: it comes from one node to another.
 #[derive(Clone, Copy)]
@@ -25,8 +25,8 @@ pub fn first_stop<A: Allocator + Copy>(net: &Net<A>) -> TourStop
     ensures round { GoesRound net.now (stop_of result) (first_stop net.now) (tour net.now) }
     ensures there { IsOnTree net.now (stop_of result) }
 {
-    euler_ring::laws::the_tour();
-    euler_ring::laws::true_view();
+    euler_ring_laws::the_tour();
+    euler_ring_laws::true_view();
     let root = net.root();
     let from = neighbours_on_tree(net, root).special(true).unwrap();
     TourStop { from, here: root }
@@ -38,7 +38,7 @@ pub fn next_stop<A: Allocator + Copy>(net: &Net<A>, stop: TourStop) -> TourStop
     ensures next { stop_of result ≡ stop_after net.now (stop_of stop) }
     ensures there { IsOnTree net.now (stop_of result) }
 {
-    euler_ring::laws::true_view();
+    euler_ring_laws::true_view();
     let _known = net.nodes();
     let TourStop { from, here } = stop;
     TourStop {
@@ -53,8 +53,8 @@ fn neighbours_on_tree<A: Allocator + Copy>(net: &Net<A>, v: u16) -> TreeNeighbou
     ensures tree { result ≡ true_neighbours net.now v }
     ensures nodes { (w : ℕ) → IsTrue (is_on result w) → w < net.now.nodes }
 {
-    topology::laws::neighbours();
-    topology::laws::limits();
+    topology_laws::neighbours();
+    topology_laws::limits();
     let _known = net.nodes();
     let parent_of = |w: u16| -> Option<u16>
         requires { w < net.now.nodes }

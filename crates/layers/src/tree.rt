@@ -10,14 +10,14 @@ ghost use Rattle.layers.specs.Stages.{IsLinkTrue, IsNodeTrue, AreLinksTrue};
 
 use configuration::Configuration;
 use std::alloc::Allocator;
-use topology::Payload;
+use topology::{Payload, laws as topology_laws};
 
 /// The greatest stage that the tree is at, up to one more than the greatest distance: at that one
 /// each distance is exact.
 pub fn stage_of<A: Allocator + Copy>(configuration: &Configuration<A>) -> u16
     ensures { IsStageOf (world_of configuration.now) result }
 {
-    topology::laws::eccentricity();
+    topology_laws::eccentricity();
     let net = configuration.net();
     let _known_nodes = net.nodes();
     let last = net.eccentricity() + 1;
@@ -33,7 +33,7 @@ pub fn stage_of<A: Allocator + Copy>(configuration: &Configuration<A>) -> u16
 fn is_at_stage<A: Allocator + Copy>(configuration: &Configuration<A>, stage: u16) -> bool
     ensures { IsTrue result ↔ IsTreeAtStage stage (world_of configuration.now) }
 {
-    topology::laws::joined();
+    topology_laws::joined();
     for v in 0..configuration.net().nodes() {
         if !is_node_at_stage(configuration, v, stage) {
             return false;
@@ -68,8 +68,8 @@ fn are_links_at_stage<A: Allocator + Copy>(
     requires distance { distance ≡ distance_of (world_of configuration.now).net v }
     ensures { IsTrue result ↔ AreLinksAtStage stage (world_of configuration.now) v }
 {
-    topology::laws::neighbours();
-    topology::laws::joined();
+    topology_laws::neighbours();
+    topology_laws::joined();
     let net = configuration.net();
     let _known_nodes = net.nodes();
     for &u in net.neighbours(v) {
@@ -114,7 +114,7 @@ fn is_of_stage(stage: u16, distance: u16, written: u16) -> bool
 pub fn is_tree_reached<A: Allocator + Copy>(configuration: &Configuration<A>) -> bool
     ensures { IsTrue result ↔ IsTreeReached (world_of configuration.now) }
 {
-    topology::laws::joined();
+    topology_laws::joined();
     for v in 0..configuration.net().nodes() {
         if !is_node_true(configuration, v) {
             return false;
@@ -148,8 +148,8 @@ fn are_links_true<A: Allocator + Copy>(
     requires parent { parent ≡ parent_of (world_of configuration.now).net v }
     ensures { IsTrue result ↔ AreLinksTrue (world_of configuration.now) v }
 {
-    topology::laws::neighbours();
-    topology::laws::joined();
+    topology_laws::neighbours();
+    topology_laws::joined();
     let net = configuration.net();
     let _known_nodes = net.nodes();
     for &u in net.neighbours(v) {

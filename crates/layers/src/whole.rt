@@ -10,6 +10,7 @@ use crate::token_ring::is_token_ring_good;
 use crate::tree::{is_tree_reached, stage_of};
 use configuration::Configuration;
 use std::alloc::Allocator;
+use topology::laws as topology_laws;
 
 /// What has settled of a network at one moment.
 #[derive(Clone, Copy)]
@@ -37,9 +38,9 @@ impl Layers {
     pub fn of<A: Allocator + Copy>(configuration: &Configuration<A>) -> Layers
         ensures { AreLayersOf (world_of configuration.now) result }
     {
-        topology::laws::joined();
-        topology::laws::neighbours();
-        topology::laws::eccentricity();
+        topology_laws::joined();
+        topology_laws::neighbours();
+        topology_laws::eccentricity();
         let net = configuration.net();
         let _known_nodes = net.nodes();
         let links = link_count(net);

@@ -13,7 +13,7 @@ use node_core::Node;
 use pace::{Outlook, PortSight};
 use socket_links::Pipe;
 use std::alloc::Allocator;
-use topology::{Frame, Net, Payload};
+use topology::{Frame, Net, Payload, laws as topology_laws};
 
 /// The most nodes of a network.
 pub(crate) const NODES: usize = 64;
@@ -38,9 +38,9 @@ fn tree<A: Allocator>(node: &Node<A>, net: &Net) -> TreeNeighbours
     ensures neighbours { (w : ℕ) → IsTrue (is_on result w)
         → Contains (site_in node.now).neighbours w }
 {
-    topology::laws::joined();
-    topology::laws::neighbours();
-    topology::laws::limits();
+    topology_laws::joined();
+    topology_laws::neighbours();
+    topology_laws::limits();
     let _known = net.nodes();
     let copied_parent = |w: u16| -> Option<u16>
         requires { w < (site_in node.now).ranges.nodes }
@@ -56,8 +56,8 @@ pub(crate) fn trees<A: Allocator>(node: &Node<A>, net: &Net) -> [bool; NODES]
     ensures { (w : ℕ) → w < 64
         → is_tree result w ≡ is_on (tree_of (site_in node.now) (state_of node.now)) w }
 {
-    topology::laws::neighbours();
-    topology::laws::limits();
+    topology_laws::neighbours();
+    topology_laws::limits();
     let _known = net.nodes();
     let tree = tree(node, net);
     let mut trees = [false; NODES];
@@ -76,8 +76,8 @@ pub(crate) fn values<A: Allocator>(node: &Node<A>, net: &Net) -> [u16; NODES]
     ensures others { (w : ℕ) → ¬ Contains (site_in node.now).neighbours w
         → slice_index_or result w 0 ≡ 0 }
 {
-    topology::laws::neighbours();
-    topology::laws::limits();
+    topology_laws::neighbours();
+    topology_laws::limits();
     let _known = net.nodes();
     let mut values = [0; NODES];
     for w in node.neighbours() {
@@ -98,8 +98,8 @@ pub(crate) fn sights<P: Pipe, A: Allocator>(
     ensures { (w : ℕ) → w < 64 → Contains (site_in node.now).neighbours w
         → sight_of result w ≡ sight_at node.now ports.now w }
 {
-    topology::laws::neighbours();
-    topology::laws::limits();
+    topology_laws::neighbours();
+    topology_laws::limits();
     let _known = net.nodes();
     let mut sights = [no_sight(); NODES];
     for w in node.neighbours() {

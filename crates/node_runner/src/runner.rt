@@ -15,6 +15,7 @@ use crate::ports::{Incoming, Outgoing};
 use link_model::Item;
 use run_model::{Event, Node};
 use std::alloc::{Allocator, Global};
+use topology::laws as topology_laws;
 use weaving::{Entry, Journal};
 
 /// A node's ends of the two links that join it to a neighbour.
@@ -82,7 +83,7 @@ impl<A: Allocator> Runner<A> {
             × IsSendDue (slice_index_or (port_ids self.old) place 0) self.old notes
             × IsSlow (length notes) self.old self.new }
     {
-        topology::laws::neighbours();
+        topology_laws::neighbours();
         let port = &mut self.ports[place];
         let neighbour = port.neighbour;
         let _known = self.node.is_neighbour(neighbour);
@@ -110,8 +111,8 @@ impl<A: Allocator> Runner<A> {
             × IsOneTake (slice_index_or (port_ids self.old) place 0) notes
             × IsTakeDue (slice_index_or (port_ids self.old) place 0) self.old notes }
     {
-        topology::laws::neighbours();
-        topology::laws::joined();
+        topology_laws::neighbours();
+        topology_laws::joined();
         let port = &mut self.ports[place];
         let neighbour = port.neighbour;
         let to = self.id;

@@ -9,6 +9,11 @@ ghost use Rattle.processes.specs.Loans.{TurnsTickFully, PremisesGiveWindows};
 ghost use Rattle.processes.specs.Loans.{RecoversInTime, WaitsInTime};
 ghost use Rattle.processes.specs.Laws.{BytesAreProcesses, BytesKeepPromise};
 
+use convergence::laws as convergence_laws;
+use frame_codec::laws as frame_codec_laws;
+use run_model::laws as run_model_laws;
+use topology::laws as topology_laws;
+
 /// What processes did is a run: their deeds, with the losses between them, have an order by
 /// instants, and each such order leads from the world at the start to that at the end. So all laws of
 /// runs hold of running nodes.
@@ -16,8 +21,8 @@ pub fn runs()
     ensures order { ProcessesHaveOrder }
     ensures run { OrdersAreRuns }
 {
-    topology::laws::joined();
-    topology::laws::neighbours();
+    topology_laws::joined();
+    topology_laws::neighbours();
 }
 
 /// The headline and the service of processes: once that run holds as many sweeps as the bound says,
@@ -27,11 +32,11 @@ pub fn promise()
     ensures { ProcessesKeepPromise }
 {
     runs();
-    run_model::laws::runs();
-    run_model::laws::in_range();
-    convergence::laws::converge();
-    convergence::laws::sharp();
-    convergence::laws::service();
+    run_model_laws::runs();
+    run_model_laws::in_range();
+    convergence_laws::converge();
+    convergence_laws::sharp();
+    convergence_laws::service();
 }
 
 /// A link that is one connection after another: if each keeps order and loses nothing until it
@@ -55,9 +60,9 @@ pub fn bytes()
     ensures spoils { JunkSpoilsOneFrame }
 {
     byte_lines::laws::lines_grow();
-    frame_codec::laws::one_reading();
-    frame_codec::laws::any_cutting();
-    frame_codec::laws::junk_ends_at_newline();
+    frame_codec_laws::one_reading();
+    frame_codec_laws::any_cutting();
+    frame_codec_laws::junk_ends_at_newline();
 }
 
 /// The headline and the service of processes over bytes, whole. What is asked: the nodes go by their
@@ -68,10 +73,10 @@ pub fn promise_over_bytes()
     ensures are { BytesAreProcesses }
     ensures keep { BytesKeepPromise }
 {
-    topology::laws::limits();
-    topology::laws::joined();
-    topology::laws::neighbours();
-    run_model::laws::in_range();
+    topology_laws::limits();
+    topology_laws::joined();
+    topology_laws::neighbours();
+    run_model_laws::in_range();
     bytes();
     promise();
 }
@@ -86,14 +91,14 @@ pub fn windows()
     ensures serves { ServesInTime }
     ensures lends { LendsInTime }
 {
-    topology::laws::joined();
-    topology::laws::neighbours();
-    run_model::laws::runs();
-    run_model::laws::in_range();
-    run_model::laws::sweep_numbers();
-    convergence::laws::sharp();
-    convergence::laws::service();
-    convergence::laws::converge();
+    topology_laws::joined();
+    topology_laws::neighbours();
+    run_model_laws::runs();
+    run_model_laws::in_range();
+    run_model_laws::sweep_numbers();
+    convergence_laws::sharp();
+    convergence_laws::service();
+    convergence_laws::converge();
 }
 
 /// How long a window is: max(full, repeat + 2 turn + delay) is enough for `windows`. That holds if
@@ -104,7 +109,7 @@ pub fn windows()
 pub fn pace()
     ensures { PaceGivesWindows }
 {
-    topology::laws::joined();
+    topology_laws::joined();
 }
 
 /// Recovery and service as times, from what is believed of a machine: each stretch of `turn` holds a
@@ -119,6 +124,6 @@ pub fn premises()
     ensures recovers { RecoversInTime }
     ensures lends { WaitsInTime }
 {
-    topology::laws::joined();
+    topology_laws::joined();
     windows();
 }

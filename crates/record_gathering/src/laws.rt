@@ -5,7 +5,9 @@ ghost use Rattle.record_gathering.specs.Laws.{ReplaysFollowRecords, FieldsMeanDi
 ghost use Rattle.record_gathering.specs.SetUps.{SetUpsAreReached};
 ghost use Rattle.record_gathering.specs.States.{WholeStatesAreReached};
 
+use configuration::laws as configuration_laws;
 pub use configuration::laws::{in_range, runs, start};
+use topology::laws as topology_laws;
 
 /// Leaving out the events that are refused changes nothing: the same world is reached.
 pub fn accepted_is_enough()
@@ -28,8 +30,8 @@ pub fn fields_mean_differences()
 pub fn replays_follow_records()
     ensures { ReplaysFollowRecords }
 {
-    topology::laws::joined();
-    configuration::laws::runs();
+    topology_laws::joined();
+    configuration_laws::runs();
 }
 
 /// A node whose whole state is noted stands in it then: each of its fields, its desk, and its port to
@@ -38,9 +40,9 @@ pub fn replays_follow_records()
 pub fn whole_states_are_reached()
     ensures { WholeStatesAreReached }
 {
-    topology::laws::joined();
-    configuration::laws::runs();
-    configuration::laws::in_range();
+    topology_laws::joined();
+    configuration_laws::runs();
+    configuration_laws::in_range();
 }
 
 /// Facts that are set in two parts lead where they lead together, and none of what they become is
@@ -48,7 +50,7 @@ pub fn whole_states_are_reached()
 pub fn facts_join()
     ensures { FactsJoin }
 {
-    configuration::laws::runs();
+    configuration_laws::runs();
 }
 
 /// A network that is set up as a world stands, stands so: each node is in its state, and each link holds
@@ -56,8 +58,8 @@ pub fn facts_join()
 pub fn set_ups_are_reached()
     ensures { SetUpsAreReached }
 {
-    topology::laws::joined();
-    configuration::laws::runs();
-    configuration::laws::start();
-    configuration::laws::in_range();
+    topology_laws::joined();
+    configuration_laws::runs();
+    configuration_laws::start();
+    configuration_laws::in_range();
 }

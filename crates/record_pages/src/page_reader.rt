@@ -7,7 +7,7 @@ ghost use Rattle.record_pages.specs.Pages.{FailsAsSource, ReadsNext};
 use crate::page::{LONGEST, PAGE, Page};
 use crate::stop::Stop;
 use byte_streams::{Failed, Source};
-use flight_records::{Entry, EntryReader, Unread};
+use flight_records::{Entry, EntryReader, Unread, laws as flight_records_laws};
 use std::alloc::{AllocError, Allocator, Global};
 
 /// Reads the entries of a record, of which it keeps a page at a time.
@@ -44,7 +44,7 @@ impl<S: Source + Drop, A: Allocator> PageReader<S, A> {
         ensures cause { FailsAsSource result (S.failures self.old.source)
             (S.failures self.new.source) }
     {
-        flight_records::laws::pieces_are_read();
+        flight_records_laws::pieces_are_read();
         if self.fill().is_err() {
             return Err(Stop::Failed);
         }
@@ -109,7 +109,7 @@ impl<S: Source + Drop, A: Allocator> PageReader<S, A> {
 fn read_front<A: Allocator>(reader: &mut EntryReader, page: &mut Page<A>) -> Result<Entry, Stop>
     ensures { IsReadOf reader.old result page.old page.new reader.new }
 {
-    flight_records::laws::pieces_are_read();
+    flight_records_laws::pieces_are_read();
     let bytes = page.bytes();
     let before = bytes.len();
     match reader.next(bytes) {

@@ -3,7 +3,7 @@ ghost use Rattle.std.specs.Prelude.{◌≡◌};
 ghost use Rattle.recovery_times.specs.Times.{usual, full_of, window_of, recovery_of, lending_of};
 
 use std::alloc::Allocator;
-use topology::Net;
+use topology::{Net, laws as topology_laws};
 
 /// How fast the nodes and the links of a network are, in microseconds.
 #[derive(Clone, Copy)]
@@ -56,8 +56,8 @@ impl Premises {
     pub fn recovers_within<A: Allocator + Copy>(&self, net: &Net<A>) -> u64
         ensures { result ≡ recovery_of net.now self.now }
     {
-        topology::laws::limits();
-        topology::laws::eccentricity();
+        topology_laws::limits();
+        topology_laws::eccentricity();
         let _nodes = net.nodes();
         let sweeps = net.sharp_bound();
         u64::from(sweeps) * self.window()

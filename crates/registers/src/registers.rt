@@ -13,7 +13,7 @@ ghost use Rattle.registers.specs.Registers.{RegistersView, IsRegisters, port_of,
 ghost use Rattle.registers.specs.Registers.{value_of};
 ghost use Rattle.registers.specs.Rewire.{is_among, rewired_ports, rewired_values};
 
-use data_link::{Frame, Heard, Net, OutOfRange, Payload, Port, Ranges};
+use data_link::{Frame, Heard, Net, OutOfRange, Payload, Port, Ranges, laws as data_link_laws};
 use std::alloc::{AllocError, Allocator, Global};
 use std::marker::Model;
 
@@ -65,7 +65,7 @@ impl<A: Allocator + Copy> Registers<A> {
         ensures ports { IfOk result (λ r. port_of r ≡ (λ w. default_port (ranges_of net.now))) }
         ensures values { IfOk result (λ r. value_of r ≡ (λ w. 0)) }
     {
-        data_link::laws::neighbours();
+        data_link_laws::neighbours();
         let neighbours = with_room(alloc, net.nodes(), net.neighbours(id))?;
         let ports = default_ports(alloc, net)?;
         let values = vec![in alloc; 0u16; usize::from(net.nodes())]?;
@@ -172,7 +172,7 @@ impl<A: Allocator> Registers<A> {
         ensures rest { self.new ≡ record self.old { ports = self.new.ports } }
         ensures heard { result ≡ heard_of (port_of self.old port) frame.now }
     {
-        data_link::laws::ports();
+        data_link_laws::ports();
         self.ports[port as usize].on_frame(frame, present)
     }
 
@@ -266,7 +266,7 @@ impl<A: Allocator> Registers<A> {
         ensures values { value_of self.new
             ≡ rewired_values self.old.neighbours (neighbours_of net.now id) (value_of self.old) }
     {
-        data_link::laws::neighbours();
+        data_link_laws::neighbours();
         let neighbours = net.neighbours(id);
         let nodes = net.nodes();
         write_ids(&mut self.neighbours, neighbours);

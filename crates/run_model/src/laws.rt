@@ -12,6 +12,8 @@ ghost use Rattle.run_model.specs.Laws.{CountedIsGreatest, CountStarts, CountStay
 ghost use Rattle.run_model.specs.Laws.{OneCount, OwnNodeAlone, OwnLinkAlone, MomentLeads};
 ghost use Rattle.run_model.specs.Laws.{MomentStays, MomentMoves, VisitsGoOn};
 
+use link_model::topology::laws as topology_laws;
+use node_core::laws as node_core_laws;
 pub use node_core::laws::{payloads, six_sweeps, stays_stable, sweeps, turns_stable};
 
 /// A refused event changes nothing. A list without damage leaves the network unchanged, and every
@@ -38,11 +40,11 @@ pub fn start()
 pub fn in_range()
     ensures { RangesStay }
 {
-    link_model::topology::laws::neighbours();
-    link_model::topology::laws::changes();
-    node_core::laws::ports();
-    node_core::laws::step_in_range();
-    node_core::laws::ranges_are_kept();
+    topology_laws::neighbours();
+    topology_laws::changes();
+    node_core_laws::ports();
+    node_core_laws::step_in_range();
+    node_core_laws::ranges_are_kept();
 }
 
 /// An event changes only its own node and its own link. So proofs about one node or one edge skip
@@ -61,8 +63,8 @@ pub fn edges()
     ensures renewed { EdgeIsRenewed }
     ensures sweeps { EdgeSweeps }
 {
-    link_model::topology::laws::joined();
-    link_model::topology::laws::neighbours();
+    topology_laws::joined();
+    topology_laws::neighbours();
     in_range();
 }
 
@@ -76,16 +78,16 @@ pub fn sweep_numbers()
     ensures fewer { FewerSweeps }
     ensures grow { SweepsGrow }
 {
-    link_model::topology::laws::joined();
+    topology_laws::joined();
 }
 
 /// A sweep that counts the items that a link hands over, more than it can hold, is a sweep too.
 pub fn strict_sweeps()
     ensures { StrictSweepsAreSweeps }
 {
-    link_model::topology::laws::joined();
-    link_model::topology::laws::neighbours();
-    node_core::laws::sweeps();
+    topology_laws::joined();
+    topology_laws::neighbours();
+    node_core_laws::sweeps();
     in_range();
 }
 
@@ -99,7 +101,7 @@ pub fn stretches()
     ensures old_go_on { OldItemsGoOn }
     ensures old_are_there { OldItemsAreThere }
 {
-    link_model::topology::laws::joined();
+    topology_laws::joined();
 }
 
 /// The greatest number of sweeps is found greedily: end each sweep at the first event that
@@ -114,7 +116,7 @@ pub fn sweep_counts()
     ensures rises { CountRises }
     ensures one { OneCount }
 {
-    link_model::topology::laws::joined();
+    topology_laws::joined();
     in_range();
 }
 
@@ -135,5 +137,5 @@ pub fn ticks()
     ensures moves { NodesMoveInTicks }
     ensures accepted { TicksAreAccepted }
 {
-    node_core::laws::only_ticks_lend();
+    node_core_laws::only_ticks_lend();
 }

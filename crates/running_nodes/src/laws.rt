@@ -4,6 +4,7 @@ ghost use Rattle.running_nodes.specs.Laws.{NodeRunsAreProcesses, NodeRunsKeepPro
 ghost use Rattle.running_nodes.specs.Laws.{PortsAreGivenAgain};
 
 use socket_links::Pipe;
+use topology::laws as topology_laws;
 
 /// The turns of a node, strung together: what it did leads from the first moment to the last, and at
 /// each port it took and sent exactly the frames of the connections that stood there.
@@ -27,8 +28,8 @@ pub fn promise<P: Pipe>()
     ensures are { NodeRunsAreProcesses P.gave P.took P.counts }
     ensures keep { NodeRunsKeepPromise P.gave P.took P.counts }
 {
-    topology::laws::joined();
-    topology::laws::neighbours();
+    topology_laws::joined();
+    topology_laws::neighbours();
     processes::laws::promise_over_bytes();
 }
 

@@ -6,19 +6,21 @@ ghost use Rattle.schedules.specs.Laws.{IdleSlowRoundsHoldSweeps, SlowRoundIsUnda
 ghost use Rattle.schedules.specs.Taking.{TakesOn};
 
 use crate::event_sink::EventSink;
+use configuration::laws as configuration_laws;
 pub use damage_tool::laws::{draws, scramble};
+use topology::laws as topology_laws;
 
 /// The laws of networks and of runs that the laws of rounds rest on.
 fn below()
     ensures { Below }
 {
-    topology::laws::joined();
-    configuration::laws::runs();
-    configuration::laws::own_changes();
-    configuration::laws::ticks();
-    configuration::laws::in_range();
-    configuration::laws::strict_sweeps();
-    configuration::laws::sweep_numbers();
+    topology_laws::joined();
+    configuration_laws::runs();
+    configuration_laws::own_changes();
+    configuration_laws::ticks();
+    configuration_laws::in_range();
+    configuration_laws::strict_sweeps();
+    configuration_laws::sweep_numbers();
 }
 
 /// A round is a sweep in every world in which each tick is full, and n rounds are n sweeps if
@@ -37,7 +39,7 @@ pub fn accepted()
     ensures accepted { RoundsAreAccepted }
     ensures undamaged { RoundIsUndamaged }
 {
-    configuration::laws::runs();
+    configuration_laws::runs();
 }
 
 /// Rounds with a slow link or node are without damage. In a network without clients n rounds hold a
@@ -54,7 +56,7 @@ pub fn slow_rounds()
 pub fn edges()
     ensures { HasEdge }
 {
-    topology::laws::tree();
+    topology_laws::tree();
 }
 
 /// A sink that took a whole list but what is left, and then the part in front of that, took all but

@@ -14,7 +14,7 @@ use arrayvec::ArrayVec;
 use byteorder::{BigEndian, ByteOrder};
 use node_core::NodeState;
 use std::alloc::Allocator;
-use topology::Net;
+use topology::{Net, laws as topology_laws};
 
 /// The numbers of a file: six, and ten for each of at most 63 ports.
 type Numbers = ArrayVec<u16, 636>;
@@ -56,8 +56,8 @@ fn numbers_of<A: Allocator, N: Allocator + Copy>(node: &NodeState<A>, net: &Net<
         ≡ 6 + 10 * length (neighbours_of net.now (site_in node.now).id) }
     ensures few { length (neighbours_of net.now (site_in node.now).id) ≤ 63 }
 {
-    topology::laws::joined();
-    topology::laws::neighbours();
+    topology_laws::joined();
+    topology_laws::neighbours();
     let neighbours = net.neighbours(node.id());
     let mut numbers = Numbers::new();
     let _header = numbers.try_extend_from_slice(&header_numbers(node, net));
@@ -75,7 +75,7 @@ fn header_numbers<A: Allocator, N: Allocator + Copy>(node: &NodeState<A>, net: &
         (state_of node.now) }
     ensures few { length (neighbours_of net.now (site_in node.now).id) ≤ 63 }
 {
-    topology::laws::joined();
+    topology_laws::joined();
     [
         net.nodes(),
         node.id(),

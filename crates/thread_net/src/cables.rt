@@ -14,6 +14,7 @@ use judge::Links;
 use node_runner::{Incoming, Outgoing, Port, Runner, StampBound, Stamped};
 use rtrb::{Producer, RingBuffer};
 use std::alloc::{AllocError, Allocator};
+use topology::laws as topology_laws;
 
 /// What is under way on a link goes into its ring, with stamp 0.
 fn load<A: Allocator + Copy>(
@@ -86,7 +87,7 @@ fn cable<A: Allocator + Copy>(
         → IsPortNoted w one [] r.0 × IsPortNoted w other [] r.1) }
     ensures cable { IfOk result (λ r. IsCable r.0 r.1) }
 {
-    topology::laws::joined();
+    topology_laws::joined();
     let (outgoing, far_incoming) = link_ends(alloc, links, one, other)?;
     let (far_outgoing, incoming) = link_ends(alloc, links, other, one)?;
     let near = Port {
@@ -156,8 +157,8 @@ pub(crate) fn cable_all<A: Allocator + Copy>(
         → AreFurnished w (rows_of runners.new.items)) }
     ensures seats { seats_of runners.new.items ≡ seats_of runners.old.items }
 {
-    topology::laws::joined();
-    topology::laws::neighbours();
+    topology_laws::joined();
+    topology_laws::neighbours();
     let nodes = links.net().nodes();
     for one in 0..nodes {
         for other in one + 1..nodes {

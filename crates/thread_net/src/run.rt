@@ -13,7 +13,7 @@ use crate::seats::{Seats, unseat_all};
 use crate::settle::settle_all;
 use crate::threads::{Outcome, run_all};
 use judge::{Event, Links, Parts, Stretch, World};
-use node_runner::{Gate, Runner, weave};
+use node_runner::{Gate, Runner, laws as node_runner_laws, weave};
 use std::alloc::{AllocError, Allocator, Global};
 use std::sync::Wait;
 use std::thread::Threads;
@@ -75,8 +75,8 @@ fn gather<A: Allocator + Copy>(
     ensures { Gathers runners.items links room seats events result.events.items
         (world_of result.world) }
 {
-    node_runner::laws::weave();
-    node_runner::laws::rounds();
+    node_runner_laws::weave();
+    node_runner_laws::rounds();
     judge::laws::in_range();
     let mut links = links;
     let mut seats = seats;

@@ -14,7 +14,7 @@ use judge::Links;
 use link_model::Item;
 use node_runner::{Incoming, Outgoing, Port};
 use std::alloc::Allocator;
-use topology::Net;
+use topology::{Net, laws as topology_laws};
 
 /// The item, or noise in place of a frame that is out of range. No run brings such a frame about.
 fn fitting<A: Allocator + Copy>(net: &Net<A>, item: Item) -> Item
@@ -119,7 +119,7 @@ fn settle_edge<A: Allocator + Copy>(
         → port_to (row (rows_in rows.new.items) i) j
         ≡ port_to (row (rows_in rows.old.items) i) j }
 {
-    topology::laws::joined();
+    topology_laws::joined();
     let Some(mut near) = take_port(rows, one, other) else {
         unreachable!()
     };
@@ -144,7 +144,7 @@ pub(crate) fn settle_all<A: Allocator + Copy>(
     ensures settled { AreSettleable links.old.net (rows_in rows.old.items) → under_way links.new
         ≡ settled links.old.net (rows_in rows.old.items) (under_way links.old) }
 {
-    topology::laws::joined();
+    topology_laws::joined();
     let _known_nodes = links.net().nodes();
     for index in 0..links.net().edges().len() {
         let (one, other) = links.net().edges()[index];

@@ -9,6 +9,10 @@ ghost use Rattle.tree_convergence.specs.Laws.{StageStays, StageRises, ParentsTur
 ghost use Rattle.tree_convergence.specs.Laws.{TreeIsReached};
 ghost use Rattle.tree_convergence.specs.Laws.{TreeIsReachedByDepth, TreeStays};
 
+use bfs_tree::laws as bfs_tree_laws;
+use run_model::laws as run_model_laws;
+use topology::laws as topology_laws;
+
 /// Links: from any state, each is stable after 4(C + 1) sweeps, and after six whatever its
 /// capacity, and stays so; and any two sweeps move the number of each sender. All layers above the
 /// links rest on this.
@@ -19,13 +23,13 @@ pub fn links()
     ensures turn_in_six { LinksTurnStableInSix }
     ensures numbers_move { NumbersMove }
 {
-    run_model::laws::stays_stable();
-    run_model::laws::turns_stable();
-    run_model::laws::six_sweeps();
-    run_model::laws::sweeps();
-    run_model::laws::runs();
-    run_model::laws::in_range();
-    run_model::laws::edges();
+    run_model_laws::stays_stable();
+    run_model_laws::turns_stable();
+    run_model_laws::six_sweeps();
+    run_model_laws::sweeps();
+    run_model_laws::runs();
+    run_model_laws::in_range();
+    run_model_laws::edges();
 }
 
 /// Payloads: what is staged was present, what a stable link copies was staged, and three sweeps
@@ -38,12 +42,12 @@ pub fn payloads()
     ensures staged_turns { StagedTurnsFresh }
     ensures copy_turns { CopyTurnsStaged }
 {
-    run_model::laws::payloads();
-    run_model::laws::sweeps();
-    run_model::laws::runs();
-    run_model::laws::in_range();
-    run_model::laws::edges();
-    topology::laws::joined();
+    run_model_laws::payloads();
+    run_model_laws::sweeps();
+    run_model_laws::runs();
+    run_model_laws::in_range();
+    run_model_laws::edges();
+    topology_laws::joined();
 }
 
 /// The stages of the tree, on stable links: every world is at stage 0, each stage stays, and four
@@ -55,10 +59,10 @@ pub fn stages()
 {
     links();
     payloads();
-    run_model::laws::runs();
-    run_model::laws::in_range();
-    bfs_tree::laws::one_round();
-    topology::laws::joined();
+    run_model_laws::runs();
+    run_model_laws::in_range();
+    bfs_tree_laws::one_round();
+    topology_laws::joined();
 }
 
 /// Parents, on stable links: once every distance is exact, four sweeps make every parent true: the
@@ -69,11 +73,11 @@ pub fn parents()
     links();
     payloads();
     stages();
-    run_model::laws::runs();
-    run_model::laws::in_range();
-    bfs_tree::laws::one_round();
-    bfs_tree::laws::exact_step();
-    topology::laws::joined();
+    run_model_laws::runs();
+    run_model_laws::in_range();
+    bfs_tree_laws::one_round();
+    bfs_tree_laws::exact_step();
+    topology_laws::joined();
 }
 
 /// The tree, on stable links: 4(n + 1) sweeps reach it from any state, four for each stage and
@@ -88,12 +92,12 @@ pub fn tree()
     payloads();
     stages();
     parents();
-    run_model::laws::runs();
-    run_model::laws::in_range();
-    run_model::laws::sweep_numbers();
-    bfs_tree::laws::one_round();
-    bfs_tree::laws::exact_step();
-    topology::laws::joined();
-    topology::laws::tree();
-    topology::laws::eccentricity();
+    run_model_laws::runs();
+    run_model_laws::in_range();
+    run_model_laws::sweep_numbers();
+    bfs_tree_laws::one_round();
+    bfs_tree_laws::exact_step();
+    topology_laws::joined();
+    topology_laws::tree();
+    topology_laws::eccentricity();
 }

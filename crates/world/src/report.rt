@@ -16,7 +16,8 @@ ghost use Rattle.judge.specs.Judging.{refused_in, counted_up_to};
 ghost use Rattle.judge.specs.Visited.{AreVisited, AreAllVisited};
 ghost use Rattle.judge.specs.configuration.ConfigurationView.{world_of};
 
-use judge::{Event, Judge, World};
+use convergence::laws as convergence_laws;
+use judge::{Event, Judge, World, laws as judge_laws};
 use std::alloc::{Allocator, Global};
 
 /// What a judge has counted along a run, and where the run has led.
@@ -87,15 +88,15 @@ pub fn judge<A: Allocator + Copy>(start: World<A>, events: &[Event]) -> Report<A
     ensures closure { IsLegitimate (world_of start) → IsUndamaged (world_of start) events.now
         → IsLegitimateThroughout (world_of start) events.now }
 {
-    judge::laws::runs();
-    judge::laws::in_range();
-    judge::laws::moments();
-    judge::laws::sweep_numbers();
-    convergence::laws::links();
-    convergence::laws::closure();
-    convergence::laws::converge();
-    convergence::laws::sharp();
-    convergence::laws::service();
+    judge_laws::runs();
+    judge_laws::in_range();
+    judge_laws::moments();
+    judge_laws::sweep_numbers();
+    convergence_laws::links();
+    convergence_laws::closure();
+    convergence_laws::converge();
+    convergence_laws::sharp();
+    convergence_laws::service();
     topology::laws::eccentricity();
     let mut judge = Judge::new(start);
     for event in events {

@@ -18,7 +18,7 @@ ghost use Rattle.configuration.specs.Rewired.{IsRewired};
 use crate::configuration::Configuration;
 use run_model::{EventFault, Happened, Harm, Item, Node, OutOfRange, Payload};
 use std::alloc::Allocator;
-use topology::Net;
+use topology::{Net, laws as topology_laws};
 
 /// The event's answer to writing a value: damage, or that the value is out of range.
 fn damaged(written: Result<(), OutOfRange>) -> Result<Happened, EventFault>
@@ -175,7 +175,7 @@ impl<A: Allocator + Copy> Configuration<A> {
     fn join(&mut self, u: u16, v: u16) -> Result<Happened, EventFault>
         ensures { Answers self.old (Damage (harm.Join u v)) self.new result }
     {
-        topology::laws::changes();
+        topology_laws::changes();
         self.find_nodes(u, v)?;
         if !self.may_join(u, v) {
             return Err(EventFault::OutOfRange);
@@ -193,8 +193,8 @@ impl<A: Allocator + Copy> Configuration<A> {
     fn part(&mut self, u: u16, v: u16) -> Result<Happened, EventFault>
         ensures { Answers self.old (Damage (harm.Part u v)) self.new result }
     {
-        topology::laws::changes();
-        topology::laws::joined();
+        topology_laws::changes();
+        topology_laws::joined();
         self.find_link(u, v)?;
         let _known_nodes = self.links.net().nodes();
         if self.links.part(u, v).is_err() {

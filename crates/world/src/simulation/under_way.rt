@@ -12,6 +12,7 @@ ghost use Rattle.judge.specs.configuration.ConfigurationView.{world_of};
 use super::refusal::{UNREAD, fault_name, write_refusal};
 use super::state::write_state;
 use super::{LONGEST_TEXT, PIECE, SimFault, Summary};
+use byte_lines::laws as byte_lines_laws;
 use byte_streams::{Failed, Sink, Source};
 use events_text::{EventReader, TextLine};
 use judge::{Judge, World};
@@ -34,12 +35,7 @@ impl<A: Allocator + Copy> Model for Simulation<A> {
 
     ghost Value = { SimulationView };
 
-    ghost view = { λ s. record {
-      judge = s.judge;
-      reader = s.reader;
-      lines = s.lines;
-      refused = s.refused;
-    } };
+    ghost view = { λ s. record { judge = s.judge; reader = s.reader; lines = s.lines; refused = s.refused } };
 }
 
 impl<A: Allocator + Copy> Simulation<A> {
@@ -76,7 +72,7 @@ impl<A: Allocator + Copy> Simulation<A> {
         ensures source { R.failures source.old ≤ R.failures source.new }
         ensures sink { W.failures sink.old ≤ W.failures sink.new }
     {
-        byte_lines::laws::any_cutting();
+        byte_lines_laws::any_cutting();
         byte_streams::laws::reading_in_pieces();
         let mut piece = [0; PIECE];
         let mut left = LONGEST_TEXT;
@@ -149,7 +145,7 @@ impl<A: Allocator + Copy> Simulation<A> {
             (W.taken sink.new) }
         ensures failures { CountsFailures result (W.failures sink.old) (W.failures sink.new) }
     {
-        byte_lines::laws::any_cutting();
+        byte_lines_laws::any_cutting();
         let mut at = 0;
         while at < piece.len() {
             if let Some((event, used)) = self.reader.take_usual(&piece[at..]) {
