@@ -25,48 +25,7 @@ use std::rt::Env;
 pub const LOCK: Grammar<'static> = Grammar {
     name: "lock",
     about: "Runs a command while it holds the lock",
-    help: HELP,
-    parameters: &[
-        Parameter::Value(
-            "timeout",
-            "SECONDS",
-            "Give up after 0 to 65535 seconds, as 5 or 0.2",
-        ),
-        Parameter::Flag("no-wait", "Give up at once, after half a second (-n)"),
-        Parameter::ValueOr(
-            "lost-status",
-            "STATUS",
-            "122",
-            "Status of a lost lock, 1-255 (-E)",
-        ),
-        Parameter::Flag(
-            "verbose",
-            "Report wait, grant and release on standard error",
-        ),
-        Parameter::Flag("keep", "Let the command run on if the lock is lost"),
-        Parameter::Flag(
-            "wait-children",
-            "Hold the lock until what the command started ends",
-        ),
-        // The program starts its own guard with it.
-        Parameter::HiddenFlag("guard"),
-        Parameter::HiddenFlag("guard-keeping"),
-        DIR,
-        Parameter::Place(
-            "ID",
-            "The node to ask, or any: the one of DIR that answers first",
-        ),
-        Parameter::Rest(
-            "COMMAND",
-            "Command and arguments; if none, hold the lock until input ends",
-        ),
-    ],
-    excludes: &[("no-wait", "timeout")],
-    ..FREE
-};
-
-/// What follows the options in its help.
-const HELP: &str = "\
+    help: "\
 Waits until node ID, whose socket is DIR/desk-ID.sock, grants the lock. Then it
 runs the command with its own standard streams, releases the lock, and ends with
 the command's status. -- may stand before the command, and must if its name
@@ -127,7 +86,45 @@ Statuses: the command's own, or 128 plus the number of the signal that ended it;
 granted in time, or the node has no room for a client; 125 there is no lock
 service at DIR, or it or the system failed, or the second process could not be
 started; 126 the command cannot be run; 127 there is no such command; 2 invalid
-arguments. A signal that ends lock while it waits gives 128 plus its number.";
+arguments. A signal that ends lock while it waits gives 128 plus its number.",
+    parameters: &[
+        Parameter::Value(
+            "timeout",
+            "SECONDS",
+            "Give up after 0 to 65535 seconds, as 5 or 0.2",
+        ),
+        Parameter::Flag("no-wait", "Give up at once, after half a second (-n)"),
+        Parameter::ValueOr(
+            "lost-status",
+            "STATUS",
+            "122",
+            "Status of a lost lock, 1-255 (-E)",
+        ),
+        Parameter::Flag(
+            "verbose",
+            "Report wait, grant and release on standard error",
+        ),
+        Parameter::Flag("keep", "Let the command run on if the lock is lost"),
+        Parameter::Flag(
+            "wait-children",
+            "Hold the lock until what the command started ends",
+        ),
+        // The program starts its own guard with it.
+        Parameter::HiddenFlag("guard"),
+        Parameter::HiddenFlag("guard-keeping"),
+        DIR,
+        Parameter::Place(
+            "ID",
+            "The node to ask, or any: the one of DIR that answers first",
+        ),
+        Parameter::Rest(
+            "COMMAND",
+            "Command and arguments; if none, hold the lock until input ends",
+        ),
+    ],
+    excludes: &[("no-wait", "timeout")],
+    ..FREE
+};
 
 /// The word for the node that answers first.
 const ANY: &str = "any";

@@ -18,52 +18,7 @@ use std::process::ExitCode;
 pub const STATUS: Grammar<'static> = Grammar {
     name: "status",
     about: "Shows how nodes stand, and how many are privileged and lend",
-    help: HELP,
-    parameters: &[
-        Parameter::Flag("json", "Print one JSON object, on one line"),
-        Parameter::Value(
-            "check",
-            "FILE",
-            "Say for a monitor whether the network of FILE serves",
-        ),
-        Parameter::Flag(
-            "premises",
-            "Show the longest times between two turns of each node",
-        ),
-        Parameter::Flag("links", "Show how the links of each node stand"),
-        Parameter::Flag("watch", "Show the nodes again and again, until Ctrl-C"),
-        Parameter::Value(
-            "every",
-            "SECONDS",
-            "The time between two looks, 0.1 to 3600 [default: 0.5]",
-        ),
-        DIR,
-        IDS,
-    ],
-    needs: &[("every", "watch")],
-    excludes: &[
-        ("check", "json"),
-        ("check", "watch"),
-        ("check", "premises"),
-        ("check", "links"),
-        ("check", "ID"),
-        ("premises", "json"),
-        ("premises", "watch"),
-        ("premises", "links"),
-        ("links", "json"),
-        ("links", "watch"),
-    ],
-    ..FREE
-};
-
-/// The nodes in the commands that ask several.
-pub const IDS: Parameter<'static> = Parameter::Places(
-    "ID",
-    "The nodes, by their ids; none for each with a socket in DIR",
-);
-
-/// What follows the options in its help.
-const HELP: &str = "\
+    help: "\
 Asks each node for its status line, for at most a second:
 
   $ tokentree status /run/tokentree
@@ -120,7 +75,49 @@ unlikely, but still no proof of two locks. OK does not say that nothing happened
 between the readings. The figures are those of the last.
 
 Statuses: 0 each node answered; 1 one gave no answer, or there is none; 2
-invalid arguments; with --check those above; 0 for a watch that a key ended.";
+invalid arguments; with --check those above; 0 for a watch that a key ended.",
+    parameters: &[
+        Parameter::Flag("json", "Print one JSON object, on one line"),
+        Parameter::Value(
+            "check",
+            "FILE",
+            "Say for a monitor whether the network of FILE serves",
+        ),
+        Parameter::Flag(
+            "premises",
+            "Show the longest times between two turns of each node",
+        ),
+        Parameter::Flag("links", "Show how the links of each node stand"),
+        Parameter::Flag("watch", "Show the nodes again and again, until Ctrl-C"),
+        Parameter::Value(
+            "every",
+            "SECONDS",
+            "The time between two looks, 0.1 to 3600 [default: 0.5]",
+        ),
+        DIR,
+        IDS,
+    ],
+    needs: &[("every", "watch")],
+    excludes: &[
+        ("check", "json"),
+        ("check", "watch"),
+        ("check", "premises"),
+        ("check", "links"),
+        ("check", "ID"),
+        ("premises", "json"),
+        ("premises", "watch"),
+        ("premises", "links"),
+        ("links", "json"),
+        ("links", "watch"),
+    ],
+    ..FREE
+};
+
+/// The nodes in the commands that ask several.
+pub const IDS: Parameter<'static> = Parameter::Places(
+    "ID",
+    "The nodes, by their ids; none for each with a socket in DIR",
+);
 
 /// Does what the words of `status` say.
 pub fn run<R: Runtime>(rt: &R, given: &ArgMatches) -> Result<ExitCode, Refusal> {

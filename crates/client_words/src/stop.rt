@@ -11,7 +11,17 @@ use std::process::ExitCode;
 pub const STOP: Grammar<'static> = Grammar {
     name: "stop",
     about: "Ends nodes that run as processes, and waits until they have ended",
-    help: HELP,
+    help: "\
+Makes the file DIR/stop-ID for each node, as `help node` says, and waits until
+the node has saved its state and ended:
+
+  $ tokentree stop run 1
+  node 1 has ended
+
+Such a stop is no damage. To stop nodes that `up` keeps running, end `up`.
+
+Statuses: 0 each node ran, and has ended; 1 one did not run or has not ended in
+time, and a line on standard error says why; 2 invalid arguments.",
     parameters: &[
         Parameter::ValueOr(
             "timeout",
@@ -24,19 +34,6 @@ pub const STOP: Grammar<'static> = Grammar {
     ],
     ..FREE
 };
-
-/// What follows the options in its help.
-const HELP: &str = "\
-Makes the file DIR/stop-ID for each node, as `help node` says, and waits until
-the node has saved its state and ended:
-
-  $ tokentree stop run 1
-  node 1 has ended
-
-Such a stop is no damage. To stop nodes that `up` keeps running, end `up`.
-
-Statuses: 0 each node ran, and has ended; 1 one did not run or has not ended in
-time, and a line on standard error says why; 2 invalid arguments.";
 
 /// How many seconds `stop` waits for a node.
 const TIMEOUT: Number<'static> = Number {

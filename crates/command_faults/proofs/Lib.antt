@@ -1,2 +1,3 @@
+mod RowsEnds
 mod RowsFaults
 mod RowsOutput

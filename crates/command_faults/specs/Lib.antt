@@ -1,3 +1,4 @@
+pub mod Ends
 pub mod FaultText
 pub mod Output
 pub mod PathFaultText

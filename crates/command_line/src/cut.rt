@@ -11,16 +11,7 @@ use subcommands::cut;
 pub const CUT: Grammar<'static> = Grammar {
     name: "cut",
     about: "Shortens a file to its first bytes, as a broken write leaves it",
-    help: HELP,
-    parameters: &[
-        Parameter::Place("PATH", "The file"),
-        Parameter::Place("LENGTH", "How many bytes it keeps: 0 to 1000000"),
-    ],
-    ..FREE
-};
-
-/// What follows the options in its help.
-const HELP: &str = "\
+    help: "\
 A file that is not longer stays as it is. A running node writes its state file
 again within half a second, and a line on standard error says that it runs. So
 stop the node first, or kill it right after the cut.
@@ -28,7 +19,13 @@ stop the node first, or kill it right after the cut.
   $ tokentree cut node-1.state 33
 
 Statuses: 0 done; 1 the file is missing, cannot be written or is no plain file;
-2 invalid arguments.";
+2 invalid arguments.",
+    parameters: &[
+        Parameter::Place("PATH", "The file"),
+        Parameter::Place("LENGTH", "How many bytes it keeps: 0 to 1000000"),
+    ],
+    ..FREE
+};
 
 /// The number of bytes that a file is cut to.
 const LENGTH: Number<'static> = Number {

@@ -20,29 +20,7 @@ use std::time::Clock;
 pub const DRAW: Grammar<'static> = Grammar {
     name: "draw",
     about: "Draws a picture of a run: which nodes were wrong or lent, and when",
-    help: HELP,
-    parameters: &[
-        FILE,
-        EVENTS,
-        Parameter::Value("columns", "N", "The most columns, 1 to 1200"),
-        Parameter::Value("from", "SWEEP", "Begin once this many sweeps have ended"),
-        Parameter::Value("to", "SWEEP", "End once more sweeps than this have ended"),
-        Parameter::Flag("layers", "Also show what has settled, in four thin lanes"),
-        Parameter::Flag("film", "Write a film of the run: an SVG that plays"),
-        Parameter::Flag("page", "Write the film in an HTML page with controls"),
-        Parameter::Value(
-            "seconds",
-            "N",
-            "Seconds of the film, 2 to 600 [default: 20]",
-        ),
-    ],
-    needs: &[("seconds", "film"), ("page", "film")],
-    excludes: &[("film", "columns"), ("film", "layers")],
-    ..FREE
-};
-
-/// What follows the options in its help.
-const HELP: &str = "\
+    help: "\
 The picture is SVG 1.1: a browser shows it without scripts, fonts or a network.
 Time runs from left to right, in events. Each node has a lane, in the order in
 which the tour of the tree first reaches it. A lane is pale while the node's
@@ -90,7 +68,26 @@ a sentence.
 
 Statuses: 0 done; 1 a file, memory or standard output failed, and a line on
 standard error says which; 2 invalid arguments; 3 done, and some lines were
-refused.";
+refused.",
+    parameters: &[
+        FILE,
+        EVENTS,
+        Parameter::Value("columns", "N", "The most columns, 1 to 1200"),
+        Parameter::Value("from", "SWEEP", "Begin once this many sweeps have ended"),
+        Parameter::Value("to", "SWEEP", "End once more sweeps than this have ended"),
+        Parameter::Flag("layers", "Also show what has settled, in four thin lanes"),
+        Parameter::Flag("film", "Write a film of the run: an SVG that plays"),
+        Parameter::Flag("page", "Write the film in an HTML page with controls"),
+        Parameter::Value(
+            "seconds",
+            "N",
+            "Seconds of the film, 2 to 600 [default: 20]",
+        ),
+    ],
+    needs: &[("seconds", "film"), ("page", "film")],
+    excludes: &[("film", "columns"), ("film", "layers")],
+    ..FREE
+};
 
 /// How many columns a picture may have.
 const COLUMNS: Number<'static> = Number {

@@ -1,6 +1,6 @@
 //! The words of `gather`.
-ghost use Rattle.std.specs.Prelude.{◌≡◌, ◌⊎◌, IfErr, IfOk};
-ghost use Rattle.std.specs.Process.{exit_status};
+ghost use Rattle.std.specs.Prelude.{IfErr, IfOk};
+ghost use Rattle.network_words.specs.command_faults.Ends.{DoneMeansZeroOr};
 ghost use Rattle.clap.specs.Matches.{found_of};
 ghost use Rattle.command_line.specs.Gather.{IsStretchOf, IsStretchRefused};
 
@@ -15,31 +15,7 @@ use std::rt::Files;
 pub const GATHER: Grammar<'static> = Grammar {
     name: "gather",
     about: "Prints what nodes did, by their records, as a list of events",
-    help: HELP,
-    parameters: &[
-        Parameter::Place("DIR", "The folder of the nodes' records"),
-        Parameter::Value(
-            "network",
-            "FILE",
-            "The network file (TOML); DIR/record.toml if left out",
-        ),
-        Parameter::Value(
-            "from",
-            "SECONDS",
-            "Begin so many seconds after the first entry",
-        ),
-        Parameter::Value(
-            "last",
-            "SECONDS",
-            "Begin so many seconds before the last entry",
-        ),
-    ],
-    excludes: &[("from", "last")],
-    ..FREE
-};
-
-/// What follows the options in its help.
-const HELP: &str = "\
+    help: "\
 Reads the records of all nodes of a network, the files DIR/record-ID.0 and
 DIR/record-ID.1 of each node ID, and prints what the nodes did as one list of
 events, for simulate and draw. The nodes kept their network in DIR/record.toml,
@@ -100,7 +76,28 @@ crash, or is spoiled from a place on, is read up to there: a line on standard
 error says where, and the status is 1. No file is changed.
 
 Statuses: 0 done; 1 a file, memory or standard output failed, or a file was not
-read to its end, and a line on standard error says which; 2 invalid arguments.";
+read to its end, and a line on standard error says which; 2 invalid arguments.",
+    parameters: &[
+        Parameter::Place("DIR", "The folder of the nodes' records"),
+        Parameter::Value(
+            "network",
+            "FILE",
+            "The network file (TOML); DIR/record.toml if left out",
+        ),
+        Parameter::Value(
+            "from",
+            "SECONDS",
+            "Begin so many seconds after the first entry",
+        ),
+        Parameter::Value(
+            "last",
+            "SECONDS",
+            "Begin so many seconds before the last entry",
+        ),
+    ],
+    excludes: &[("from", "last")],
+    ..FREE
+};
 
 /// Seconds after the first entry.
 const FROM: Number<'static> = Number {
@@ -123,7 +120,7 @@ pub fn run<R: Files + Print + Eprint + AllocGlobal>(
     rt: &R,
     given: &ArgMatches,
 ) -> Result<ExitCode, Refusal>
-    ensures { IfOk result (λ status. (exit_status status ≡ 0) ⊎ (exit_status status ≡ 1)) }
+    ensures { DoneMeansZeroOr 1 result }
 {
     let dir = word(given, "DIR")?;
     let network = given.get_str("network");

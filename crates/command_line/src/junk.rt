@@ -1,8 +1,7 @@
 //! The words of `junk`.
-ghost use Rattle.std.specs.Prelude.{◌≡◌, IfOk};
-ghost use Rattle.std.specs.Process.{exit_status};
+ghost use Rattle.network_words.specs.command_faults.Ends.{DoneMeansZero};
 
-use crate::seeds::{SEED, SEEDS};
+use crate::seeds::{SEED_PLACE, PLACED_SEED};
 use clap::ArgMatches;
 use command_grammar::{FREE, Grammar, Number, Parameter, given_number};
 use network_words::refusal::Refusal;
@@ -13,16 +12,7 @@ use subcommands::junk;
 pub const JUNK: Grammar<'static> = Grammar {
     name: "junk",
     about: "Prints lines that mean nothing, for whatever reads lines",
-    help: HELP,
-    parameters: &[
-        SEED,
-        Parameter::Place("LINES", "How many lines: 0 to 1000000"),
-    ],
-    ..FREE
-};
-
-/// What follows the options in its help.
-const HELP: &str = "\
+    help: "\
 A line has 0 to 40 bytes from ! to ~. The same seed gives the same lines, on any
 machine.
 
@@ -30,7 +20,13 @@ machine.
   +(==lkMfO]!#B{X}whq}R*SbyZPz$`#?5I3
   .Vnn)AQDz\"jU}#08]yttOpOL9&sj
 
-Statuses: 0 done; 1 standard output failed; 2 invalid arguments.";
+Statuses: 0 done; 1 standard output failed; 2 invalid arguments.",
+    parameters: &[
+        SEED_PLACE,
+        Parameter::Place("LINES", "How many lines: 0 to 1000000"),
+    ],
+    ..FREE
+};
 
 /// The numbers of lines of junk.
 const LINES: Number<'static> = Number {
@@ -42,9 +38,9 @@ const LINES: Number<'static> = Number {
 
 /// Does what the words of `junk` say.
 pub fn run<R: Print + Eprint + AllocGlobal>(rt: &R, given: &ArgMatches) -> Result<ExitCode, Refusal>
-    ensures { IfOk result (λ status. exit_status status ≡ 0) }
+    ensures { DoneMeansZero result }
 {
-    let seed = given_number(given, SEEDS)? as u32;
+    let seed = given_number(given, PLACED_SEED)? as u32;
     let lines = given_number(given, LINES)? as u32;
     Ok(junk::run(rt, seed, lines)?)
 }

@@ -29,4 +29,4 @@ mod worst;
 
 pub use commands::run_words;
 pub use network_words::program::Runtime;
-pub use network_words::{fill_standard_streams, own_words};
+pub use network_words::begin;

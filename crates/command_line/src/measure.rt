@@ -1,6 +1,6 @@
 //! The words of `measure`.
-ghost use Rattle.std.specs.Prelude.{◌≡◌, ◌⊎◌, Some, None, IfOk, IfErr, if◌then◌else◌, codes};
-ghost use Rattle.std.specs.Process.{exit_status};
+ghost use Rattle.std.specs.Prelude.{◌≡◌, Some, None, IfOk, IfErr, if◌then◌else◌, codes};
+ghost use Rattle.network_words.specs.command_faults.Ends.{DoneMeansZeroOr};
 ghost use Rattle.clap.specs.Matches.{found_of, one_text};
 ghost use Rattle.command_line.specs.Plan.{IsPlanOf, IsPlanRefused};
 ghost use Rattle.command_line.specs.Scheduling.{IsNamedRefused, IsNamedScheduler, IsSchedulerOf};
@@ -23,42 +23,7 @@ use subcommands::{PathFault, Scheduler, measure, measure_plot};
 pub const MEASURE: Grammar<'static> = Grammar {
     name: "measure",
     about: "Scrambles a network, and shows after how many sweeps it worked again",
-    help: HELP,
-    parameters: &[
-        FILE,
-        Parameter::ValueOr("runs", "N", "1000", "How many runs, 1 to 1000000"),
-        Parameter::ValueOr(
-            "seed",
-            "SEED",
-            "0",
-            "The first seed; each run has the next one",
-        ),
-        Parameter::Flag("rounds", "Run by rounds, the default"),
-        Parameter::Flag("random", "Run by random steps"),
-        Parameter::Value("schedule", "KIND", "rounds, random, slow-link or slow-node"),
-        Parameter::Value(
-            "share",
-            "PERCENT",
-            "Of 100 rounds, how many the slow one has",
-        ),
-        Parameter::Flag("table", "Also show a line for each run"),
-        Parameter::Flag("csv", "Print a row for each run: when each layer stood"),
-        Parameter::Value("plot", "PATH", "Also draw those rows in this file, as SVG"),
-        Parameter::Flag("json", "Print one JSON object, on one line"),
-    ],
-    needs: &[("share", "schedule"), ("plot", "csv")],
-    excludes: &[
-        ("random", "rounds"),
-        ("schedule", "rounds"),
-        ("schedule", "random"),
-        ("csv", "table"),
-        ("csv", "json"),
-    ],
-    ..FREE
-};
-
-/// What follows the options in its help.
-const HELP: &str = "\
+    help: "\
 Each run begins in a world that its seed scrambles. It goes on by rounds, or by
 random steps of the same seed, until there were as many sweeps as the sharper
 bound says. After each round, or after as many random steps as there are nodes
@@ -112,7 +77,39 @@ sweeps-bound, and seeds. That is a list with the seed and the sweeps of each run
 that would have a line. null means none.
 
 Statuses: 0 done; 1 a file, memory or standard output failed, and a line on
-standard error says which, or a run did not serve; 2 invalid arguments.";
+standard error says which, or a run did not serve; 2 invalid arguments.",
+    parameters: &[
+        FILE,
+        Parameter::ValueOr("runs", "N", "1000", "How many runs, 1 to 1000000"),
+        Parameter::ValueOr(
+            "seed",
+            "SEED",
+            "0",
+            "The first seed; each run has the next one",
+        ),
+        Parameter::Flag("rounds", "Run by rounds, the default"),
+        Parameter::Flag("random", "Run by random steps"),
+        Parameter::Value("schedule", "KIND", "rounds, random, slow-link or slow-node"),
+        Parameter::Value(
+            "share",
+            "PERCENT",
+            "Of 100 rounds, how many the slow one has",
+        ),
+        Parameter::Flag("table", "Also show a line for each run"),
+        Parameter::Flag("csv", "Print a row for each run: when each layer stood"),
+        Parameter::Value("plot", "PATH", "Also draw those rows in this file, as SVG"),
+        Parameter::Flag("json", "Print one JSON object, on one line"),
+    ],
+    needs: &[("share", "schedule"), ("plot", "csv")],
+    excludes: &[
+        ("random", "rounds"),
+        ("schedule", "rounds"),
+        ("schedule", "random"),
+        ("csv", "table"),
+        ("csv", "json"),
+    ],
+    ..FREE
+};
 
 /// How many runs are measured.
 const RUNS: Number<'static> = Number {
@@ -139,7 +136,7 @@ pub fn run<R: Files + Print + Eprint + Clock + AllocGlobal + Threads + Sync>(
     given: &ArgMatches,
     progress: bool,
 ) -> Result<ExitCode, Refusal>
-    ensures { IfOk result (λ status. (exit_status status ≡ 0) ⊎ (exit_status status ≡ 1)) }
+    ensures { DoneMeansZeroOr 1 result }
 {
     let (file, plan) = (word(given, "FILE")?, plan(given, progress)?);
     match given.get_str("plot") {
@@ -173,7 +170,7 @@ fn plot<R: Files + Print + Eprint + Clock + AllocGlobal + Threads + Sync>(
     plan: Plan,
     path: &str,
 ) -> Result<ExitCode, Refusal>
-    ensures { IfOk result (λ status. (exit_status status ≡ 0) ⊎ (exit_status status ≡ 1)) }
+    ensures { DoneMeansZeroOr 1 result }
 {
     match measure_plot::run(rt, file, plan, path) {
         Err(PathFault::Fault(fault)) => Err(Refusal::Fault(fault)),

@@ -1,6 +1,6 @@
 //! The words of `schedule`.
-ghost use Rattle.std.specs.Prelude.{◌≡◌, IfOk, IfErr, codes};
-ghost use Rattle.std.specs.Process.{exit_status};
+ghost use Rattle.std.specs.Prelude.{IfOk, IfErr, codes};
+ghost use Rattle.network_words.specs.command_faults.Ends.{DoneMeansZero};
 ghost use Rattle.clap.specs.Matches.{found_of};
 ghost use Rattle.command_grammar.specs.Given.{IsGiven, IsRefused};
 ghost use Rattle.command_line.specs.Turns.{AreTurnsOf, AreTurnsRefused};
@@ -21,7 +21,38 @@ use subcommands::{Chances, schedule};
 pub const SCHEDULE: Grammar<'static> = Grammar {
     name: "schedule",
     about: "Prints a list of events for simulate: damage, rounds, random steps",
-    help: HELP,
+    help: "\
+If the network has no lease (lease = 0), give --give-back 1 with --scramble: a
+scramble may write a loan that nobody ends, and then there are no sweeps.
+
+  $ tokentree schedule ring.toml --scramble 7 --rounds 100 --give-back 1 |
+      tokentree simulate ring.toml -
+
+A round: each node ticks, by ascending id. Then come sends and takes in turn on
+each direction of each edge, by ascending source and destination: one of each
+more than the link holds items. A round is a sweep if no node lends the lock
+after its tick.
+
+With --give-back, a client releases the lock once its node has lent it for so
+many ticks in a row: after the round, or right after that tick among random
+steps. --rounds with --give-back 1 is a run as measure makes it.
+
+Random steps: each is a tick, a send or a take, all equally likely, at a node or
+a direction of an edge. With --loss some takes are losses of the oldest item.
+With --clients a fourth kind is as likely: a client with one of 16 tickets asks
+at a node, or leaves. A step that would be refused (a loss with nothing under
+way, say) becomes a tick of its node. The words of the generator (PCG32, from
+the seed) are used in this order, each modulo how many there are to choose from:
+the kind, 3 or 4; of a tick the node; of the others the edge as the file lists
+it and 2 for its direction; of a take 100 for the loss; of a client the node, 16
+for the ticket, and 2 for asking or leaving.
+
+--scramble begins with harms that write every part of the world, drawn from its
+own seed. No event is refused, and the same words give the same text on any
+machine. SEED, N and EVENTS are 0 to 4294967295.
+
+Statuses: 0 done; 1 a file, memory or standard output failed, and a line on
+standard error says which; 2 invalid arguments.",
     parameters: &[
         FILE,
         Parameter::Value(
@@ -61,40 +92,6 @@ pub const SCHEDULE: Grammar<'static> = Grammar {
     }),
     ..FREE
 };
-
-/// What follows the options in its help.
-const HELP: &str = "\
-If the network has no lease (lease = 0), give --give-back 1 with --scramble: a
-scramble may write a loan that nobody ends, and then there are no sweeps.
-
-  $ tokentree schedule ring.toml --scramble 7 --rounds 100 --give-back 1 |
-      tokentree simulate ring.toml -
-
-A round: each node ticks, by ascending id. Then come sends and takes in turn on
-each direction of each edge, by ascending source and destination: one of each
-more than the link holds items. A round is a sweep if no node lends the lock
-after its tick.
-
-With --give-back, a client releases the lock once its node has lent it for so
-many ticks in a row: after the round, or right after that tick among random
-steps. --rounds with --give-back 1 is a run as measure makes it.
-
-Random steps: each is a tick, a send or a take, all equally likely, at a node or
-a direction of an edge. With --loss some takes are losses of the oldest item.
-With --clients a fourth kind is as likely: a client with one of 16 tickets asks
-at a node, or leaves. A step that would be refused (a loss with nothing under
-way, say) becomes a tick of its node. The words of the generator (PCG32, from
-the seed) are used in this order, each modulo how many there are to choose from:
-the kind, 3 or 4; of a tick the node; of the others the edge as the file lists
-it and 2 for its direction; of a take 100 for the loss; of a client the node, 16
-for the ticket, and 2 for asking or leaving.
-
---scramble begins with harms that write every part of the world, drawn from its
-own seed. No event is refused, and the same words give the same text on any
-machine. SEED, N and EVENTS are 0 to 4294967295.
-
-Statuses: 0 done; 1 a file, memory or standard output failed, and a line on
-standard error says which; 2 invalid arguments.";
 
 /// The seeds of a scramble.
 const SCRAMBLE: Number<'static> = Number {
@@ -141,7 +138,7 @@ pub fn run<R: Files + Print + Eprint + AllocGlobal>(
     rt: &R,
     given: &ArgMatches,
 ) -> Result<ExitCode, Refusal>
-    ensures { IfOk result (λ status. exit_status status ≡ 0) }
+    ensures { DoneMeansZero result }
 {
     let network = word(given, "FILE")?;
     let scramble = number_if_given(given, SCRAMBLE)?.map(|seed| seed as u32);

@@ -1,5 +1,5 @@
 //! The words of `scramble`.
-use crate::seeds::{SEED, SEEDS};
+use crate::seeds::{SEED_PLACE, PLACED_SEED};
 use clap::ArgMatches;
 use client_words::stop::warn_of_runner;
 use command_grammar::{FREE, Grammar, Parameter, given_number, word};
@@ -13,18 +13,7 @@ use subcommands::{Fault, PathFault, scramble};
 pub const SCRAMBLE: Grammar<'static> = Grammar {
     name: "scramble",
     about: "Writes a state file as a fault may leave it: any values in range",
-    help: HELP,
-    parameters: &[
-        FILE,
-        Parameter::Place("ID", "The node, by its id"),
-        Parameter::Place("PATH", "The state file, which is written in place"),
-        SEED,
-    ],
-    ..FREE
-};
-
-/// What follows the options in its help.
-const HELP: &str = "\
+    help: "\
 The same seed gives the same file, on any machine. Numbers are decimal, with no
 sign and no leading zero. A state file does not have the desk: a lock that was
 lent is forgotten.
@@ -37,14 +26,22 @@ kill it right after the scramble.
 
 Statuses: 0 done; 1 the network, the id or the file is invalid, and a line on
 standard error says why; 2 invalid arguments. If the file cannot be opened for
-writing, or is no plain file, it stays as it is.";
+writing, or is no plain file, it stays as it is.",
+    parameters: &[
+        FILE,
+        Parameter::Place("ID", "The node, by its id"),
+        Parameter::Place("PATH", "The state file, which is written in place"),
+        SEED_PLACE,
+    ],
+    ..FREE
+};
 
 /// Does what the words of `scramble` say.
 pub fn run<R: Runtime>(rt: &R, given: &ArgMatches) -> Result<ExitCode, Refusal> {
     let network = word(given, "FILE")?;
     let path = word(given, "PATH")?;
     let id = given_number(given, ID)? as u16;
-    let seed = given_number(given, SEEDS)? as u32;
+    let seed = given_number(given, PLACED_SEED)? as u32;
     let done = scramble::run(rt, network, id, path, seed);
     match &done {
         Ok(_) => warn_of_runner(rt, path),

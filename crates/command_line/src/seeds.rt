@@ -2,10 +2,10 @@
 use command_grammar::{Number, Parameter};
 
 /// What the help says of it.
-pub const SEED: Parameter<'static> = Parameter::Place("SEED", "The seed, 0 to 4294967295");
+pub const SEED_PLACE: Parameter<'static> = Parameter::Place("SEED", "The seed, 0 to 4294967295");
 
 /// The seeds.
-pub const SEEDS: Number<'static> = Number {
+pub const PLACED_SEED: Number<'static> = Number {
     id: "SEED",
     name: "SEED",
     least: 0,

@@ -1,6 +1,5 @@
 //! The words of `simulate`.
-ghost use Rattle.std.specs.Prelude.{◌≡◌, ◌⊎◌, IfOk};
-ghost use Rattle.std.specs.Process.{exit_status};
+ghost use Rattle.network_words.specs.command_faults.Ends.{DoneMeansZeroOr};
 
 use clap::ArgMatches;
 use command_grammar::{FREE, Grammar, Parameter, word};
@@ -15,17 +14,7 @@ use subcommands::simulate;
 pub const SIMULATE: Grammar<'static> = Grammar {
     name: "simulate",
     about: "Replays a list of events, and shows the state that they lead to",
-    help: HELP,
-    parameters: &[
-        FILE,
-        EVENTS,
-        Parameter::Flag("layers", "Show what has settled at the end, too"),
-    ],
-    ..FREE
-};
-
-/// What follows the options in its help.
-const HELP: &str = "\
+    help: "\
 Replays the events of a text, one a line, from fresh nodes and empty links:
 
   tick 0                   node 0 does its part: its place, its desk, the token
@@ -117,14 +106,21 @@ The output is buffered: refusals come when the buffer is full, and at the end.
 
 Statuses: 0 done; 1 a file, memory or standard output failed, and a line on
 standard error says which; 2 invalid arguments; 3 done, and some lines were
-refused.";
+refused.",
+    parameters: &[
+        FILE,
+        EVENTS,
+        Parameter::Flag("layers", "Show what has settled at the end, too"),
+    ],
+    ..FREE
+};
 
 /// Does what the words of `simulate` say.
 pub fn run<R: Files + Input + Print + Eprint + AllocGlobal>(
     rt: &R,
     given: &ArgMatches,
 ) -> Result<ExitCode, Refusal>
-    ensures { IfOk result (λ status. (exit_status status ≡ 0) ⊎ (exit_status status ≡ 3)) }
+    ensures { DoneMeansZeroOr 3 result }
 {
     Ok(simulate::run(
         rt,

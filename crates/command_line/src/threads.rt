@@ -1,6 +1,5 @@
 //! The words of `threads`.
-ghost use Rattle.std.specs.Prelude.{◌≡◌, IfOk};
-ghost use Rattle.std.specs.Process.{exit_status};
+ghost use Rattle.network_words.specs.command_faults.Ends.{DoneMeansZero};
 
 use clap::ArgMatches;
 use command_grammar::{FREE, Grammar, Number, Parameter, given_number, word};
@@ -13,21 +12,7 @@ use std::process::ExitCode;
 pub const THREADS: Grammar<'static> = Grammar {
     name: "threads",
     about: "Runs each node on a thread of its own, and shows the state reached",
-    help: HELP,
-    parameters: &[
-        FILE,
-        Parameter::Place("TURNS", "How many turns each node does, 1 to 1000000"),
-        Parameter::Value(
-            "events",
-            "PATH",
-            "Write what the nodes did to this file, as an events text",
-        ),
-    ],
-    ..FREE
-};
-
-/// What follows the options in its help.
-const HELP: &str = "\
+    help: "\
 Each node does TURNS turns on its own thread, from fresh nodes and empty links.
 In a turn it ticks, then sends to each neighbour if a place is free, and takes
 up to two items from each. All begin together, and wait for one another after
@@ -56,7 +41,18 @@ once. Nothing is printed before the end. On a terminal, a line on standard error
 shows meanwhile how many turns node 0 has done.
 
 Statuses: 0 done; 1 a file, memory, a thread or standard output failed, and a
-line on standard error says which; 2 invalid arguments.";
+line on standard error says which; 2 invalid arguments.",
+    parameters: &[
+        FILE,
+        Parameter::Place("TURNS", "How many turns each node does, 1 to 1000000"),
+        Parameter::Value(
+            "events",
+            "PATH",
+            "Write what the nodes did to this file, as an events text",
+        ),
+    ],
+    ..FREE
+};
 
 /// How many turns a node does on a thread.
 const TURNS: Number<'static> = Number {
@@ -68,7 +64,7 @@ const TURNS: Number<'static> = Number {
 
 /// Does what the words of `threads` say. `progress` says whether to show progress.
 pub fn run<R: Runtime>(rt: &R, given: &ArgMatches, progress: bool) -> Result<ExitCode, Refusal>
-    ensures { IfOk result (λ status. exit_status status ≡ 0) }
+    ensures { DoneMeansZero result }
 {
     let network = word(given, "FILE")?;
     let turns = given_number(given, TURNS)? as u32;

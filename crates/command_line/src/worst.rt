@@ -1,6 +1,6 @@
 //! The words of `worst`.
-ghost use Rattle.std.specs.Prelude.{◌≡◌, IfOk, IfErr};
-ghost use Rattle.std.specs.Process.{exit_status};
+ghost use Rattle.std.specs.Prelude.{IfOk, IfErr};
+ghost use Rattle.network_words.specs.command_faults.Ends.{DoneMeansZero};
 ghost use Rattle.clap.specs.Matches.{found_of};
 ghost use Rattle.command_line.specs.Worst.{IsExtentOf, IsExtentRefused, IsSearchOf, IsSearchRefused};
 
@@ -17,7 +17,34 @@ use subcommands::worst::{self, Extent, Plan};
 pub const WORST: Grammar<'static> = Grammar {
     name: "worst",
     about: "Searches for runs that recover late, and shows after how many sweeps",
-    help: HELP,
+    help: "\
+How bad can it get? A search begins with a world that its seed scrambles. In
+each pass all nodes tick and all links carry items, in an order that is drawn.
+Then the search changes a harm, or a few, or the order of a pass, again and
+again, and keeps each change after which the network does not serve earlier. The
+latest run of all searches is judged once more from its start:
+
+  $ tokentree worst two-nodes.toml --events late.txt
+  searches 16
+  seed ..
+  sweeps ..
+  sharp 35
+  sweeps-bound 69
+
+After one sweep less than the line 'sweeps' says, that run did not serve yet, so
+no bound below this number is true. 'sharp' and 'sweeps-bound' are proved ones.
+'simulate' and 'draw' take the file of --events. After each pass, whoever has
+the lock gives it back.
+
+The same words find the same run, on any machine. More searches, or more steps,
+may find a later one; if they find none, that says nothing.
+
+With --minutes it begins 16 searches at a time until that time has passed, and
+ends those that it began. 'searches' says how many there were. With that number
+as --searches, and the same seed and steps, the same run is found again.
+
+Statuses: 0 done; 1 a file, memory or standard output was refused, and a line on
+standard error says which; 2 invalid arguments.",
     parameters: &[
         FILE,
         Parameter::ValueOr("searches", "N", "16", "How many searches, 1 to 1000000"),
@@ -48,36 +75,6 @@ pub const WORST: Grammar<'static> = Grammar {
     ..FREE
 };
 
-/// What follows the options in its help.
-const HELP: &str = "\
-How bad can it get? A search begins with a world that its seed scrambles. In
-each pass all nodes tick and all links carry items, in an order that is drawn.
-Then the search changes a harm, or a few, or the order of a pass, again and
-again, and keeps each change after which the network does not serve earlier. The
-latest run of all searches is judged once more from its start:
-
-  $ tokentree worst two-nodes.toml --events late.txt
-  searches 16
-  seed ..
-  sweeps ..
-  sharp 35
-  sweeps-bound 69
-
-After one sweep less than the line 'sweeps' says, that run did not serve yet, so
-no bound below this number is true. 'sharp' and 'sweeps-bound' are proved ones.
-'simulate' and 'draw' take the file of --events. After each pass, whoever has
-the lock gives it back.
-
-The same words find the same run, on any machine. More searches, or more steps,
-may find a later one; if they find none, that says nothing.
-
-With --minutes it begins 16 searches at a time until that time has passed, and
-ends those that it began. 'searches' says how many there were. With that number
-as --searches, and the same seed and steps, the same run is found again.
-
-Statuses: 0 done; 1 a file, memory or standard output was refused, and a line on
-standard error says which; 2 invalid arguments.";
-
 /// How many searches there are.
 const SEARCHES: Number<'static> = Number {
     id: "searches",
@@ -104,7 +101,7 @@ const STEPS: Number<'static> = Number {
 
 /// Does what the words of `worst` say, and shows its progress if that is asked for.
 pub fn run<R: Runtime>(rt: &R, given: &ArgMatches, progress: bool) -> Result<ExitCode, Refusal>
-    ensures { IfOk result (λ status. exit_status status ≡ 0) }
+    ensures { DoneMeansZero result }
 {
     let (file, plan) = (word(given, "FILE")?, plan(given, progress)?);
     Ok(worst::run(rt, file, plan, given.get_str("events"))?)

@@ -2,6 +2,7 @@
 ghost use Rattle.std.specs.Prelude.{◌≡◌, ◌⊎◌, [], IfOk, IfErr, Err, None, OnOk, is_some, length};
 ghost use Rattle.std.specs.Io.Buffered.{writer_buffer, writer_contents};
 ghost use Rattle.std.specs.Process.{exit_status};
+ghost use Rattle.command_parts.specs.command_faults.Ends.{DoneMeansZeroOr};
 ghost use Rattle.command_parts.specs.EventText.{GrowsByText};
 ghost use Rattle.command_parts.specs.command_faults.declared.fault.Fault.TheVariants.{Memory, Network};
 ghost use Rattle.gather_command.specs.Reading.{MayFail, Reads, Begins};
@@ -51,7 +52,7 @@ pub fn run<R: Files + Print + Eprint + AllocGlobal>(
     network: Option<&str>,
     stretch: Stretch,
 ) -> Result<ExitCode, Fault>
-    ensures { IfOk result (λ status. (exit_status status ≡ 0) ⊎ (exit_status status ≡ 1)) }
+    ensures { DoneMeansZeroOr 1 result }
 {
     let Some(net) = network_of(rt, dir, network)? else {
         return Ok(ExitCode::FAILURE);

@@ -7,7 +7,7 @@ ghost use Rattle.command_parts.specs.world.run_model.Start.{default_world};
 ghost use Rattle.command_parts.specs.world.judge.configuration.ConfigurationView.{world_of};
 ghost use Rattle.command_parts.specs.EventText.{GrowsByText};
 ghost use Rattle.live_commands.specs.Threads.{AllRan, IsStateWritten, IsUnwritten, refused};
-ghost use Rattle.std.specs.Process.{exit_status};
+ghost use Rattle.command_parts.specs.command_faults.Ends.{DoneMeansZero};
 ghost use Rattle.command_parts.specs.command_faults.declared.fault.Fault.TheVariants.{EventsUnwritable, Memory};
 ghost use Rattle.command_parts.specs.command_faults.declared.fault.Fault.TheVariants.{Output};
 
@@ -45,7 +45,7 @@ pub fn run<R: Files + Clock + Print + Eprint + Threads + Wait + Sync + AllocGlob
     events: Option<&str>,
     says: bool,
 ) -> Result<ExitCode, Fault>
-    ensures { IfOk result (λ status. exit_status status ≡ 0) }
+    ensures { DoneMeansZero result }
 {
     let net = read_network(rt, network)?;
     let start = new_world(rt.alloc(), &net)?;
@@ -76,7 +76,7 @@ fn show<R: Files + Print + Eprint + AllocGlobal>(
     woven: &Woven,
     events: Option<&str>,
 ) -> Result<ExitCode, Fault>
-    ensures ok { IfOk result (λ status. exit_status status ≡ 0) }
+    ensures ok { DoneMeansZero result }
     ensures err { IfErr result IsUnwritten }
 {
     if let Some(path) = events {

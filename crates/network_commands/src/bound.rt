@@ -2,7 +2,7 @@
 //! network.
 ghost use Rattle.std.specs.Prelude.{◌≡◌, ◌↔◌, ℕ, ◌++◌, Err, IfOk, IfErr, IsOk, OnOk, string_bytes};
 ghost use Rattle.std.specs.Prelude.{codes, decimal};
-ghost use Rattle.std.specs.Process.{exit_status};
+ghost use Rattle.command_faults.specs.Ends.{DoneMeansZero};
 ghost use Rattle.network_commands.specs.Bound.{number_line, nodes_line, parent_word, bound_text};
 ghost use Rattle.network_commands.specs.Bound.{shown_text, timed_text};
 ghost use Rattle.network_commands.specs.Faults.{IsUnprinted};
@@ -27,7 +27,7 @@ pub fn run<R: Files + Print + Eprint + AllocGlobal>(
     sharp: bool,
     premises: Option<Premises>,
 ) -> Result<ExitCode, Fault>
-    ensures ok { IfOk result (λ status. exit_status status ≡ 0) }
+    ensures ok { DoneMeansZero result }
     ensures err { IfErr result IsUnprinted }
 {
     let net = read_network(rt, path)?;
@@ -38,7 +38,7 @@ pub fn run<R: Files + Print + Eprint + AllocGlobal>(
 /// How the command ends, by the result of printing its text.
 pub fn done(printed: Result<(), Fault>) -> Result<ExitCode, Fault>
     ensures printed { IsOk printed ↔ IsOk result }
-    ensures ok { IfOk result (λ status. exit_status status ≡ 0) }
+    ensures ok { DoneMeansZero result }
     ensures err { IfErr result (λ fault. printed ≡ Err fault) }
 {
     printed?;

@@ -1,7 +1,7 @@
 //! `bound FILE --json`: a network's numbers as a JSON object.
 ghost use Rattle.std.specs.Prelude.{◌≡◌, ◌++◌, IfOk, IfErr, OnOk, [], map, string_bytes};
 ghost use Rattle.std.specs.List.{range_with_len};
-ghost use Rattle.std.specs.Process.{exit_status};
+ghost use Rattle.command_faults.specs.Ends.{DoneMeansZero};
 ghost use Rattle.serde_json.specs.Data.{array};
 ghost use Rattle.serde_json.specs.View.{view, items_view, members_view, items_of};
 ghost use Rattle.serde_json.specs.Written.{IsInOrder};
@@ -30,7 +30,7 @@ pub fn run<R: Files + Print + Eprint + AllocGlobal>(
     sharp: bool,
     premises: Option<Premises>,
 ) -> Result<ExitCode, Fault>
-    ensures ok { IfOk result (λ status. exit_status status ≡ 0) }
+    ensures ok { DoneMeansZero result }
     ensures err { IfErr result IsUnprinted }
 {
     let net = read_network(rt, path)?;

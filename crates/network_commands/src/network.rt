@@ -1,6 +1,6 @@
 //! `network KIND N`: the network file of a usual graph.
 ghost use Rattle.std.specs.Prelude.{◌≡◌, ◌⊎◌, IfOk, IfErr, Ok, string_bytes};
-ghost use Rattle.std.specs.Process.{exit_status};
+ghost use Rattle.command_faults.specs.Ends.{DoneMeansZero};
 ghost use Rattle.command_faults.specs.Output.{IsUntaken};
 ghost use Rattle.command_faults.specs.declared.fault.Fault.TheVariants.{Memory};
 ghost use Rattle.network_commands.specs.Named.{IsTextOf, IsUnnamed};
@@ -34,7 +34,7 @@ pub struct Wanted {
 /// # Errors
 /// If there is no such network, memory runs out, or standard output fails.
 pub fn run<R: Print + Eprint + AllocGlobal>(rt: &R, wanted: Wanted) -> Result<ExitCode, Fault>
-    ensures ok { IfOk result (λ status. exit_status status ≡ 0) }
+    ensures ok { DoneMeansZero result }
     ensures err { IfErr result (λ fault. IsUnnamed wanted fault ⊎ IsUntaken fault) }
 {
     let text = named_text(rt.alloc(), wanted)?;

@@ -1,6 +1,5 @@
 //! The words of `bound`.
-ghost use Rattle.std.specs.Prelude.{◌≡◌, IfOk};
-ghost use Rattle.std.specs.Process.{exit_status};
+ghost use Rattle.command_faults.specs.Ends.{DoneMeansZero};
 
 use crate::program::FILE;
 use crate::refusal::Refusal;
@@ -15,47 +14,7 @@ use std::rt::Files;
 pub const BOUND: Grammar<'static> = Grammar {
     name: "bound",
     about: "Shows a network's numbers, and after how many sweeps its lock works",
-    help: HELP,
-    parameters: &[
-        FILE,
-        Parameter::Flag("sharp", "Also show the bound without the capacity"),
-        Parameter::Flag("json", "Print one JSON object, on one line"),
-        Parameter::Flag("time", "Also show how long recovery and a grant take"),
-        Parameter::Value(
-            "turn",
-            MILLISECONDS,
-            "Each node gets a turn in this time [default: 2.2]",
-        ),
-        Parameter::Value(
-            "delay",
-            MILLISECONDS,
-            "A frame arrives within this time [default: 0.1]",
-        ),
-        Parameter::Value(
-            "loan",
-            MILLISECONDS,
-            "A loan ends within this time [default: 0]",
-        ),
-        Parameter::Value(
-            "repeat",
-            MILLISECONDS,
-            "A frame is repeated after this time [default: 8]",
-        ),
-    ],
-    needs: &[
-        ("turn", "time"),
-        ("delay", "time"),
-        ("loan", "time"),
-        ("repeat", "time"),
-    ],
-    ..FREE
-};
-
-/// The name of a time in the help.
-const MILLISECONDS: &str = "MILLISECONDS";
-
-/// What follows the options in its help.
-const HELP: &str = "\
+    help: "\
 A network file names its nodes 0 to nodes-1, the root, how many items each
 direction of an edge holds, the most ticks of a loan of the lock (0: no limit),
 and the edges:
@@ -101,14 +60,51 @@ hour), with at most 3 decimals; --turn and --repeat are above 0. The times shown
 are rounded up.
 
 With --json it prints one JSON object. The names are those of the lines, with
-window_us in microseconds, and recovers_within_ms and lends_within_ms.";
+window_us in microseconds, and recovers_within_ms and lends_within_ms.",
+    parameters: &[
+        FILE,
+        Parameter::Flag("sharp", "Also show the bound without the capacity"),
+        Parameter::Flag("json", "Print one JSON object, on one line"),
+        Parameter::Flag("time", "Also show how long recovery and a grant take"),
+        Parameter::Value(
+            "turn",
+            MILLISECONDS,
+            "Each node gets a turn in this time [default: 2.2]",
+        ),
+        Parameter::Value(
+            "delay",
+            MILLISECONDS,
+            "A frame arrives within this time [default: 0.1]",
+        ),
+        Parameter::Value(
+            "loan",
+            MILLISECONDS,
+            "A loan ends within this time [default: 0]",
+        ),
+        Parameter::Value(
+            "repeat",
+            MILLISECONDS,
+            "A frame is repeated after this time [default: 8]",
+        ),
+    ],
+    needs: &[
+        ("turn", "time"),
+        ("delay", "time"),
+        ("loan", "time"),
+        ("repeat", "time"),
+    ],
+    ..FREE
+};
+
+/// The name of a time in the help.
+const MILLISECONDS: &str = "MILLISECONDS";
 
 /// Does what the words of `bound` say.
 pub fn run<R: Files + Print + Eprint + AllocGlobal>(
     rt: &R,
     given: &ArgMatches,
 ) -> Result<ExitCode, Refusal>
-    ensures { IfOk result (λ status. exit_status status ≡ 0) }
+    ensures { DoneMeansZero result }
 {
     let path = word(given, "FILE")?;
     let (sharp, premises) = (given.get_flag("sharp"), premises(given)?);

@@ -22,4 +22,4 @@ pub mod refusal;
 
 pub use commands::run_words;
 pub use line::{asks_for_lock, asks_for_version, ends, is_of_service, matches_of, say_version};
-pub use program_ends::{fill_standard_streams, own_words};
+pub use program_ends::begin;

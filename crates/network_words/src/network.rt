@@ -1,6 +1,6 @@
 //! The words of `network`.
-ghost use Rattle.std.specs.Prelude.{◌≡◌, IfOk};
-ghost use Rattle.std.specs.Process.{exit_status};
+ghost use Rattle.std.specs.Prelude.{◌≡◌};
+ghost use Rattle.command_faults.specs.Ends.{DoneMeansZero};
 ghost use Rattle.network_words.specs.Named.{kind_named, most_edges, usual_edges};
 
 use crate::program::SEED;
@@ -18,7 +18,28 @@ use std::process::ExitCode;
 pub const NETWORK: Grammar<'static> = Grammar {
     name: "network",
     about: "Prints a network file: a line, ring, star, grid, tree or other graph",
-    help: HELP,
+    help: "\
+  $ tokentree network ring 5 > ring.toml
+  $ tokentree network grid 3 4 --root 5 --capacity 4 > grid.toml
+  $ tokentree network random 20 --edges 30 --seed 7 > random.toml
+
+  line N       node v is joined to v+1; 2 to 64 nodes
+  ring N       a line whose ends are joined; 3 to 64
+  star N       node 0 is joined to each other node; 2 to 64
+  complete N   each node is joined to every other node; 2 to 23, since a network
+               has at most 256 edges
+  tree N       a binary tree: the children of node u are 2u+1 and 2u+2; 2 to 64
+  grid N M     N rows of M nodes, each joined to those beside, above and below;
+               2 to 64 nodes
+  random N     each node is joined to a random earlier one, and then
+               further random pairs are joined; 2 to 64
+
+Networks of processes need --capacity 64. If --edges is left out, a random graph
+has twice as many edges as a tree. --lease is 0 to 65535 ticks, --seed 0 to
+4294967295. The same words give the same text on any machine. It always prints a
+valid network file.
+
+Statuses: 0 done; 1 memory or standard output failed; 2 invalid arguments.",
     parameters: &[
         Parameter::Place("KIND", "line, ring, star, complete, tree, grid or random"),
         Parameter::Place("N", "The number of nodes, or of a grid's rows"),
@@ -41,30 +62,6 @@ pub const NETWORK: Grammar<'static> = Grammar {
     ],
     ..FREE
 };
-
-/// What follows the options in its help.
-const HELP: &str = "\
-  $ tokentree network ring 5 > ring.toml
-  $ tokentree network grid 3 4 --root 5 --capacity 4 > grid.toml
-  $ tokentree network random 20 --edges 30 --seed 7 > random.toml
-
-  line N       node v is joined to v+1; 2 to 64 nodes
-  ring N       a line whose ends are joined; 3 to 64
-  star N       node 0 is joined to each other node; 2 to 64
-  complete N   each node is joined to every other node; 2 to 23, since a network
-               has at most 256 edges
-  tree N       a binary tree: the children of node u are 2u+1 and 2u+2; 2 to 64
-  grid N M     N rows of M nodes, each joined to those beside, above and below;
-               2 to 64 nodes
-  random N     each node is joined to a random earlier one, and then
-               further random pairs are joined; 2 to 64
-
-Networks of processes need --capacity 64. If --edges is left out, a random graph
-has twice as many edges as a tree. --lease is 0 to 65535 ticks, --seed 0 to
-4294967295. The same words give the same text on any machine. It always prints a
-valid network file.
-
-Statuses: 0 done; 1 memory or standard output failed; 2 invalid arguments.";
 
 /// The roots in a network of two nodes; larger ones have more.
 const ROOT: Number<'static> = Number {
@@ -116,7 +113,7 @@ const EDGES: Number<'static> = Number {
 
 /// Does what the words of `network` say.
 pub fn run<R: Print + Eprint + AllocGlobal>(rt: &R, given: &ArgMatches) -> Result<ExitCode, Refusal>
-    ensures { IfOk result (λ status. exit_status status ≡ 0) }
+    ensures { DoneMeansZero result }
 {
     let wanted = wanted(given)?;
     Ok(network::run(rt, wanted)?)

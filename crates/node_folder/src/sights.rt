@@ -23,7 +23,9 @@ pub fn see<R: Files + Input + AllocGlobal, D: ProcessDoors>(
     names: &Names<'_>,
     doors: &mut D,
 ) -> Sights
-    ensures { looks_for_stop result.place ≡ false → result.stop ≡ Absent }
+    ensures stop { looks_for_stop result.place ≡ false → result.stop ≡ Absent }
+    // Whoever runs a node by hand ends it by a stop file or a signal alone.
+    ensures asked { words.now.is_child ≡ false → result.is_asked ≡ false }
 {
     let place = names.place.sight(rt, names.paths.lock.as_str());
     let stop = if looks_for_stop(place) {

@@ -1,6 +1,6 @@
 //! What `node` does with its words.
-ghost use Rattle.std.specs.Prelude.{◌≡◌, ◌⊎◌, IfOk, IfErr};
-ghost use Rattle.std.specs.Process.{exit_status};
+ghost use Rattle.std.specs.Prelude.{IfErr};
+ghost use Rattle.network_words.specs.command_faults.Ends.{DoneMeansZeroOr};
 ghost use Rattle.clap.specs.Matches.{found_of};
 ghost use Rattle.process_words.specs.NodeWords.{AreNodeWordsRefused};
 
@@ -17,7 +17,7 @@ use std::process::ExitCode;
 /// # Errors
 /// If a word spells no number, or no time, in its range.
 pub fn run<R: Runtime>(rt: &R, given: &ArgMatches) -> Result<ExitCode, Refusal>
-    ensures ok { IfOk result (λ status. (exit_status status ≡ 0) ⊎ (exit_status status ≡ 1)) }
+    ensures ok { DoneMeansZeroOr 1 result }
     ensures err { IfErr result (AreNodeWordsRefused (found_of given.now)) }
 {
     let words = asked(given)?;

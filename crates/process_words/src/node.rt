@@ -14,20 +14,7 @@ use process_parts::NodeWords;
 pub const NODE: Grammar<'static> = Grammar {
     name: "node",
     about: "Runs one node of a network as a process, until it is stopped",
-    help: HELP,
-    shared: OPTIONS,
-    parameters: &[
-        FILE,
-        Parameter::Place("ID", "The node, 0 to nodes-1"),
-        DIR,
-        Parameter::Flag("child", "For `up`: name the node, and end with its input"),
-    ],
-    needs: &[("record-size", "record")],
-    ..FREE
-};
-
-/// What follows the options in its help.
-const HELP: &str = "\
+    help: "\
 FILE is a network file, as `help bound` shows. Node ID keeps these files in DIR.
 If DIR is missing, the node makes it, for its owner alone:
 
@@ -88,7 +75,17 @@ standard error, and the node runs on. The network's text stands beside the
 records, in DIR/record.toml.
 
 Statuses: 0 ended by the stop file; 1 it cannot run, and a line on standard
-error says why; 2 invalid arguments.";
+error says why; 2 invalid arguments.",
+    shared: OPTIONS,
+    parameters: &[
+        FILE,
+        Parameter::Place("ID", "The node, 0 to nodes-1"),
+        DIR,
+        Parameter::Flag("child", "For `up`: name the node, and end with its input"),
+    ],
+    needs: &[("record-size", "record")],
+    ..FREE
+};
 
 /// What the words of `node` ask for.
 ///

@@ -14,15 +14,7 @@ use process_parts::UpWords;
 pub const UP: Grammar<'static> = Grammar {
     name: "up",
     about: "Runs all nodes of a network, and restarts what ends, until Ctrl-C",
-    help: HELP,
-    shared: OPTIONS,
-    parameters: &[FILE, DIR],
-    needs: &[("record-size", "record")],
-    ..FREE
-};
-
-/// What follows the options in its help.
-const HELP: &str = "\
+    help: "\
 Each node of the network of FILE runs as its own process, with its files in DIR
 (see `help node`):
 
@@ -50,7 +42,12 @@ Then up waits for its nodes, and says that they have ended. Otherwise up ends at
 once, and the nodes within half a second.
 
 Statuses: 0 it was asked to end, and all nodes have ended; 1 it cannot run, or
-no node stays up, and a line on standard error says why; 2 invalid arguments.";
+no node stays up, and a line on standard error says why; 2 invalid arguments.",
+    shared: OPTIONS,
+    parameters: &[FILE, DIR],
+    needs: &[("record-size", "record")],
+    ..FREE
+};
 
 /// What the words of `up` ask for.
 ///

@@ -1,21 +1,35 @@
-//! The words that the program was started with.
+//! How the program begins: with which streams, and with which words.
 ghost use Rattle.std.specs.Prelude.{◌≡◌, ◌≢◌, ◌⊎◌, IfErr, if◌then◌else◌};
 ghost use Rattle.std.specs.Process.{exit_status};
 ghost use Rattle.std.specs.declared.io.ErrorKind.TheVariants.{OutOfMemory};
 
 use crate::ends::{LINE_REFUSED, fails, fault_status};
+use crate::streams::fill_standard_streams;
 use command_faults::Fault;
 use std::alloc::AllocError;
+use std::fs::File;
 use std::io::ErrorKind;
 use std::process::ExitCode;
-use std::rt::Env;
+use std::rt::{Env, Files};
 
-/// The program's own words, or the status of a program that cannot read them.
+/// What a program does before all else: it fills its standard streams, and reads its own words. Gives the
+/// words, or the status of a program that cannot read them.
 ///
 /// # Errors
 /// Status 1 (of `lock` 125) if memory runs out, 2 if a word is no text; either is reported on
 /// standard error.
-pub fn own_words<R: Env + Eprint + AllocGlobal>(rt: &R) -> Result<Vec<String>, ExitCode>
+pub fn begin<R: Env + Files<File = File> + Eprint + AllocGlobal>(
+    rt: &R,
+) -> Result<Vec<String>, ExitCode>
+    ensures { IfErr result (λ status. (exit_status status ≡ 1)
+        ⊎ ((exit_status status ≡ 2) ⊎ (exit_status status ≡ 125))) }
+{
+    fill_standard_streams(rt);
+    own_words(rt)
+}
+
+/// The program's own words, or the status of a program that cannot read them.
+fn own_words<R: Env + Eprint + AllocGlobal>(rt: &R) -> Result<Vec<String>, ExitCode>
     ensures { IfErr result (λ status. (exit_status status ≡ 1)
         ⊎ ((exit_status status ≡ 2) ⊎ (exit_status status ≡ 125))) }
 {

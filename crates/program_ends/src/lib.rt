@@ -2,7 +2,7 @@
 //! with which line on standard error.
 //!
 //! ```
-//! fill_standard_streams(rt);                           // before anything is opened
+//! let words = begin(rt)?;                              // before anything is opened
 //! let status = fails(rt, Fault::NoNode, 1);            // prints `tokentree: the network has no such node`
 //! let status = fault_status(true);                     // 125: `lock` keeps 1 for its command
 //! let status = fails(rt, Fault::Closed, 1);            // prints nothing: 141
@@ -18,8 +18,7 @@ mod fault_line;
 mod path_fault_line;
 mod streams;
 
-pub use arguments::own_words;
+pub use arguments::begin;
 pub use ends::{LINE_REFUSED, fails, fault_status, print_status, shows};
 pub use fault_line::FaultLine;
 pub use path_fault_line::PathFaultLine;
-pub use streams::fill_standard_streams;

@@ -14,7 +14,7 @@ const STANDARD_ERROR: i32 = 2;
 /// The device is opened for reading alone. So a write to a stream that was closed still fails, and
 /// its input is at its end. It stays open for as long as the program runs. Call this before
 /// anything is opened.
-pub fn fill_standard_streams<R: Files<File = File>>(rt: &R) {
+pub(crate) fn fill_standard_streams<R: Files<File = File>>(rt: &R) {
     for _ in 0..=STANDARD_ERROR {
         let Ok(device) = fs::open(rt, "/dev/null") else {
             return;

@@ -1,6 +1,6 @@
 //! `draw FILE EVENTS`: a picture of the run that a list of events makes on a network.
-ghost use Rattle.std.specs.Prelude.{◌≡◌, ◌⊎◌, IfOk, OnOk};
-ghost use Rattle.std.specs.Process.{exit_status};
+ghost use Rattle.std.specs.Prelude.{◌≡◌, IfOk, OnOk};
+ghost use Rattle.command_parts.specs.command_faults.Ends.{DoneMeansZeroOr};
 ghost use Rattle.std.specs.Io.KnownBytes.{Appends};
 ghost use Rattle.svg_drawing.specs.Xml.{IsContent};
 
@@ -93,7 +93,7 @@ pub fn run<R: Files + Input + Clock + Print + Eprint + AllocGlobal, D: Draws>(
     wanted: D,
     shows: bool,
 ) -> Result<ExitCode, Fault>
-    ensures { IfOk result (λ status. (exit_status status ≡ 0) ⊎ (exit_status status ≡ 3)) }
+    ensures { DoneMeansZeroOr 3 result }
 {
     let net = read_network(rt, network)?;
     let refused = if events == STANDARD_INPUT {

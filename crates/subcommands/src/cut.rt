@@ -1,6 +1,6 @@
 //! `cut PATH LENGTH`: a file as an interrupted write may leave it.
-ghost use Rattle.std.specs.Prelude.{◌≡◌, ℕ, List, IfOk, IfErr, length, take};
-ghost use Rattle.std.specs.Process.{exit_status};
+ghost use Rattle.std.specs.Prelude.{◌≡◌, ℕ, List, IfErr, length, take};
+ghost use Rattle.command_parts.specs.command_faults.Ends.{DoneMeansZero};
 ghost use Rattle.command_parts.specs.command_faults.declared.path_fault.PathFault.TheVariants.{Unwritable};
 ghost use Rattle.subcommands.specs.Cut.{IsCutTo};
 
@@ -16,7 +16,7 @@ use std::{fs, io};
 /// # Errors
 /// If the file cannot be written, is not there, or is no plain file.
 pub fn run<'a, R: Files>(rt: &R, path: &'a str, most: u32) -> Result<ExitCode, PathFault<'a>>
-    ensures ok { IfOk result (λ status. exit_status status ≡ 0) }
+    ensures ok { DoneMeansZero result }
     ensures err { IfErr result (λ fault. fault ≡ Unwritable path.entry) }
 {
     match shorten(rt, path, u64::from(most)) {

@@ -1,10 +1,10 @@
 //! `junk SEED LINES`: lines without meaning.
-ghost use Rattle.std.specs.Prelude.{◌≡◌, ◌+◌, ◌≤◌, ◌⊎◌, IfOk, IfErr, OnOk, [], ◌++◌, codes, length, take};
+ghost use Rattle.std.specs.Prelude.{◌≡◌, ◌+◌, ◌≤◌, ◌⊎◌, IfErr, OnOk, [], ◌++◌, codes, length, take};
 ghost use Rattle.byte_streams.specs.Streams.{Rose, Takes};
 ghost use Rattle.command_parts.specs.schedules.damage_tool.Draws.{draw_junk};
 ghost use Rattle.subcommands.specs.Damaged.{junk_text, seeded};
 ghost use Rattle.command_parts.specs.command_faults.Output.{IsUntaken};
-ghost use Rattle.std.specs.Process.{exit_status};
+ghost use Rattle.command_parts.specs.command_faults.Ends.{DoneMeansZero};
 ghost use Rattle.command_parts.specs.command_faults.declared.fault.Fault.TheVariants.{Memory, Output};
 
 use byte_streams::{Failed, Sink, write_all};
@@ -23,7 +23,7 @@ pub fn run<R: Print + Eprint + AllocGlobal>(
     seed: u32,
     lines: u32,
 ) -> Result<ExitCode, Fault>
-    ensures ok { IfOk result (λ status. exit_status status ≡ 0) }
+    ensures ok { DoneMeansZero result }
     ensures err { IfErr result (λ fault. (fault ≡ Memory) ⊎ IsUntaken fault) }
 {
     let Ok(output) = BufWriter::new(rt.alloc(), writer(rt)) else {

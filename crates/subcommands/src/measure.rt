@@ -1,7 +1,8 @@
 //! `measure FILE`: after how many sweeps scrambled worlds served.
-ghost use Rattle.std.specs.Prelude.{◌≡◌, ◌↔◌, ◌+◌, ◌++◌, ◌⊎◌, Err, OnOk, IfOk, IfErr, IsOk, IsTrue};
+ghost use Rattle.std.specs.Prelude.{◌≡◌, ◌↔◌, ◌+◌, ◌++◌, Err, OnOk, IfOk, IfErr, IsOk, IsTrue};
 ghost use Rattle.std.specs.Prelude.{string_bytes, if◌then◌else◌};
 ghost use Rattle.std.specs.Process.{exit_status};
+ghost use Rattle.command_parts.specs.command_faults.Ends.{DoneMeansZeroOr};
 ghost use Rattle.subcommands.specs.Measured.{has_served, run_line, served_sweeps, summary_line};
 ghost use Rattle.subcommands.specs.Measured.{shown_line, run_lines, totals, IsMeasured};
 ghost use Rattle.subcommands.specs.Measured.{IsPlanMeasured, HaveServed};
@@ -59,7 +60,7 @@ pub fn run<R: Files + Print + Eprint + Clock + AllocGlobal + Threads + Sync>(
     plan: Plan,
     form: Form,
 ) -> Result<ExitCode, Fault>
-    ensures ok { IfOk result (λ status. (exit_status status ≡ 0) ⊎ (exit_status status ≡ 1)) }
+    ensures ok { DoneMeansZeroOr 1 result }
     ensures err { IfErr result IsUnprinted }
 {
     let net = read_network(rt, network)?;

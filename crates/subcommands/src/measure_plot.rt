@@ -1,6 +1,6 @@
 //! `measure FILE --csv --plot PATH`: the same rows, and a plot of them.
-ghost use Rattle.std.specs.Prelude.{◌≡◌, ◌⊎◌, IfOk, IfErr};
-ghost use Rattle.std.specs.Process.{exit_status};
+ghost use Rattle.std.specs.Prelude.{◌≡◌, IfOk, IfErr};
+ghost use Rattle.command_parts.specs.command_faults.Ends.{DoneMeansZeroOr};
 ghost use Rattle.subcommands.specs.MeasuredPlot.{IsFigureOf, IsReportOf, settled_sweeps};
 ghost use Rattle.subcommands.specs.MeasuredPlot.{sweeps_of};
 ghost use Rattle.subcommands.specs.Faults.{IsUnplotted};
@@ -44,7 +44,7 @@ pub fn run<'a, R: Files + Print + Eprint + Clock + AllocGlobal + Threads + Sync>
     plan: Plan,
     path: &'a str,
 ) -> Result<ExitCode, PathFault<'a>>
-    ensures ok { IfOk result (λ status. (exit_status status ≡ 0) ⊎ (exit_status status ≡ 1)) }
+    ensures ok { DoneMeansZeroOr 1 result }
     ensures err { IfErr result (IsUnplotted path.entry) }
 {
     let net = read_network(rt, network)?;

@@ -1,7 +1,7 @@
 //! `schedule FILE`: the events of a schedule for a network.
-ghost use Rattle.std.specs.Prelude.{◌≡◌, ◌⊎◌, [], Err, IfOk, IfErr, OnOk, option_map};
+ghost use Rattle.std.specs.Prelude.{◌≡◌, ◌⊎◌, [], Err, IfErr, OnOk, option_map};
 ghost use Rattle.std.specs.Io.Buffered.{writer_buffer, writer_contents};
-ghost use Rattle.std.specs.Process.{exit_status};
+ghost use Rattle.command_parts.specs.command_faults.Ends.{DoneMeansZero};
 ghost use Rattle.byte_streams.specs.Streams.{Rose};
 ghost use Rattle.experiments.specs.Plan.{planned};
 ghost use Rattle.subcommands.specs.PlanFault.{fault_of};
@@ -91,7 +91,7 @@ pub fn run<R: Files + Print + Eprint + AllocGlobal>(
     loan: Option<u16>,
     turns: Turns,
 ) -> Result<ExitCode, Fault>
-    ensures ok { IfOk result (λ status. exit_status status ≡ 0) }
+    ensures ok { DoneMeansZero result }
     ensures err { IfErr result IsUnprinted }
 {
     let net = read_network(rt, network)?;

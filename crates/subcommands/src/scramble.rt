@@ -1,6 +1,6 @@
 //! `scramble FILE ID PATH SEED`: the state file of a node as a fault may leave it.
 ghost use Rattle.std.specs.Prelude.{◌≡◌, ◌<◌, ◌≤◌, IfOk, IfErr, nat_lt, if◌then◌else◌, take};
-ghost use Rattle.std.specs.Process.{exit_status};
+ghost use Rattle.command_parts.specs.command_faults.Ends.{DoneMeansZero};
 ghost use Rattle.node_state_file.specs.Stores.{Saves};
 ghost use Rattle.subcommands.specs.Damaged.{scrambled_file};
 ghost use Rattle.subcommands.specs.Faults.{IsUnsaved};
@@ -29,7 +29,7 @@ pub fn run<'a, R: Files + AllocGlobal>(
     path: &'a str,
     seed: u32,
 ) -> Result<ExitCode, PathFault<'a>>
-    ensures ok { IfOk result (λ status. exit_status status ≡ 0) }
+    ensures ok { DoneMeansZero result }
     ensures err { IfErr result (IsUnsaved path.entry) }
 {
     let net = read_network(rt, network)?;

@@ -1,6 +1,6 @@
 //! `simulate FILE EVENTS`: replays a list of events on a network.
-ghost use Rattle.std.specs.Prelude.{◌≡◌, ◌⊎◌, IfOk, option_map};
-ghost use Rattle.std.specs.Process.{exit_status};
+ghost use Rattle.std.specs.Prelude.{◌≡◌, option_map};
+ghost use Rattle.command_parts.specs.command_faults.Ends.{DoneMeansZeroOr};
 ghost use Rattle.subcommands.specs.Hints.{loan_hint};
 
 use crate::layers_text::layers_text;
@@ -27,7 +27,7 @@ pub fn run<R: Files + Input + Print + Eprint + AllocGlobal>(
     events: &str,
     layers: bool,
 ) -> Result<ExitCode, Fault>
-    ensures { IfOk result (λ status. (exit_status status ≡ 0) ⊎ (exit_status status ≡ 3)) }
+    ensures { DoneMeansZeroOr 3 result }
 {
     let net = read_network(rt, network)?;
     let summary = if events == STANDARD_INPUT {

@@ -1,7 +1,7 @@
 //! `worst FILE`: how late a network can serve, as far as a search finds.
 ghost use Rattle.std.specs.Prelude.{◌≡◌, ◌⊎◌, ◌++◌, ◌+◌, ◌-◌, ◌^◌, min, [], Err, IfOk, IfErr, OnOk, string_bytes};
 ghost use Rattle.std.specs.Io.Buffered.{writer_buffer, writer_contents};
-ghost use Rattle.std.specs.Process.{exit_status};
+ghost use Rattle.command_parts.specs.command_faults.Ends.{DoneMeansZero};
 ghost use Rattle.byte_streams.specs.Streams.{CountsFailures};
 ghost use Rattle.command_parts.specs.EventText.{GrowsByText};
 ghost use Rattle.network_commands.specs.Faults.{IsUnprinted};
@@ -77,7 +77,7 @@ pub fn run<R: Files + Print + Eprint + Clock + AllocGlobal + Threads + Sync>(
     plan: Plan,
     events: Option<&str>,
 ) -> Result<ExitCode, Fault>
-    ensures ok { IfOk result (λ status. exit_status status ≡ 0) }
+    ensures ok { DoneMeansZero result }
     ensures err { IfErr result (λ fault. IsUnprinted fault ⊎ IsUnwritten fault) }
 {
     let net = read_network(rt, network)?;

@@ -26,13 +26,12 @@
 //! own files.
 #![tactic(auto)]
 
-use command_line::{fill_standard_streams, own_words, run_words};
+use command_line::{begin, run_words};
 use std::io::IsTerminal;
 use std::process::ExitCode;
 
 fn main(rt: HostRuntime) -> ExitCode {
-    fill_standard_streams(&rt);
-    match own_words(&rt) {
+    match begin(&rt) {
         Ok(words) => run_words(&rt, words.as_slice(), rt.stderr().is_terminal()),
         Err(status) => status,
     }

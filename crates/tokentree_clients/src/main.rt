@@ -8,12 +8,11 @@
 #![tactic(auto)]
 
 use client_words::run_words;
-use network_words::{fill_standard_streams, own_words};
+use network_words::begin;
 use std::process::ExitCode;
 
 fn main(rt: HostRuntime) -> ExitCode {
-    fill_standard_streams(&rt);
-    match own_words(&rt) {
+    match begin(&rt) {
         Ok(words) => run_words(&rt, words.as_slice()),
         Err(status) => status,
     }

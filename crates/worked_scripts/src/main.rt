@@ -12,7 +12,7 @@
 //! The status of the first three is 0 if all could be run, however that ended, and else 1.
 #![tactic(auto)]
 
-use command_line::{fill_standard_streams, own_words, run_words};
+use command_line::{begin, run_words};
 use std::env;
 use std::io::{self, IsTerminal};
 use std::os::fd::OwnedFd;
@@ -21,8 +21,7 @@ use std::path::AsPath;
 use std::process::{Command, ExitCode};
 
 fn main(rt: HostRuntime) -> ExitCode {
-    fill_standard_streams(&rt);
-    let words = match own_words(&rt) {
+    let words = match begin(&rt) {
         Ok(words) => words,
         Err(status) => return status,
     };
