@@ -27,12 +27,8 @@ impl<S: Source + Drop> Model for BegunFile<S> {
 
     ghost Value = { FileView };
 
-    ghost view = { λ f. record {
-      file = f.file;
-      bytes = to_come (S.rest f.pages.source) f.pages.page;
-      last = f.pages.reader;
-      first = f.first;
-    } };
+    ghost view = { λ f. record
+        { file = f.file; bytes = to_come (S.rest f.pages.source) f.pages.page; last = f.pages.reader; first = f.first } };
 }
 
 impl<S: Source + Drop> BegunFile<S> {

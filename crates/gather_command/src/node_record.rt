@@ -31,14 +31,8 @@ impl<S: Source + Drop> Model for NodeRecord<S> {
 
     ghost Value = { NodeRecordView };
 
-    ghost view = { λ r. record {
-      present = r.present;
-      later = r.later;
-      frames = r.frames;
-      head = r.head;
-      earlier = r.earlier;
-      flaw = r.flaw;
-    } };
+    ghost view = { λ r. record
+        { present = r.present; later = r.later; frames = r.frames; head = r.head; earlier = r.earlier; flaw = r.flaw } };
 }
 
 /// What is wrong with a file, of which an entry of this instant was read last.

@@ -47,12 +47,8 @@ impl Model for Watch {
 
     ghost Value = { WatchView };
 
-    ghost view = { λ w. record {
-      nodes = w.nodes.items;
-      longest_turn = w.longest_turn;
-      loans = w.loans;
-      longest_loan = w.longest_loan;
-    } };
+    ghost view = { λ w. record
+        { nodes = w.nodes.items; longest_turn = w.longest_turn; loans = w.loans; longest_loan = w.longest_loan } };
 }
 
 /// The time since an instant, if there was one.

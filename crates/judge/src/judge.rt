@@ -86,13 +86,8 @@ impl<A: Allocator + Copy> Model for Judge<A> {
 
     ghost Value = { JudgeView };
 
-    ghost view = { λ j. record {
-      configuration = j.configuration;
-      stretch = j.stretch;
-      sweeps = j.sweeps;
-      refused = j.refused;
-      visited = j.visited;
-    } };
+    ghost view = { λ j. record
+        { configuration = j.configuration; stretch = j.stretch; sweeps = j.sweeps; refused = j.refused; visited = j.visited } };
 
     ghost invariant = { λ j. IsRoomFor j.configuration.links.net j.stretch };
 }

@@ -51,14 +51,8 @@ impl<A: Allocator> Model for Node<A> {
 
     ghost Value = { NodeView };
 
-    ghost view = { λ n. record {
-      id = n.id;
-      is_root = n.is_root;
-      distance = n.distance;
-      parent = n.parent;
-      registers = n.registers;
-      desk = n.desk;
-    } };
+    ghost view = { λ n. record
+        { id = n.id; is_root = n.is_root; distance = n.distance; parent = n.parent; registers = n.registers; desk = n.desk } };
 
     ghost invariant = { λ n. IsOwnInRange
         (record {

@@ -29,11 +29,8 @@ impl<A: Allocator> Model for Notes<A> {
 
     ghost Value = { NotesView };
 
-    ghost view = { λ n. record {
-      deeds = or_else [] (λ v. v.items) n.deeds;
-      room = or_else 0 vec_capacity n.deeds;
-      is_torn = n.is_torn;
-    } };
+    ghost view = { λ n. record
+        { deeds = or_else [] (λ v. v.items) n.deeds; room = or_else 0 vec_capacity n.deeds; is_torn = n.is_torn } };
 }
 
 impl<A: Allocator> Notes<A> {

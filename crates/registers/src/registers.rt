@@ -34,12 +34,8 @@ impl<A: Allocator> Model for Registers<A> {
 
     ghost Value = { RegistersView };
 
-    ghost view = { λ r. record {
-      ranges = r.ranges;
-      neighbours = r.neighbours.items;
-      ports = r.ports.items;
-      values = r.values.items;
-    } };
+    ghost view = { λ r. record
+        { ranges = r.ranges; neighbours = r.neighbours.items; ports = r.ports.items; values = r.values.items } };
 
     ghost invariant = { λ r. (r.ranges.nodes ≤ vec_capacity r.neighbours)
         × IsRegisters (record {

@@ -32,13 +32,8 @@ impl<A: Allocator + Copy> Model for Lanes<A> {
 
     ghost Value = { LanesView };
 
-    ghost view = { λ l. record {
-      states = l.states.items;
-      limit = l.limit;
-      width = l.width;
-      left = l.left;
-      moments = l.moments;
-    } };
+    ghost view = { λ l. record
+        { states = l.states.items; limit = l.limit; width = l.width; left = l.left; moments = l.moments } };
 
     ghost invariant = { λ l. (0 < l.limit)
         × (length l.states.items ≤ l.limit)

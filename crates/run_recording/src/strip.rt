@@ -37,13 +37,8 @@ impl<A: Allocator + Copy> Model for Strip<A> {
 
     ghost Value = { StripView };
 
-    ghost view = { λ s. record {
-      columns = s.columns.items;
-      width = s.width;
-      last = s.last;
-      limit = s.limit;
-      moments = s.moments;
-    } };
+    ghost view = { λ s. record
+        { columns = s.columns.items; width = s.width; last = s.last; limit = s.limit; moments = s.moments } };
 
     ghost invariant = { λ s. (0 < s.limit)
         × (length s.columns.items ≤ s.limit)
