@@ -23,10 +23,7 @@ pub fn below()
     lock_desk::laws::loans_need_privilege();
     lock_desk::laws::waiting_tickets_are_served();
     lock_desk::laws::one_loan_a_stay();
-    run_model::laws::runs();
-    run_model::laws::in_range();
-    run_model::laws::sweep_numbers();
-    run_model::laws::ticks();
+    crate::ring_laws::below();
     tree_convergence::laws::links();
     tree_convergence::laws::payloads();
     tree_convergence::laws::tree();
