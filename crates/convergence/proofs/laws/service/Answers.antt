@@ -5,6 +5,9 @@ use Rattle.convergence.proofs.laws.service.Goals as goal
 
 pub returns : goal.returns
 returns c = let below = c.below.ensures in record {
-  legitimate = legitimate-visits below; each_state = each-state_visits below; passes = moves-pass_served below;
-  clears = moves-clear below; served = waiting-are_served below;
+  legitimate = legitimate-visits below;
+  each_state = each-state_visits below;
+  passes = moves-pass_served below;
+  clears = moves-clear below;
+  served = waiting-are_served below;
 }

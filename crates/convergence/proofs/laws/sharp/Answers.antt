@@ -3,6 +3,9 @@ use Rattle.convergence.proofs.laws.sharp.Goals as goal
 
 pub returns : goal.returns
 returns c = let below = c.below.ensures in record {
-  links = links-converge_sooner below; tree = tree-converges_sooner below; token_ring = ring-converges_sooner below;
-  world = world-converges_sooner below; headline = sharp-headline below;
+  links = links-converge_sooner below;
+  tree = tree-converges_sooner below;
+  token_ring = ring-converges_sooner below;
+  world = world-converges_sooner below;
+  headline = sharp-headline below;
 }

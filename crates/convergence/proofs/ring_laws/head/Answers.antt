@@ -3,5 +3,7 @@ use Rattle.convergence.proofs.ring_laws.head.Goals as goal
 
 pub returns : goal.returns
 returns c = let below = c.below.ensures in record {
-  runs = ring-runs below; moves_turn_good = moves-turn_good below; moves = head-moves below;
+  runs = ring-runs below;
+  moves_turn_good = moves-turn_good below;
+  moves = head-moves below;
 }

@@ -3,5 +3,7 @@ use Rattle.convergence.proofs.ring_laws.visits.Goals as goal
 
 pub returns : goal.returns
 returns c = let below = c.below.ensures in record {
-  in_two_moves = privilege-goes_round below; in_sweeps = privilege-visits below; machines = machines-move below;
+  in_two_moves = privilege-goes_round below;
+  in_sweeps = privilege-visits below;
+  machines = machines-move below;
 }

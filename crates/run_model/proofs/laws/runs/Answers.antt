@@ -4,6 +4,10 @@ use Rattle.run_model.proofs.laws.runs.Goals as goal
 
 pub returns : goal.returns
 returns c = record {
-  refused = refused-stays; network = run-network; frame = run-frame; join = runs-join;
-  undamaged_joins = undamaged-joins; undamaged_splits = undamaged-splits;
+  refused = refused-stays;
+  network = run-network;
+  frame = run-frame;
+  join = runs-join;
+  undamaged_joins = undamaged-joins;
+  undamaged_splits = undamaged-splits;
 }
