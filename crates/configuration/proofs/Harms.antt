@@ -1,8 +1,9 @@
 -- Harms that write a node.
-use Rattle.std.proofs.Common.{rules, ◌≡◌, ◌∙◌, ◌↔◌, ◌<◌, ap, sym, arith, refl, ℕ, IsTrue, None, Some, Result, Ok, Err, IsOk, OnOk, OnErr, IfOk, IfErr, nat_lt, slice_set, Bool, true, false, ◌&&◌, ◌++◌, ◌∷◌, [], length, if◌then◌else◌}
+use Rattle.std.proofs.Common.{rules, ◌≡◌, ◌∙◌, ◌↔◌, ◌<◌, ap, subst, sym, arith, refl, ℕ, IsTrue, None, Some, Result, Ok, Err, IsOk, OnOk, OnErr, IfOk, IfErr, nat_lt, slice_set, Bool, true, false, ◌&&◌, ◌++◌, ◌∷◌, [], length, if◌then◌else◌}
 use Rattle.std.proofs.lemmas.Grind.{common_steps}
 use Rattle.run_model.specs.node_core.State.{LocalState}
-use Rattle.run_model.specs.node_core.View.{NodeView, state_of}
+use Rattle.run_model.specs.node_core.Site.{site_of}
+use Rattle.run_model.specs.node_core.View.{NodeView, site_in, state_of}
 use Rattle.run_model.specs.World.{World, at_pair, item_fits, with_node}
 use Rattle.run_model.specs.Step.{harm_fault, harm_fits, harm_place_fault, harmed, has_room, link_fault, refusal, step, unless}
 use Rattle.run_model.specs.declared.event.Event.TheVariants.{Damage}
@@ -12,9 +13,10 @@ use Rattle.run_model.specs.declared.event.Harm.{Harm}
 use Rattle.run_model.specs.declared.event.Harm.TheVariants as harm
 use Rattle.run_model.specs.link_model.declared.item.Item.{Item}
 use Rattle.topology.specs.Ranges.{ranges_of}
+use Rattle.topology.specs.declared.frame.Ranges.{Ranges}
 use Rattle.configuration.specs.LinksView.{LinksView, under_way}
 use Rattle.configuration.specs.ConfigurationView.{ConfigurationView, world_of}
-use Rattle.configuration.proofs.NodePlaces.{IsNodeAt}
+use Rattle.configuration.proofs.NodePlaces.{IsNodeAt, IsPortAt, site-is}
 use Rattle.run_model.specs.declared.happened.Happened.{Happened}
 use Rattle.run_model.specs.declared.happened.Happened.TheVariants.{Damaged}
 use Rattle.configuration.specs.Answers.{Answers}
@@ -73,6 +75,19 @@ harm-answers w v p old new harm f r answer h found writes iff makes ok err same 
   did = did;
   err = harm-err (world_of w) harm found writes answer (same-cases same iff) fault;
 }
+
+-- the same for a writer that is given the port of a link, and checks by the ranges of its node
+pub port-answers : {T E : Type 0} {w seen : ConfigurationView} {v u p : ℕ} {old : NodeView} (new : NodeView) (r : Result T E) (answer : Result Happened EventFault)
+    (harm : Harm) (fits : Ranges → Bool) (f : LocalState → LocalState) → w ≡ seen → IsPortAt w v u p old
+    → harm_place_fault (world_of w) harm ≡ link_fault (world_of w) v u → harm_fault (world_of w) harm ≡ unless (harm_fits (world_of w) harm) OutOfRange
+    → harm_fits (world_of w) harm ≡ fits (site_of w.links.net v).ranges → harmed (world_of w) harm ≡ with_node (world_of w) v (f ((world_of w).node v))
+    → (IsOk r ↔ IsTrue (fits (site_in old).ranges)) → OnOk r (state_of new ≡ f (state_of old)) → OnErr r (new ≡ old)
+    → (IsOk answer ↔ IsOk r) → IfOk answer (λ did. did ≡ Damaged) → IfErr answer (λ fault. fault ≡ OutOfRange)
+    → Answers seen (Damage harm) (record w { nodes = slice_set w.nodes p new }) answer
+port-answers {w = w} {v = v} {p = p} {old = old} new r answer harm fits f is port place writes in_range makes iff ok err same did fault =
+    let ranged : IsOk r ↔ IsTrue (harm_fits (world_of w) harm) =
+    rw in_range (subst (λ s. IsOk r ↔ IsTrue (fits s.ranges)) (site-is _ _ _ _ _ port.here) iff) in
+    rw (← is) (harm-answers w v p old new harm f r answer port.here (place ∙ port.found) writes ranged makes ok err same did fault)
 
 -- an item that fits, and finds room, is one more on its link
 item-there : (a b : Bool) → IsTrue (a && b) → IsTrue a × IsTrue b

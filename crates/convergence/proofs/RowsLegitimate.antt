@@ -1,11 +1,12 @@
 -- Two nodes and links of capacity 1: the token ring after the first rounds, a legitimate world,
 -- and worlds that fail in just one way each.
-use Rattle.std.proofs.Common.{◌≡◌, [], ◌∷◌, IsTrue, ◌==◌, ◌&&◌, refl, ap, inl, arith}
+use Rattle.std.proofs.Common.{◌≡◌, ℕ, List, [], ◌∷◌, IsTrue, ◌==◌, ◌&&◌, refl, ap, inl, arith}
 use Rattle.std.proofs.lemmas.Bool.{false≢true}
 use Rattle.std.specs.Prelude.{if◌then◌else◌}
 use Rattle.topology.specs.declared.frame.Payload.{Payload}
+use Rattle.link_model.specs.declared.item.Item.{Item}
 use Rattle.link_model.specs.declared.item.Item.TheVariants.{Frame}
-use Rattle.lock_desk.specs.Desk.{no_desk}
+use Rattle.lock_desk.specs.Desk.{DeskState, no_desk}
 use Rattle.run_model.specs.World.{World}
 use Rattle.run_model.specs.Tree.{IsTreeReached}
 use Rattle.run_model.specs.Links.{AreLinksStable}
@@ -55,27 +56,29 @@ ring-not_good h = grind arith
 pub forged-not_legitimate : ¬ IsLegitimate forged
 forged-not_legitimate l = ring-not_good l.ring
 
--- ---- not legitimate, just for its loans
+-- a world with other desks and links, whose tree is reached all the same
+abbrev like_calm : (ℕ → DeskState) → (ℕ → ℕ → List Item) → World
+like_calm desk link = record { net = two_nodes; spares = 0; node = λ v. node_with v (desk v) 0 0 0; link = link }
 
--- node 1 lends, and only node 0 is privileged
-abbrev unprivileged : World
-unprivileged = record {
-  net = two_nodes;
-  spares = 0;
-  node = λ v. node_with v (if v == 0 then no_desk else lending_desk) 0 0 0;
-  link = λ u v. [];
-}
-
-unprivileged-links_stable : AreLinksStable unprivileged
-unprivileged-links_stable = calm-links_stable
-
-unprivileged-tree_reached : IsTreeReached unprivileged
-unprivileged-tree_reached = record {
+reached-like_calm : (desk : ℕ → DeskState) (link : ℕ → ℕ → List Item) → IsTreeReached (like_calm desk link)
+reached-like_calm desk link = record {
   distance = calm-tree_reached.distance;
   parent = calm-tree_reached.parent;
   staged = λ v u j. let p = calm-tree_reached.staged v u j in record { distance = p.distance; parent = p.parent };
   copied = λ v u j. let p = calm-tree_reached.copied v u j in record { distance = p.distance; parent = p.parent };
 }
+
+-- ---- not legitimate, just for its loans
+
+-- node 1 lends, and only node 0 is privileged
+abbrev unprivileged : World
+unprivileged = like_calm (λ v. if v == 0 then no_desk else lending_desk) (λ u v. [])
+
+unprivileged-links_stable : AreLinksStable unprivileged
+unprivileged-links_stable = calm-links_stable
+
+unprivileged-tree_reached : IsTreeReached unprivileged
+unprivileged-tree_reached = reached-like_calm (λ v. if v == 0 then no_desk else lending_desk) unprivileged.link
 
 unprivileged-ring_good : IsTokenRingGood unprivileged
 unprivileged-ring_good = calm-is_legitimate.ring
@@ -99,20 +102,10 @@ unprivileged-serves = record {
 -- a frame is under way to node 1 with the number of node 0's port, and a ring value that node 0 has
 -- not staged
 abbrev late : World
-late = record {
-  net = two_nodes;
-  spares = 0;
-  node = calm.node;
-  link = λ u v. if (u == 0) && (v == 1) then Frame (record { seq = 0; ack = 0; payload = shown 0 3 }) ∷ [] else [];
-}
+late = like_calm (λ v. no_desk) (λ u v. if (u == 0) && (v == 1) then Frame (record { seq = 0; ack = 0; payload = shown 0 3 }) ∷ [] else [])
 
 late-tree_reached : IsTreeReached late
-late-tree_reached = record {
-  distance = calm-tree_reached.distance;
-  parent = calm-tree_reached.parent;
-  staged = λ v u j. let p = calm-tree_reached.staged v u j in record { distance = p.distance; parent = p.parent };
-  copied = λ v u j. let p = calm-tree_reached.copied v u j in record { distance = p.distance; parent = p.parent };
-}
+late-tree_reached = reached-like_calm (λ v. no_desk) late.link
 
 late-ring_good : IsTokenRingGood late
 late-ring_good = calm-is_legitimate.ring

@@ -15,7 +15,6 @@ ghost use Rattle.run_model.specs.Headline.{Headline};
 
 use crate::ring_laws;
 use lock_desk::laws as lock_desk_laws;
-use run_model::laws as run_model_laws;
 use tree_convergence::laws as tree_convergence_laws;
 pub use tree_convergence::laws::links;
 
@@ -27,10 +26,7 @@ pub fn below()
     lock_desk_laws::loans_need_privilege();
     lock_desk_laws::waiting_tickets_are_served();
     lock_desk_laws::one_loan_a_stay();
-    run_model_laws::runs();
-    run_model_laws::in_range();
-    run_model_laws::sweep_numbers();
-    run_model_laws::ticks();
+    ring_laws::below();
     tree_convergence_laws::links();
     tree_convergence_laws::payloads();
     tree_convergence_laws::tree();

@@ -19,6 +19,7 @@ use Rattle.run_model.specs.declared.event.Harm.{Harm}
 use Rattle.run_model.specs.declared.event.Harm.TheVariants as harm
 use Rattle.damage_tool.specs.Draws.{draw, number_or_none, draw_parent, draw_payload}
 use Rattle.damage_tool.specs.Harms.{draw_item}
+use Rattle.damage_tool.proofs.Neighbours.{IsLink}
 
 -- ---- what is drawn is in range
 
@@ -67,12 +68,6 @@ item-fits r g counter ring =
 pub own-accepted : (net : Network) (w : World) (v d : ℕ) (p : Option ℕ) → w.net ≡ net → v < net.nodes → d < net.nodes + 1
     → parent_fits net.nodes p ≡ true → refusal w (Damage (harm.Own v d p)) ≡ None
 own-accepted net w v d p same node distance parent = grind (arith, common_steps, nat_tests)
-
--- the two are nodes of the network, and joined
-pub record IsLink (net : Network) (u v : ℕ) : Type 0 where
-  pub first : u < net.nodes
-  pub second : v < net.nodes
-  pub joined : are_joined net.edges u v ≡ true
 
 place : (net : Network) (w : World) (u v : ℕ) → w.net ≡ net → IsLink net u v → link_fault w u v ≡ None
 place net w u v same link = grind (arith, common_steps, nat_tests, link.first, link.second, link.joined)

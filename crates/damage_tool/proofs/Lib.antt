@@ -1,3 +1,4 @@
+pub mod Neighbours
 pub mod Accepted
 pub mod Drawing
 pub mod JunkBytes

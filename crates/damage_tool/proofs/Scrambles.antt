@@ -17,7 +17,8 @@ use Rattle.run_model.specs.declared.event.Harm.TheVariants as harm
 use Rattle.damage_tool.specs.Draws.{draw, draw_parent, draw_payload}
 use Rattle.damage_tool.specs.Harms.{draw_each, draw_port_harms, draw_desk, draw_node, draw_item, draw_item_harm, draw_link, draw_links_from, draw_world}
 use Rattle.damage_tool.specs.Laws.{AreAccepted}
-use Rattle.damage_tool.proofs.Accepted.{draw-below, parent-drawn, payload-drawn, counters-fit, item-fits, IsLink, own-accepted, counters-accepted, staged-accepted, copy-accepted, value-accepted, empty-accepted, item-accepted, none-accepted, loan-accepted, accepted-step, harmed-waits, emptied, one-more}
+use Rattle.damage_tool.proofs.Accepted.{draw-below, parent-drawn, payload-drawn, counters-fit, item-fits, own-accepted, counters-accepted, staged-accepted, copy-accepted, value-accepted, empty-accepted, item-accepted, none-accepted, loan-accepted, accepted-step, harmed-waits, emptied, one-more}
+use Rattle.damage_tool.proofs.Neighbours.{IsLink, all-range, all-neighbours}
 
 -- the world has this network, and the ticket 65535 waits at none of its nodes
 pub record IsOpen (net : Network) (w : World) : Type 0 where
@@ -61,26 +62,6 @@ goes-each net draws (x ∷ xs) (one, rest) w g o =
     let d = draws x g in
     let first = one w g o in
     goes-append net w d.0 (draw_each draws xs d.1).0 first (goes-each net draws xs rest (run w d.0) d.1 first.open_then)
-
--- ---- over all nodes, and all neighbours
-
-all-range : (P : ℕ → Type 0) (i n : ℕ) → ((x : ℕ) → x < i + n → P x) → AllByRecursion P (range_with_len i n)
-all-range P i zero h = tt
-all-range P i (suc n) h = (h i (omega arith), all-range P (i + 1) n (λ x below. h x (omega arith)))
-
-kept-or-not : (P : ℕ → Type 0) (b : Bool) (x : ℕ) (xs : List ℕ) → (b ≡ true → P x) → AllByRecursion P xs → AllByRecursion P (if b then x ∷ xs else xs)
-kept-or-not P true x xs h all = (h refl, all)
-kept-or-not P false x xs h all = all
-
-all-filter : (P : ℕ → Type 0) (test : ℕ → Bool) (xs : List ℕ) → AllByRecursion (λ x. test x ≡ true → P x) xs → AllByRecursion P (filter test xs)
-all-filter P test [] all = tt
-all-filter P test (x ∷ xs) (one, rest) = kept-or-not P (test x) x (filter test xs) one (all-filter P test xs rest)
-
-all-neighbours : (P : ℕ → Type 0) (net : Network) (u : ℕ) → u < net.nodes → ((v : ℕ) → IsLink net u v → P v) → AllByRecursion P (neighbours_of net u)
-all-neighbours P net u node h =
-    all-filter P (are_joined net.edges u) (range_with_len 0 net.nodes)
-    (all-range (λ v. are_joined net.edges u v ≡ true → P v) 0 net.nodes
-    (λ v below joined. h v (record { first = node; second = omega arith; joined = joined })))
 
 -- ---- the parts
 

@@ -64,6 +64,7 @@ impl TreeNeighbours {
 
     /// Where the tour goes on that came in from the tree neighbour `t`: the next one up, and after
     /// the largest the smallest. Of a single one it is `t` itself.
+    #[tactic(auto, using(crate::proofs::Masks::on_below, crate::proofs::Ascending::next_on))]
     pub fn next_after(&self, t: u16) -> u16
         requires { IsTrue (is_on self.now t) }
         ensures next { result ≡ next_after self.now t }
@@ -77,6 +78,7 @@ impl TreeNeighbours {
 
     /// Where the tour came in from that leaves towards the tree neighbour `w`: the next one down,
     /// and before the smallest the largest.
+    #[tactic(auto, using(crate::proofs::Masks::on_below))]
     pub fn source_for(&self, w: u16) -> u16
         requires { IsTrue (is_on self.now w) }
         ensures source { result ≡ source_for self.now w }

@@ -72,31 +72,29 @@ unmoved w e v fits fine other =
 -- ---- masks, bit by bit
 
 -- one more node was looked at, and is privileged or not
-pub one-more : (here : ℕ → Bool) (mask new node : ℕ) → ((v : ℕ) → has_bit mask v ≡ (nat_lt v node && here v))
-    → ((v : ℕ) → has_bit new v ≡ (has_bit mask v || v == node)) → here node ≡ true
+next-bit : (here : ℕ → Bool) (mask new node : ℕ) (bit : Bool) → ((v : ℕ) → has_bit mask v ≡ (nat_lt v node && here v))
+    → ((v : ℕ) → has_bit new v ≡ (has_bit mask v || (v == node && bit))) → here node ≡ bit
     → (v : ℕ) → has_bit new v ≡ (nat_lt v (node + 1) && here v)
-one-more here mask new node before with there v =
-    by-test (v == node) refl
+next-bit here mask new node bit before with there v = by-test (v == node) refl
   where
     by-test : (b : Bool) → (v == node) ≡ b → has_bit new v ≡ (nat_lt v (node + 1) && here v)
     by-test true e =
         let same : v ≡ node = grind (arith, common_steps, e) in
-        let a = with v in
-        let h : here v ≡ true = subst (λ k. here k ≡ true) (sym same) there in
-        grind (arith, common_steps, a, e, h, same)
+        let a = before v in
+        let b = with v in
+        let h : here v ≡ bit = subst (λ k. here k ≡ bit) (sym same) there in
+        grind (arith, common_steps, a, b, e, h, same)
     by-test false e = let a = before v in let b = with v in grind (arith, common_steps, a, b, e)
+
+pub one-more : (here : ℕ → Bool) (mask new node : ℕ) → ((v : ℕ) → has_bit mask v ≡ (nat_lt v node && here v))
+    → ((v : ℕ) → has_bit new v ≡ (has_bit mask v || v == node)) → here node ≡ true
+    → (v : ℕ) → has_bit new v ≡ (nat_lt v (node + 1) && here v)
+one-more here mask new node before with there =
+    next-bit here mask new node true before (λ v. let w = with v in grind (arith, common_steps, w)) there
 
 pub none-more : (here : ℕ → Bool) (mask node : ℕ) → ((v : ℕ) → has_bit mask v ≡ (nat_lt v node && here v)) → here node ≡ false
     → (v : ℕ) → has_bit mask v ≡ (nat_lt v (node + 1) && here v)
-none-more here mask node before other v = by-test (v == node) refl
-  where
-    by-test : (b : Bool) → (v == node) ≡ b → has_bit mask v ≡ (nat_lt v (node + 1) && here v)
-    by-test true e =
-        let same : v ≡ node = grind (arith, common_steps, e) in
-        let a = before v in
-        let h : here v ≡ false = subst (λ k. here k ≡ false) (sym same) other in
-        grind (arith, common_steps, a, h)
-    by-test false e = let a = before v in grind (arith, common_steps, a, e)
+none-more here mask node before other = next-bit here mask mask node false before (λ v. grind (arith, common_steps)) other
 
 -- a mask has the bits of the nodes visited before or now
 old-bit : (bit inside old here next : Bool) → bit ≡ (inside && old) → (here ≡ true → old ≡ true) → next ≡ (old || here) → bit ≡ (inside && next)

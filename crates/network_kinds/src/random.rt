@@ -13,6 +13,7 @@ use rand_pcg::Lcg64Xsh32;
 use std::alloc::{AllocError, Allocator};
 
 /// A number below `values`: the next word modulo how many values there are.
+#[tactic(auto, unfolding(crate::specs::Random::draw))]
 fn draw_below(generator: &mut Lcg64Xsh32, values: usize) -> usize
     requires { 0 < values }
     ensures drawn { result ≡ (draw values generator.old).0 }

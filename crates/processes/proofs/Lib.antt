@@ -1,5 +1,4 @@
 pub mod Lists
-pub mod Changed
 pub mod OneMark
 pub mod Steps
 pub mod SameHistory

@@ -22,7 +22,7 @@ use Rattle.run_model.specs.declared.event.Event.TheVariants.{Ask, Leave, Take, T
 use Rattle.accounts.specs.Deeds.{Deed, Ticks, Sends, Takes, Asks, Leaves, Leads, sent_to}
 use Rattle.processes.specs.Connections.{AreInRange}
 use Rattle.processes.specs.Timing.{after_deed}
-use Rattle.processes.proofs.Changed.{at-each, at-here, at_pair-each, at_pair-here}
+use Rattle.run_model.proofs.Changed.{at-each, at-here, at_pair-each, at_pair-here}
 use Rattle.processes.proofs.OneDeed.{IsOwn, first-deed}
 use Rattle.processes.proofs.Steps.{ask-step, leave-step, take-fine, take-step, tick-step}
 

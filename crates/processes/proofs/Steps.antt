@@ -26,7 +26,7 @@ use Rattle.processes.specs.Accounts.{Timed, deeds}
 use Rattle.processes.specs.Links.{Act, Accepts, Gives, Loses, the_losses, Plays}
 use Rattle.processes.specs.Marks.{Mark, Does, Drops, account_of, history_of}
 use Rattle.processes.specs.Through.{IsDone}
-use Rattle.processes.proofs.Changed.{at-each, at-same, at_pair-each}
+use Rattle.run_model.proofs.Changed.{at-each, at-same, at_pair-each}
 use Rattle.processes.proofs.OneMark.{done-here, done-there, send-here, send-there, take-here, take-there, drop-here, drop-there}
 
 -- what holds of a world and of all marks that are to come

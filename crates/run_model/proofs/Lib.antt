@@ -1,6 +1,7 @@
 pub mod Steps
 pub mod Runs
 pub mod Along
+pub mod Changed
 pub mod Touches
 pub mod Splits
 pub mod LinkSteps

@@ -52,25 +52,24 @@ EndsAreConnections {P} gave took =
 
 module _ {P : Type 0} (gave took : P → Option (List ℕ)) (counts : P → Counts) where
   -- Nodes that run have connections, one after the other at each port; and if the pipes of these
-  -- connections are joined two by two, the nodes are processes over links of bytes,
-  abbrev pub NodeRunsAreProcesses : Type 0
-  NodeRunsAreProcesses =
+  -- connections are joined two by two, then this holds of what the nodes did over these links:
+  abbrev pub IfPipesAreJoined :
+      (World → (ℕ → List Timed) → Wires → World → Type 0) → Type 0
+  IfPipesAreJoined Holds =
       (w last : World) (runs : Runs P) (account : ℕ → List Timed) → IsWorldInRange w
       → AreNodeRuns gave took counts w runs account last
       → (stood : ℕ → ℕ → List (Stood P)) × AreConnections gave took w runs stood
       × ((ends : ℕ → ℕ → List (Ends P)) (wires : Wires)
-      → ArePipes gave took w account stood ends wires last
-      → AreProcessesOverBytes w account wires last)
+      → ArePipes gave took w account stood ends wires last → Holds w account wires last)
+
+  -- the nodes are processes over links of bytes,
+  abbrev pub NodeRunsAreProcesses : Type 0
+  NodeRunsAreProcesses = IfPipesAreJoined AreProcessesOverBytes
 
   -- so the headline and the service hold of them.
   abbrev pub NodeRunsKeepPromise : Type 0
-  NodeRunsKeepPromise =
-      (w last : World) (runs : Runs P) (account : ℕ → List Timed) → IsWorldInRange w
-      → AreNodeRuns gave took counts w runs account last
-      → (stood : ℕ → ℕ → List (Stood P)) × AreConnections gave took w runs stood
-      × ((ends : ℕ → ℕ → List (Ends P)) (wires : Wires)
-      → ArePipes gave took w account stood ends wires last
-      → ((some : List Event) × IsOrderOf account (history_on w wires) some)
+  NodeRunsKeepPromise = IfPipesAreJoined (λ w account wires last.
+      ((some : List Event) × IsOrderOf account (history_on w wires) some)
       × ((events : List Event) → IsOrderOf account (history_on w wires) events
       → KeepsPromise w last events))
 

@@ -15,7 +15,8 @@ use Rattle.configuration.specs.run_model.Laws.{NetworkStays}
 use Rattle.configuration.specs.run_model.declared.event.Event.{Event}
 use Rattle.configuration.specs.run_model.declared.event.Event.TheVariants.{Send, Take}
 use Rattle.schedules.specs.Rounds.{exchanges, exchanges_from}
-use Rattle.schedules.proofs.Plain.{IsLink, ArePlain, plain-net, plain-step, plain-exchanges, all-from, all-neighbours, send-accepted}
+use Rattle.damage_tool.proofs.Neighbours.{IsLink, all-neighbours}
+use Rattle.schedules.proofs.Plain.{ArePlain, plain-net, plain-step, plain-exchanges, all-from, send-accepted}
 
 pub handed-append : (w : World) (xs ys : List Event) (u v : ℕ) → handed_in w (xs ++ ys) u v ≡ handed_in w xs u v + handed_in (run w xs) ys u v
 handed-append w [] ys u v = grind arith

@@ -13,13 +13,8 @@ use Rattle.configuration.specs.run_model.Laws.{NetworkStays}
 use Rattle.configuration.specs.run_model.declared.event.Event.{Event}
 use Rattle.configuration.specs.run_model.declared.event.Event.TheVariants.{Send, Take, Lose, Tick, Ask, Leave, Damage}
 use Rattle.damage_tool.specs.Laws.{AreAccepted}
+use Rattle.damage_tool.proofs.Neighbours.{IsLink, all-range, all-neighbours}
 use Rattle.schedules.specs.Rounds.{exchanges, exchanges_from, round, rounds}
-
--- the two are nodes of the network, and joined
-pub record IsLink (net : Network) (u v : ℕ) : Type 0 where
-  pub first : u < net.nodes
-  pub second : v < net.nodes
-  pub joined : are_joined net.edges u v ≡ true
 
 -- the event is a tick of a node, or a send or a take on a link
 abbrev pub IsPlain : Network → Event → Type 0
@@ -58,24 +53,6 @@ pub take-accepted : (net : Network) (w : World) (u v : ℕ) → w.net ≡ net �
 take-accepted net w u v same link = grind (arith, common_steps, nat_tests, link.first, link.second, link.joined)
 
 -- ---- the events of rounds are plain
-
-pub all-range : (P : ℕ → Type 0) (i n : ℕ) → ((x : ℕ) → x < i + n → P x) → AllByRecursion P (range_with_len i n)
-all-range P i zero h = tt
-all-range P i (suc n) h = (h i (omega arith), all-range P (i + 1) n (λ x below. h x (omega arith)))
-
-kept-or-not : (P : ℕ → Type 0) (b : Bool) (x : ℕ) (xs : List ℕ) → (b ≡ true → P x) → AllByRecursion P xs → AllByRecursion P (if b then x ∷ xs else xs)
-kept-or-not P true x xs h all = (h refl, all)
-kept-or-not P false x xs h all = all
-
-all-filter : (P : ℕ → Type 0) (test : ℕ → Bool) (xs : List ℕ) → AllByRecursion (λ x. test x ≡ true → P x) xs → AllByRecursion P (filter test xs)
-all-filter P test [] all = tt
-all-filter P test (x ∷ xs) (one, rest) = kept-or-not P (test x) x (filter test xs) one (all-filter P test xs rest)
-
-pub all-neighbours : (P : ℕ → Type 0) (net : Network) (u : ℕ) → u < net.nodes → ((v : ℕ) → IsLink net u v → P v) → AllByRecursion P (neighbours_of net u)
-all-neighbours P net u node h =
-    all-filter P (are_joined net.edges u) (range_with_len 0 net.nodes)
-    (all-range (λ v. are_joined net.edges u v ≡ true → P v) 0 net.nodes
-    (λ v below joined. h v (record { first = node; second = omega arith; joined = joined })))
 
 pub plain-each : (net : Network) (f : ℕ → List Event) (xs : List ℕ) → AllByRecursion (λ x. ArePlain net (f x)) xs → ArePlain net (flat_map f xs)
 plain-each net f [] all = tt

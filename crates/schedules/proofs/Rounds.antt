@@ -21,7 +21,8 @@ use Rattle.configuration.specs.run_model.declared.event.Event.TheVariants.{Send,
 use Rattle.schedules.specs.Rounds.{exchanges_from, round, rounds}
 use Rattle.schedules.specs.Below.{Below}
 use Rattle.schedules.specs.Laws.{AreTicksFull, AreTicksFullFor, IsIdle}
-use Rattle.schedules.proofs.Plain.{IsLink, IsPlain, ArePlain, plain-net, plain-step, plain-undamaged, plain-round, plain-all-ticks}
+use Rattle.damage_tool.proofs.Neighbours.{IsLink}
+use Rattle.schedules.proofs.Plain.{IsPlain, ArePlain, plain-net, plain-step, plain-undamaged, plain-round, plain-all-ticks}
 use Rattle.schedules.proofs.Exchanges.{handed-append, all-hand}
 use Rattle.schedules.proofs.Ticks.{ticked-front, ticks-full, tick-is}
 

@@ -1,7 +1,7 @@
 -- Rows: what the random schedule draws from generators that one can follow by hand, and which steps it admits.
 -- The words were worked out apart from this code, by the rule of O'Neill, "PCG", 2014. From the state 0 with the
 -- increment 1 they are 0, 0, 3837872008, 932996374, 1548399547.
-use Rattle.std.proofs.Common.{◌≡◌, ◌≢◌, ℕ, ◌<◌, zero, suc, true, false, List, [], ◌∷◌, None, refl, arith}
+use Rattle.std.proofs.Common.{◌≡◌, ◌≢◌, ℕ, ◌<◌, zero, suc, true, false, List, [], ◌∷◌, map, None, refl, arith}
 use Rattle.std.proofs.lemmas.Bool.{false≢true}
 use Rattle.rand_pcg.specs.Lcg.{Lcg}
 use Rattle.configuration.specs.run_model.World.{World}
@@ -85,22 +85,12 @@ draws_not-ask = grind arith
 
 -- ---- steps
 
-draws-tick : draw_step two_nodes no_clients still ≡ (Tick 0, at_state 6364136223846793006)
-unfolding draw
-draws-tick = refl
-
-draws-send : draw_step two_nodes no_clients from_one ≡ (Send 1 0, at_state 8665688842749422871)
-unfolding draw
-draws-send = refl
-
-draws-take : draw_step two_nodes no_clients from_two ≡ (Take 0 1, at_state 350473898250884620)
-unfolding draw
-draws-take = refl
-
 -- 3 is a tick if there are three kinds, and a client's if there are four
-draws-three : draw_step two_nodes no_clients from_three ≡ (Tick 1, at_state 9833447587537321774)
+draws-steps : map (draw_step two_nodes no_clients) (still ∷ from_one ∷ from_two ∷ from_three ∷ [])
+    ≡ (Tick 0, at_state 6364136223846793006) ∷ (Send 1 0, at_state 8665688842749422871)
+    ∷ (Take 0 1, at_state 350473898250884620) ∷ (Tick 1, at_state 9833447587537321774) ∷ []
 unfolding draw
-draws-three = refl
+draws-steps = refl
 
 draws-client : draw_step two_nodes with_clients from_three ≡ (Ask 1 4, at_state 2409628213195724300)
 unfolding draw

@@ -3,8 +3,8 @@ use Rattle.std.proofs.Common.{◌≡◌, ℕ, ℤ, pos, true, false, List, [], �
 use Rattle.toml.specs.Data.{Data, Members, no_items, item, no_members, member, integer, boolean, array}
 use Rattle.toml.specs.Parse.{parse_document}
 use Rattle.topology.specs.Network.{Network}
-use Rattle.topology.specs.declared.fault.NetFault.TheVariants.{NotToml, Missing, Shape, TooSmall, Apart, Memory, BadRoot}
-use Rattle.topology.specs.Refusal.{Ends, as_ends, values_of, is_outside, is_twice}
+use Rattle.topology.specs.declared.fault.NetFault.TheVariants.{NotToml, Missing, Shape, TooSmall, Apart, BadRoot}
+use Rattle.topology.specs.Refusal.{as_ends, values_of, is_outside, is_twice}
 use Rattle.topology.specs.Accept.{IsAccepted, IsRefused, IsNotJoined}
 use Rattle.topology.specs.Reading.{has_key, integer_at, ends_of, all_ends, edges_at, read_members, read_document}
 use Rattle.topology.specs.ReadNet.{IsReadFrom, IsUnread}

@@ -3,17 +3,11 @@ use Rattle.std.specs.Prelude.{◌≡◌, ℕ, ◌<◌, ◌≤◌, List, All, map
 use Rattle.std.specs.Vec.{vec_capacity}
 use Rattle.std.specs.List.{range_with_len}
 use Rattle.topology.specs.declared.net.Net.TheInside.{Inside}
-use Rattle.topology.specs.Network.{Network, Edge, neighbours_of, IsDistance, IsAcceptedNetwork}
+use Rattle.topology.specs.Network.{Network, network_by, Edge, neighbours_of, IsDistance, IsAcceptedNetwork}
 
 -- the network that a `Net` keeps
 abbrev pub network_of : {A : Type 0} → Inside A → Network
-network_of n = record {
-  nodes = n.nodes;
-  root = n.root;
-  capacity = n.capacity;
-  lease = n.lease;
-  edges = n.edges.items;
-}
+network_of n = network_by n.nodes n.root n.capacity n.lease n.edges.items
 
 -- rows as lists
 abbrev pub rows_of : {A : Type 0} → List (Vec ℕ A) → List (List ℕ)

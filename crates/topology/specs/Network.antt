@@ -19,6 +19,10 @@ pub record Network : Type 0 where
   pub lease : ℕ
   pub edges : List Edge
 
+-- the network of these
+abbrev pub network_by : ℕ → ℕ → ℕ → ℕ → List Edge → Network
+network_by n r c l es = record { nodes = n; root = r; capacity = c; lease = l; edges = es }
+
 -- the edge joins the two nodes, either way round
 abbrev pub is_between : ℕ → ℕ → Edge → Bool
 is_between v w e = (e.0 == v && e.1 == w) || (e.0 == w && e.1 == v)

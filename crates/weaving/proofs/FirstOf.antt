@@ -7,7 +7,7 @@ use Rattle.topology.specs.At.{at}
 use Rattle.run_model.specs.declared.event.Event.{Event}
 use Rattle.weaving.specs.declared.journal.Entry.{Entry}
 use Rattle.weaving.specs.Woven.{AreRising, Placed, IsNoLater, entries_of, IsWoven}
-use Rattle.weaving.proofs.Changed.{at-each, at-here, at-other}
+use Rattle.run_model.proofs.Changed.{at-each, at-here, at-other}
 
 -- what holds for the entries of a node holds for those after the first
 after-first : (P : Placed → Type 0) (v : ℕ) (p : Placed) (ps : List Placed) → AllByRecursion (λ e. P (record { node = v; entry = e })) (entries_of v (p ∷ ps))

@@ -1,6 +1,5 @@
 pub mod Above
 pub mod Accounts
-pub mod Changed
 pub mod LinkSteps
 pub mod OneWoven
 mod Rows

@@ -20,7 +20,7 @@ use Rattle.weaving.specs.Account.{Note, Ticked, Sent, Took, sent_to, taken_from,
 use Rattle.weaving.specs.Matched.{IsLinkMatched, AreMatched, stamps}
 use Rattle.weaving.specs.Laws.{HasEffect}
 use Rattle.weaving.proofs.Accounts.{leads-by_send, leads-by_take}
-use Rattle.weaving.proofs.Changed.{at-here, at-each, at-two, at_pair-each}
+use Rattle.run_model.proofs.Changed.{at-here, at-each, at-two, at_pair-each}
 use Rattle.weaving.proofs.LinkSteps.{has-room, has-item, put, take}
 
 -- joined nodes are nodes

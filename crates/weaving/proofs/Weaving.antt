@@ -15,7 +15,7 @@ use Rattle.weaving.specs.Woven.{Placed, IsNoLater, AreOrdered, entries_of}
 use Rattle.weaving.specs.Account.{Note, Ticked, Sent, Took, entry_of, sent_to, taken_from, Leads}
 use Rattle.weaving.specs.Matched.{AreMatched, stamps, items}
 use Rattle.weaving.specs.Laws.{GoesThrough, WovenIsRun}
-use Rattle.weaving.proofs.Changed.{at-each}
+use Rattle.run_model.proofs.Changed.{at-each}
 use Rattle.weaving.proofs.Steps.{AreNodes, IsWithin, GoesOn, ticks, sends, takes}
 
 -- ---- what comes later has no smaller stamp

@@ -1,8 +1,8 @@
 //! How a network is made: read from TOML, made of values, or copied.
 ghost use Rattle.std.specs.Prelude.{◌≡◌, ◌≤◌, IfOk, IfErr, length, map, ℤ, pos, ◌≤ℤ◌, false};
 ghost use Rattle.std.specs.Vec.{vec_capacity};
-ghost use Rattle.topology.specs.Network.{Network, IsAcceptedNetwork, IsWithinLimits};
-ghost use Rattle.topology.specs.Refusal.{Values, as_ends, has_bad_end};
+ghost use Rattle.topology.specs.Network.{network_by, IsAcceptedNetwork, IsWithinLimits};
+ghost use Rattle.topology.specs.Refusal.{values_by, as_ends, has_bad_end};
 ghost use Rattle.topology.specs.Accept.{IsAccepted, IsRefused, IsNotJoined};
 ghost use Rattle.topology.specs.ReadNet.{IsReadFrom, IsUnread};
 
@@ -53,22 +53,8 @@ impl<A: Allocator + Copy> Net<A> {
         lease: i64,
         edges: &[(i64, i64)],
     ) -> Result<Net<A>, NetFault>
-        ensures ok { IfOk result (IsAccepted
-            (record {
-              nodes = nodes;
-              root = root;
-              capacity = capacity;
-              lease = lease;
-              edges = edges.now;
-            })) }
-        ensures err { IfErr result
-            (IsRefused (record {
-              nodes = nodes;
-              root = root;
-              capacity = capacity;
-              lease = lease;
-              edges = edges.now;
-            })) }
+        ensures ok { IfOk result (IsAccepted (values_by nodes root capacity lease edges.now)) }
+        ensures err { IfErr result (IsRefused (values_by nodes root capacity lease edges.now)) }
     {
         if nodes < 2 {
             return Err(NetFault::TooSmall);
@@ -111,31 +97,11 @@ impl<A: Allocator + Copy> Net<A> {
         lease: u16,
         edges: Vec<(u16, u16), A>,
     ) -> Result<Net<A>, NetFault>
-        requires limits { IsWithinLimits
-            (record {
-              nodes = nodes;
-              root = root;
-              capacity = capacity;
-              lease = lease;
-              edges = edges.items;
-            }) }
+        requires limits { IsWithinLimits (network_by nodes root capacity lease edges.items) }
         requires room { 256 ≤ vec_capacity edges }
-        ensures ok { IfOk result (λ net. (net
-            ≡ record {
-              nodes = nodes;
-              root = root;
-              capacity = capacity;
-              lease = lease;
-              edges = edges.items;
-            }) × IsAcceptedNetwork net) }
-        ensures err { IfErr result
-            (IsNotJoined (record {
-              nodes = nodes;
-              root = root;
-              capacity = capacity;
-              lease = lease;
-              edges = edges.items;
-            })) }
+        ensures ok { IfOk result (λ net. (net ≡ network_by nodes root capacity lease edges.items)
+            × IsAcceptedNetwork net) }
+        ensures err { IfErr result (IsNotJoined (network_by nodes root capacity lease edges.items)) }
     {
         let neighbours = all_neighbours(alloc, nodes, edges.as_slice())?;
         let distances = distances_from(alloc, nodes, edges.as_slice(), root)?;

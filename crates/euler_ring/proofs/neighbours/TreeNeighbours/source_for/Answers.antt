@@ -1,11 +1,7 @@
 use Rattle.std.proofs.Common.{◌≡◌, rules}
 use Rattle.euler_ring.specs.Cycle.{source_for}
 use Rattle.euler_ring.proofs.Ascending.{source_on}
-use Rattle.euler_ring.proofs.Masks.{on_below}
 use Rattle.euler_ring.proofs.neighbours.TreeNeighbours.source_for.Goals as goal
-
-pub below-requires : goal.below-requires
-below-requires c = on_below c.self.inside.ids c.args.w (rw c.self.view_is c.requires)
 
 pub returns-clause-there : goal.returns-clause-there
 returns-clause-there c =

@@ -43,7 +43,7 @@ invariant_of-self g c =
     let length_now : length c.deref_mut-then-has_unreached.result.now ≡ net.nodes = ap length c.deref_mut-then-has_unreached.ensures.value ∙ ap length wrote ∙ long in
     let again : length c.write_distances-then-has_unreached.new.distances ≡ net.nodes = c.write_distances-then-has_unreached.ensures.length ∙ length_now in
     let same_again : length c.write_distances-then-has_unreached.new.distances ≡ c.self.inside.distances.len = omega (arith, again, long, same_depths) in
-    let new : Network = record { nodes = net.nodes; root = net.root; capacity = net.capacity; lease = net.lease; edges = c.put_edge.new.list.items } in
+    let new : Network = record net { edges = c.put_edge.new.list.items } in
     let ok : IsAcceptedNetwork new = rw same c.self.invariant.0.network in
     let rows : rows_of c.self.inside.neighbours.items ≡ map (neighbours_in new.nodes new.edges) (range_with_len 0 new.nodes) = rw same c.self.invariant.0.neighbours_are in
     let searched : IsSearched new.edges new.root c.write_distances-then-has_unreached.new.distances = rw c.deref-then-has_unreached.ensures.value at c.write_distances-then-has_unreached.ensures.searched in
@@ -78,7 +78,7 @@ invariant_of-self-2 g c =
     let same_depths : length c.write_distances.new.distances ≡ c.self.inside.distances.len = omega (arith, long, c.self.invariant.0.all_distances, c.self.inside.distances.ok.0) in
     let wrote = written_back c.self.inside.distances.len c.write_distances.new.distances c.self.inside.distances.items same_depths in
     let none : list_any is_unreached c.write_distances.new.distances ≡ false = sym (rw (c.deref-3.ensures.value, wrote) at c.if-has_unreached.ensures) in
-    let new : Network = record { nodes = net.nodes; root = net.root; capacity = net.capacity; lease = net.lease; edges = c.remove-edge.new.self.items } in
+    let new : Network = record net { edges = c.remove-edge.new.self.items } in
     let limits : IsWithinLimits new = rw left (parted_limits net c.args.u c.args.v c.self.invariant.0.network.limits) in
     let searched_new : IsSearched new.edges new.root c.write_distances.new.distances = rw c.deref-2.ensures.value at c.write_distances.ensures.searched in
     let rows : rows_of c.write_all_neighbours.new.rows ≡ map (neighbours_in new.nodes new.edges) (range_with_len 0 new.nodes) = rw c.deref-4.ensures.value at c.write_all_neighbours.ensures.neighbours in
@@ -103,4 +103,4 @@ pub returns-clause-parted : goal.returns-clause-parted
 returns-clause-parted g c =
     let net : Network = network_of c.self.inside in
     let place : IsPlaceOf net.edges c.args.u c.args.v c.in-Some.place = place_found net.edges c.args.u c.args.v c.in-Some.place c.self.invariant.0.network.limits.no_double (rw c.deref.ensures.value at c.in-Some.ensures) in
-    rw (← c.self.view_is) (ap (λ es. record { nodes = net.nodes; root = net.root; capacity = net.capacity; lease = net.lease; edges = es }) (c.remove-edge.ensures.items ∙ sym place.removed))
+    rw (← c.self.view_is) (ap (λ es. record net { edges = es }) (c.remove-edge.ensures.items ∙ sym place.removed))

@@ -3,13 +3,13 @@ use Rattle.std.proofs.Common.{◌≡◌, ◌≢◌, ℕ, refl, inl, inr, sym, su
 use Rattle.std.proofs.Math.Path.{fun_ext}
 use Rattle.std.proofs.lemmas.Bool.{cases_eq}
 use Rattle.std.proofs.lemmas.Grind.{common_steps}
-use Rattle.topology.specs.At.{at}
+use Rattle.link_model.specs.topology.At.{at}
 use Rattle.run_model.specs.World.{at_pair}
 
 pub at-here : {X : Type 0} (f : ℕ → X) (k : ℕ) (x : X) → at f k x k ≡ x
 at-here f k x = grind (arith, common_steps)
 
-at-other : {X : Type 0} (f : ℕ → X) (k : ℕ) (x : X) (i : ℕ) → i ≢ k → at f k x i ≡ f i
+pub at-other : {X : Type 0} (f : ℕ → X) (k : ℕ) (x : X) (i : ℕ) → i ≢ k → at f k x i ≡ f i
 at-other f k x i apart = grind (arith, common_steps)
 
 -- what holds at the place and elsewhere holds everywhere
@@ -18,6 +18,13 @@ at-each P f k x here there i = elim (cases_eq i k) [
   | inl same ↦ subst (λ j. P j (at f k x j)) (sym same) (subst (λ y. P k y) (sym (at-here f k x)) here)
   | inr apart ↦ subst (λ y. P i y) (sym (at-other f k x i apart)) (there i apart)
 ]
+
+-- the same for two functions that are changed at one place
+pub at-two : {X Y : Type 0} (P : ℕ → X → Y → Type 0) (f : ℕ → X) (g : ℕ → Y) (k : ℕ) (x : X) (y : Y) → P k x y → ((i : ℕ) → i ≢ k → P i (f i) (g i))
+    → (i : ℕ) → P i (at f k x i) (at g k y i)
+at-two P f g k x y here there i =
+    at-each (λ j z. P j (at f k x j) z) g k y (subst (λ z. P k z y) (sym (at-here f k x)) here)
+    (λ j apart. subst (λ z. P j z (g j)) (sym (at-other f k x j apart)) (there j apart)) i
 
 -- what is there already changes nothing
 pub at-same : {X : Type 0} (f : ℕ → X) (k : ℕ) → at f k (f k) ≡ f
