@@ -1,6 +1,6 @@
 -- How the guard of a command answers what happens to it.
 use Rattle.std.specs.Prelude.{ℕ, zero, ◌+◌, Bool, ◌||◌, if◌then◌else◌, nat_lt, Option, Some, None}
-use Rattle.std.specs.Prelude.{List, [], ◌∷◌}
+use Rattle.std.specs.Prelude.{List}
 use Rattle.std.specs.Option.{option_map_or}
 use Rattle.lock_client.specs.declared.guard.GuardStage.{GuardStage}
 use Rattle.lock_client.specs.declared.guard.GuardStage.TheVariants.{Idle, Watching, Searching, Asked, Killed, Waiting, Over}
@@ -9,6 +9,7 @@ use Rattle.lock_client.specs.declared.guard.GuardEvent.TheVariants.{Said, Closed
 use Rattle.lock_client.specs.declared.guard.GuardDeed.{GuardDeed}
 use Rattle.lock_client.specs.declared.guard.GuardDeed.TheVariants.{Listen, Look, Ask, Kill, End}
 use Rattle.lock_client.specs.declared.words.GuardWord.TheVariants as word
+use Rattle.lock_client.specs.Courses.{after_all, deeds_of}
 
 -- a guard that heard of no command releases the lock when its client is done or gone
 abbrev pub idle_after : GuardEvent → GuardStage
@@ -78,14 +79,9 @@ abbrev pub look_rest : GuardStage → ℕ
 look_rest (Waiting zero) = 200
 look_rest _ = 50
 
--- the stage after a list of events
+-- the stage after a list of events, and their deeds, one after the other
 abbrev pub guard_after_all : Bool → GuardStage → List GuardEvent → GuardStage
-guard_after_all keeps stage [] = stage
-guard_after_all keeps stage (e ∷ es) = guard_after_all keeps (guard_after keeps e stage) es
+guard_after_all keeps stage events = after_all (guard_after keeps) stage events
 
--- the deeds of these events, one after the other
 abbrev pub guard_deeds : Bool → GuardStage → List GuardEvent → List GuardDeed
-guard_deeds keeps stage [] = []
-guard_deeds keeps stage (e ∷ es) =
-    guard_deed stage (guard_after keeps e stage)
-    ∷ guard_deeds keeps (guard_after keeps e stage) es
+guard_deeds keeps stage events = deeds_of (guard_after keeps) (λ e. guard_deed) stage events
