@@ -181,6 +181,7 @@ fn waiting_after(event: GuardEvent, quiet: u8) -> GuardStage
 {
     quiet_after(event, quiet).map_or(GuardStage::Over, GuardStage::Waiting)
 }
+
 /// How many looks in a row have found nobody after this, if so many had before it; none if these
 /// are enough.
 fn quiet_after(event: GuardEvent, quiet: u8) -> Option<u8>
