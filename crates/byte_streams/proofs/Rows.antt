@@ -1,7 +1,7 @@
 -- Small examples of what sources give and sinks take, and some that look like them and are none.
-use Rattle.std.proofs.Common.{◌≡◌, [], ◌∷◌, None, Some, refl, arith, inr}
+use Rattle.std.proofs.Common.{◌≡◌, ℕ, [], ◌∷◌, None, Some, Ok, refl, arith, inr}
 use Rattle.byte_streams.specs.Streams.{Gives, Takes, Rose}
-use Rattle.byte_streams.specs.Fuse.{left_after, failures_of}
+use Rattle.byte_streams.specs.Fuse.{left_after, failures_of, Passes}
 
 -- a source gives its next bytes; it does not give others, and nothing only at its end or if
 -- there is no room
@@ -56,3 +56,10 @@ failures_of-once = refl
 
 failures_of-not_before : ¬ (failures_of (Some 0) ≡ 1)
 failures_of-not_before = λ e. grind arith
+
+-- a call that passes may change what is held; the one that fails may not, and says so
+passes-on : Passes {T = ℕ} {X = ℕ} {E = ℕ} (Some 1) (Some 0) 5 6 (Ok 7)
+passes-on = (refl, λ last. absurd (grind (arith, last)))
+
+passes_not-through : ¬ Passes {T = ℕ} {X = ℕ} {E = ℕ} (Some 0) None 5 5 (Ok 7)
+passes_not-through = λ p. let fails : _ = (p.1 refl).0 in grind (arith, fails)

@@ -1,6 +1,6 @@
 //! A source, a sink or whatever else takes calls, that fails once.
-ghost use Rattle.std.specs.Prelude.{◌≡◌, ◌≢◌, ◌+◌, Some, is_none, IsErr, length};
-ghost use Rattle.byte_streams.specs.Fuse.{failures_of, left_after};
+ghost use Rattle.std.specs.Prelude.{◌≡◌, ◌≢◌, ◌+◌, Some, is_none, length};
+ghost use Rattle.byte_streams.specs.Fuse.{failures_of, Passes};
 ghost use Rattle.byte_streams.specs.Streams.{Reads, Writes};
 
 use crate::fuse::Fuse;
@@ -53,10 +53,8 @@ impl<S: Source> Source for Fused<S> {
         ensures reads { Reads result (S.rest self.old.inner) (S.rest self.new.inner) buffer.new
             (S.failures self.old.inner + failures_of self.old.fuse)
             (S.failures self.new.inner + failures_of self.new.fuse) }
-        ensures fuse { self.new.fuse ≡ left_after self.old.fuse }
         // The call that fails does not reach the source.
-        ensures fails { self.old.fuse ≡ Some 0 → IsErr result }
-        ensures spares { self.old.fuse ≡ Some 0 → self.new.inner ≡ self.old.inner }
+        ensures fuse { Passes self.old.fuse self.new.fuse self.old.inner self.new.inner result }
     {
         self.fuse.pass()?;
         self.inner.read(buffer)
@@ -72,10 +70,8 @@ impl<W: Sink> Sink for Fused<W> {
         ensures writes { Writes result bytes.now (W.taken self.old.inner) (W.taken self.new.inner)
             (W.failures self.old.inner + failures_of self.old.fuse)
             (W.failures self.new.inner + failures_of self.new.fuse) }
-        ensures fuse { self.new.fuse ≡ left_after self.old.fuse }
         // The call that fails does not reach the sink.
-        ensures fails { self.old.fuse ≡ Some 0 → IsErr result }
-        ensures spares { self.old.fuse ≡ Some 0 → self.new.inner ≡ self.old.inner }
+        ensures fuse { Passes self.old.fuse self.new.fuse self.old.inner self.new.inner result }
     {
         self.fuse.pass()?;
         self.inner.write(bytes)

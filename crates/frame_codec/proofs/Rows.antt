@@ -1,5 +1,5 @@
 -- Lines that are frames, lines that are none, and a stream that a reader takes apart.
-use Rattle.std.proofs.Common.{◌≡◌, ℕ, codes, List, [], ◌∷◌, ◌++◌, Option, None, Some, refl}
+use Rattle.std.proofs.Common.{◌≡◌, ℕ, codes, List, [], ◌∷◌, ◌++◌, map, replicate, Option, None, Some, refl}
 use Rattle.topology.specs.Ranges.{ranges_of}
 use Rattle.topology.specs.declared.frame.Frame.{Frame}
 use Rattle.topology.specs.declared.frame.Ranges.{Ranges}
@@ -26,54 +26,28 @@ spelled : spelling first ≡ codes "F0000000000010000000c"
 unfolding spelling
 spelled = refl
 
-is_read : frame_of line (codes "F0000000000010000000c") ≡ Some first
+is_read : map (frame_of line) (codes "F0000000000010000000c" ∷ codes "F000400030000ffff0000" ∷ []) ≡ Some first ∷ Some (frame 4 3 0 None 0) ∷ []
 unfolding frame_of spelling
 is_read = refl
-
-no_parent : frame_of line (codes "F000400030000ffff0000") ≡ Some (frame 4 3 0 None 0)
-unfolding frame_of spelling
-no_parent = refl
 
 greatest : frame_of large (codes "F200220020040003f017a") ≡ Some (frame 8194 8194 64 (Some 63) 378)
 unfolding frame_of spelling
 greatest = refl
 
--- each of these breaks one rule
-ring_value_13 : frame_of line (codes "F0000000000010000000d") ≡ None
-unfolding frame_of spelling
-ring_value_13 = refl
+-- each of these breaks one rule: a ring value of 13, an upper-case digit, a number of 5, a distance of 4, a parent of 3, a small `f`
+-- in front, an empty line, a carriage return at the end
+unread : List (List ℕ)
+unread =
+    codes "F0000000000010000000d" ∷ codes "F0000000000010000000C" ∷ codes "F00050000000100000000" ∷ codes "F00000000000400000000" ∷ codes "F00000000000000030000"
+    ∷ codes "f0000000000010000000c" ∷ [] ∷ (codes "F0000000000010000000c" ++ 13 ∷ []) ∷ []
 
-upper_case : frame_of line (codes "F0000000000010000000C") ≡ None
-unfolding frame_of spelling
-upper_case = refl
-
-number_5 : frame_of line (codes "F00050000000100000000") ≡ None
-unfolding frame_of spelling
-number_5 = refl
-
-distance_4 : frame_of line (codes "F00000000000400000000") ≡ None
-unfolding frame_of spelling
-distance_4 = refl
-
-parent_3 : frame_of line (codes "F00000000000000030000") ≡ None
-unfolding frame_of spelling
-parent_3 = refl
-
-small_letter : frame_of line (codes "f0000000000010000000c") ≡ None
-unfolding frame_of spelling
-small_letter = refl
+no_frame : map (frame_of line) unread ≡ replicate 8 None
+unfolding unread frame_of spelling
+no_frame = refl
 
 number_8195 : frame_of large (codes "F200320020040003f017a") ≡ None
 unfolding frame_of spelling
 number_8195 = refl
-
-empty_line : frame_of line [] ≡ None
-unfolding frame_of spelling
-empty_line = refl
-
-carriage_return : frame_of line (codes "F0000000000010000000c" ++ 13 ∷ []) ≡ None
-unfolding frame_of spelling
-carriage_return = refl
 
 -- junk spoils the line that it joins, and no other
 abbrev stream : List ℕ

@@ -1,5 +1,5 @@
 -- Small examples of words and numbers, and words that spell none.
-use Rattle.std.proofs.Common.{◌≡◌, true, false, [], ◌∷◌, Some, None, refl, codes}
+use Rattle.std.proofs.Common.{◌≡◌, true, false, [], ◌∷◌, map, replicate, Some, None, refl, codes}
 use Rattle.line_words.specs.Words.{words, first_word, other_words, ends}
 use Rattle.line_words.specs.Numbers.{are_digits, digits_up_to, number, number_or_none, yes_or_no}
 
@@ -24,61 +24,23 @@ first-left : first_word (other_words (words (codes "tick 0"))) ≡ Some (codes "
 first-left = refl
 
 -- digits, with zeros in front or not, and words of other bytes
-digits : are_digits (codes "07") ≡ true
+digits : map are_digits (codes "07" ∷ [] ∷ codes "-7" ∷ []) ≡ true ∷ false ∷ false ∷ []
 digits = refl
 
-digits_not-none : are_digits [] ≡ false
-digits_not-none = refl
+up-to : map (digits_up_to 59) (codes "059" ∷ codes "60" ∷ []) ≡ Some 59 ∷ None ∷ []
+up-to = refl
 
-digits_not-sign : are_digits (codes "-7") ≡ false
-digits_not-sign = refl
+-- numbers
+numbers : map number (codes "0" ∷ codes "65535" ∷ []) ≡ Some 0 ∷ Some 65535 ∷ []
+numbers = refl
 
-up-to-most : digits_up_to 59 (codes "059") ≡ Some 59
-up-to-most = refl
-
-up-to_not-more : digits_up_to 59 (codes "60") ≡ None
-up-to_not-more = refl
-
--- numbers, and words that are none
-number-zero : number (codes "0") ≡ Some 0
-number-zero = refl
-
-number-most : number (codes "65535") ≡ Some 65535
-number-most = refl
-
-number_not-more : number (codes "65536") ≡ None
-number_not-more = refl
-
-number_not-zeros : number (codes "00") ≡ None
-number_not-zeros = refl
-
-number_not-leading : number (codes "07") ≡ None
-number_not-leading = refl
-
-number_not-signed : number (codes "+7") ≡ None
-number_not-signed = refl
-
-number_not-empty : number [] ≡ None
-number_not-empty = refl
+-- words that are none: too great, zeros in front, a sign, no digit, and the word that says that there is none
+not-numbers : map number (codes "65536" ∷ codes "00" ∷ codes "07" ∷ codes "+7" ∷ [] ∷ codes "none" ∷ []) ≡ replicate 6 None
+not-numbers = refl
 
 -- `none` is no number, but a word that says so; any other word is neither
-number_not-none : number (codes "none") ≡ None
-number_not-none = refl
+number-or-none : map number_or_none (codes "none" ∷ codes "7" ∷ codes "None" ∷ []) ≡ Some None ∷ Some (Some 7) ∷ None ∷ []
+number-or-none = refl
 
-none-said : number_or_none (codes "none") ≡ Some None
-none-said = refl
-
-none-number : number_or_none (codes "7") ≡ Some (Some 7)
-none-number = refl
-
-none_not-capital : number_or_none (codes "None") ≡ None
-none_not-capital = refl
-
-yes-said : yes_or_no (codes "yes") ≡ Some true
-yes-said = refl
-
-no-said : yes_or_no (codes "no") ≡ Some false
-no-said = refl
-
-yes_not-short : yes_or_no (codes "y") ≡ None
-yes_not-short = refl
+yes-or-no : map yes_or_no (codes "yes" ∷ codes "no" ∷ codes "y" ∷ []) ≡ Some true ∷ Some false ∷ None ∷ []
+yes-or-no = refl

@@ -20,8 +20,7 @@ IsCounted kind left =
 
 few : (kind : Deed → Bool) (left : Stage → ℕ) → IsCounted kind left → (keeps : Bool) (stage : Stage) (events : List Event)
     → length (filter kind (deeds keeps stage events)) ≤ left stage
-few kind left counted keeps =
-    at_most (stage_after keeps) (deed_on keeps) (deeds keeps) (λ stage. refl) (λ stage e es. refl) kind left (counted keeps)
+few kind left counted keeps = at_most (stage_after keeps) (deed_between keeps) kind left (counted keeps)
 
 -- how many starts may still come
 abbrev starts_left : Stage → ℕ

@@ -104,9 +104,7 @@ ask-counted keeps e stage = grind (arith, common_steps, nat_tests)
 
 pub asks : (keeps : Bool) (stage : GuardStage) (events : List GuardEvent)
     → length (filter is_asking (guard_deeds keeps stage events)) ≤ asks_left stage
-asks keeps =
-    at_most (guard_after keeps) (λ e stage. guard_deed stage (guard_after keeps e stage)) (guard_deeds keeps) (λ stage. refl)
-    (λ stage e es. refl) is_asking asks_left (ask-counted keeps)
+asks keeps = at_most (guard_after keeps) (λ e. guard_deed) is_asking asks_left (ask-counted keeps)
 
 -- before it has asked, and after it has chosen to wait, it kills nobody
 abbrev IsBefore : GuardStage → Type 0

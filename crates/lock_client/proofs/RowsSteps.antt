@@ -1,5 +1,5 @@
 -- Small examples of the parts of a client's and a guard's rule, and ones that fail.
-use Rattle.std.proofs.Common.{◌≡◌, true, false, [], ◌∷◌, None, Some, refl, codes, inl, inr, arith}
+use Rattle.std.proofs.Common.{◌≡◌, true, false, [], ◌∷◌, map, None, Some, refl, codes, inl, inr, arith}
 use Rattle.lock_client.specs.declared.answer.Answer.TheVariants as answer
 use Rattle.lock_client.specs.declared.outcome.CommandEnd.TheVariants.{Exited, Killed, CannotRun}
 use Rattle.lock_client.specs.declared.outcome.Outcome.TheVariants.{Done, Lost}
@@ -14,7 +14,7 @@ use Rattle.lock_client.specs.declared.words.GuardWord.TheVariants as word
 use Rattle.lock_client.specs.Outcome.{end_status}
 use Rattle.lock_client.specs.Steps.{asking_after, holding_after, losing_after, returning_after, stage_after, in_doubt, losing_deed, running_deed, lost_deed, deed_between}
 use Rattle.lock_client.specs.Laws.{IsHarmless, IsReleasedNext, IsHeldToTheEnd, IsWaiting, is_start, is_giving_back, is_ending, is_loss}
-use Rattle.lock_client.specs.Guards.{idle_after, watching_after, unseen, searching_after, asked_after, killed_after, waiting_after, guard_deed, look_rest}
+use Rattle.lock_client.specs.Guards.{idle_after, watching_after, unseen, quiet_after, searching_after, asked_after, killed_after, waiting_after, guard_deed, look_rest}
 use Rattle.lock_client.specs.GuardLaws.{is_asking}
 use Rattle.held_signals.specs.Signals.{signal_number}
 use Rattle.lock_client.specs.Words.{process_number}
@@ -169,6 +169,14 @@ unseen-thrice = refl
 
 unseen_not-more : unseen 3 ≡ None
 unseen_not-more = refl
+
+-- a look that finds nobody counts, one that finds somebody begins again, and what is no look changes nothing
+quiet-counts : map (λ event. quiet_after event 2) (Looked (record { somebody = false; signalled = false }) ∷ Looked (record { somebody = true; signalled = false }) ∷ Closed ∷ [])
+    ≡ Some 3 ∷ Some 0 ∷ Some 2 ∷ []
+quiet-counts = refl
+
+quiet_not-more : quiet_after (Looked (record { somebody = false; signalled = false })) 3 ≡ None
+quiet_not-more = refl
 
 asks-found : searching_after false (Looked (record { somebody = true; signalled = false })) 2 ≡ guard.Asked 0
 asks-found = refl

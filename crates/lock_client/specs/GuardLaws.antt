@@ -30,14 +30,10 @@ GivesBackRightly =
     → (next ≡ Said word.Done) ⊎ ((next ≡ Closed) × IsUnannounced events)
     ⊎ (4 ≤ quiet_looks 0 (events ++ next ∷ []))
 
--- the command is asked to end; it is killed
+-- the command is asked to end
 abbrev pub is_asking : GuardDeed → Bool
 is_asking Ask = true
 is_asking _ = false
-
-abbrev pub is_killing : GuardDeed → Bool
-is_killing Kill = true
-is_killing _ = false
 
 -- whatever happens, it asks the command to end at most once
 abbrev pub AsksAtMostOnce : Type 0

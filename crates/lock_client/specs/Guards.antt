@@ -1,15 +1,15 @@
 -- How the guard of a command answers what happens to it.
 use Rattle.std.specs.Prelude.{ℕ, zero, ◌+◌, Bool, ◌||◌, if◌then◌else◌, nat_lt, Option, Some, None}
-use Rattle.std.specs.Prelude.{List, [], ◌∷◌}
+use Rattle.std.specs.Prelude.{List}
 use Rattle.std.specs.Option.{option_map_or}
 use Rattle.lock_client.specs.declared.guard.GuardStage.{GuardStage}
 use Rattle.lock_client.specs.declared.guard.GuardStage.TheVariants.{Idle, Watching, Searching, Asked, Killed, Waiting, Over}
-use Rattle.lock_client.specs.declared.guard.Sight.{Sight}
 use Rattle.lock_client.specs.declared.guard.GuardEvent.{GuardEvent}
 use Rattle.lock_client.specs.declared.guard.GuardEvent.TheVariants.{Said, Closed, Looked, GraceIsOver}
 use Rattle.lock_client.specs.declared.guard.GuardDeed.{GuardDeed}
 use Rattle.lock_client.specs.declared.guard.GuardDeed.TheVariants.{Listen, Look, Ask, Kill, End}
 use Rattle.lock_client.specs.declared.words.GuardWord.TheVariants as word
+use Rattle.lock_client.specs.Courses.{after_all, deeds_of}
 
 -- a guard that heard of no command releases the lock when its client is done or gone
 abbrev pub idle_after : GuardEvent → GuardStage
@@ -28,33 +28,31 @@ watching_after _ = Watching
 abbrev pub unseen : ℕ → Option ℕ
 unseen quiet = if nat_lt quiet 3 then Some (quiet + 1) else None
 
--- a look that finds somebody begins the count again
-abbrev pub looked : (ℕ → GuardStage) → Sight → ℕ → GuardStage
-looked stage sight quiet =
-    if sight.somebody then stage 0 else option_map_or stage (unseen quiet) Over
+-- how many looks in a row have found nobody after an event, if so many had before it; one that
+-- finds somebody begins the count again
+abbrev pub quiet_after : GuardEvent → ℕ → Option ℕ
+quiet_after (Looked sight) quiet = if sight.somebody then Some 0 else unseen quiet
+quiet_after _ quiet = Some quiet
+
+abbrev pub killed_after : GuardEvent → ℕ → GuardStage
+killed_after event quiet = option_map_or Killed (quiet_after event quiet) Over
+
+abbrev pub waiting_after : GuardEvent → ℕ → GuardStage
+waiting_after event quiet = option_map_or Waiting (quiet_after event quiet) Over
+
+-- a command that was asked is killed when its time is up
+abbrev pub asked_after : GuardEvent → ℕ → GuardStage
+asked_after GraceIsOver quiet = Killed 0
+asked_after event quiet = option_map_or Asked (quiet_after event quiet) Over
 
 -- a command that may run on, or has had the signal itself, is left to end; any other is asked to
 -- end when found
 abbrev pub searching_after : Bool → GuardEvent → ℕ → GuardStage
 searching_after keeps (Looked sight) quiet =
-    if keeps || sight.signalled then looked Waiting sight quiet
+    if keeps || sight.signalled then waiting_after (Looked sight) quiet
     else if sight.somebody then Asked 0
     else option_map_or Searching (unseen quiet) Over
 searching_after keeps _ quiet = Searching quiet
-
--- a command that was asked is killed when its time is up
-abbrev pub asked_after : GuardEvent → ℕ → GuardStage
-asked_after (Looked sight) quiet = looked Asked sight quiet
-asked_after GraceIsOver quiet = Killed 0
-asked_after _ quiet = Asked quiet
-
-abbrev pub killed_after : GuardEvent → ℕ → GuardStage
-killed_after (Looked sight) quiet = looked Killed sight quiet
-killed_after _ quiet = Killed quiet
-
-abbrev pub waiting_after : GuardEvent → ℕ → GuardStage
-waiting_after (Looked sight) quiet = looked Waiting sight quiet
-waiting_after _ quiet = Waiting quiet
 
 -- the stage after an event
 abbrev pub guard_after : Bool → GuardEvent → GuardStage → GuardStage
@@ -81,14 +79,9 @@ abbrev pub look_rest : GuardStage → ℕ
 look_rest (Waiting zero) = 200
 look_rest _ = 50
 
--- the stage after a list of events
+-- the stage after a list of events, and their deeds, one after the other
 abbrev pub guard_after_all : Bool → GuardStage → List GuardEvent → GuardStage
-guard_after_all keeps stage [] = stage
-guard_after_all keeps stage (e ∷ es) = guard_after_all keeps (guard_after keeps e stage) es
+guard_after_all keeps stage events = after_all (guard_after keeps) stage events
 
--- the deeds of these events, one after the other
 abbrev pub guard_deeds : Bool → GuardStage → List GuardEvent → List GuardDeed
-guard_deeds keeps stage [] = []
-guard_deeds keeps stage (e ∷ es) =
-    guard_deed stage (guard_after keeps e stage)
-    ∷ guard_deeds keeps (guard_after keeps e stage) es
+guard_deeds keeps stage events = deeds_of (guard_after keeps) (λ e. guard_deed) stage events

@@ -72,16 +72,17 @@ abbrev pub is_ending : Deed → Bool
 is_ending EndCommand = true
 is_ending _ = false
 
--- whatever happens, the command is started at most once
-abbrev pub StartsAtMostOnce : Type 0
-StartsAtMostOnce =
-    (keeps : Bool) (events : List Event) → length (filter is_start (deeds keeps Asking events)) ≤ 1
+-- whatever happens, deeds of this kind are done at most once
+abbrev pub IsDoneOnce : (Deed → Bool) → Type 0
+IsDoneOnce kind =
+    (keeps : Bool) (events : List Event) → length (filter kind (deeds keeps Asking events)) ≤ 1
 
--- whatever happens, the lock is released at most once
+-- the command is started at most once, and the lock released at most once
+abbrev pub StartsAtMostOnce : Type 0
+StartsAtMostOnce = IsDoneOnce is_start
+
 abbrev pub GivesBackOnce : Type 0
-GivesBackOnce =
-    (keeps : Bool) (events : List Event)
-    → length (filter is_giving_back (deeds keeps Asking events)) ≤ 1
+GivesBackOnce = IsDoneOnce is_giving_back
 
 -- what takes the lock, or its guard, from a running command
 abbrev pub is_loss : Event → Bool

@@ -1,6 +1,7 @@
 pub mod Lines
 pub mod Outcome
 pub mod Ends
+pub mod Courses
 pub mod Steps
 pub mod Words
 pub mod Guards

@@ -1,25 +1,9 @@
 -- The lines of a desk, as its clients read them.
-use Rattle.std.specs.Prelude.{◌≡◌, ℕ, if◌then◌else◌, List, [], map, codes}
+use Rattle.std.specs.Prelude.{◌≡◌, ℕ, if◌then◌else◌, List, [], ◌∷◌, map, codes}
 use Rattle.std.specs.Str.{bytes_eq}
 use Rattle.byte_lines.specs.Lines.{whole_lines}
 use Rattle.lock_client.specs.declared.answer.Answer.{Answer}
 use Rattle.lock_client.specs.declared.answer.Answer.TheVariants.{Granted, Lost, Released, Full, Twice, Stranger, Unknown, Other}
-
--- what a line says: seven words are known, byte for byte
-abbrev pub answer_line : List ℕ → Answer
-answer_line line =
-    if bytes_eq line (codes "granted") then Granted
-    else if bytes_eq line (codes "lost") then Lost
-    else if bytes_eq line (codes "released") then Released
-    else if bytes_eq line (codes "full") then Full
-    else if bytes_eq line (codes "twice") then Twice
-    else if bytes_eq line (codes "stranger") then Stranger
-    else if bytes_eq line (codes "unknown") then Unknown
-    else Other
-
--- what the bytes of a desk say, line by line
-abbrev pub answer_lines : List ℕ → List Answer
-answer_lines bytes = map answer_line (whole_lines bytes)
 
 -- the line of an answer, without its newline
 abbrev pub answer_text : Answer → List ℕ
@@ -31,6 +15,24 @@ answer_text Twice = codes "twice"
 answer_text Stranger = codes "stranger"
 answer_text Unknown = codes "unknown"
 answer_text Other = []
+
+-- the answers that a desk gives a client
+abbrev pub known_answers : List Answer
+known_answers = Granted ∷ Lost ∷ Released ∷ Full ∷ Twice ∷ Stranger ∷ Unknown ∷ []
+
+-- the first of these answers whose line this is, byte for byte
+abbrev pub first_known : List ℕ → List Answer → Answer
+first_known line [] = Other
+first_known line (answer ∷ answers) =
+    if bytes_eq line (answer_text answer) then answer else first_known line answers
+
+-- what a line says
+abbrev pub answer_line : List ℕ → Answer
+answer_line line = first_known line known_answers
+
+-- what the bytes of a desk say, line by line
+abbrev pub answer_lines : List ℕ → List Answer
+answer_lines bytes = map answer_line (whole_lines bytes)
 
 -- each answer's line is read back as that answer
 abbrev pub AnswersAreRead : Type 0

@@ -1,5 +1,5 @@
 -- How a client of the lock answers what happens to it.
-use Rattle.std.specs.Prelude.{Bool, true, false, List, [], ◌∷◌}
+use Rattle.std.specs.Prelude.{Bool, true, false, List}
 use Rattle.lock_client.specs.declared.answer.Answer.TheVariants as answer
 use Rattle.lock_client.specs.declared.outcome.CommandEnd.{CommandEnd}
 use Rattle.lock_client.specs.declared.outcome.Outcome.{Outcome}
@@ -12,6 +12,7 @@ use Rattle.lock_client.specs.declared.client.Event.TheVariants.{Line, Gone, Unse
 use Rattle.lock_client.specs.declared.client.Deed.{Deed}
 use Rattle.lock_client.specs.declared.client.Deed.TheVariants.{Wait, AskAgain, ConnectAgain, Start, PassOn}
 use Rattle.lock_client.specs.declared.client.Deed.TheVariants.{GiveBack, EndCommand, SayLost, Finish}
+use Rattle.lock_client.specs.Courses.{after_all, deeds_of}
 
 -- a client that asked holds the lock once it is granted, and asks again if there was no room or
 -- the node closed the connection; any other word, no listener, a time that is up or a signal ends
@@ -100,12 +101,8 @@ deed_between keeps event _ Losing = lost_deed keeps event
 
 -- the stage after a list of events
 abbrev pub stage_after_all : Bool → Stage → List Event → Stage
-stage_after_all keeps stage [] = stage
-stage_after_all keeps stage (e ∷ es) = stage_after_all keeps (stage_after keeps e stage) es
+stage_after_all keeps stage events = after_all (stage_after keeps) stage events
 
 -- the deeds of these events, one after the other
 abbrev pub deeds : Bool → Stage → List Event → List Deed
-deeds keeps stage [] = []
-deeds keeps stage (e ∷ es) =
-    deed_between keeps e stage (stage_after keeps e stage)
-    ∷ deeds keeps (stage_after keeps e stage) es
+deeds keeps stage events = deeds_of (stage_after keeps) (deed_between keeps) stage events

@@ -2,7 +2,7 @@
 ghost use Rattle.std.specs.Prelude.{◌≡◌};
 ghost use Rattle.lock_client.specs.Guards.{guard_after, guard_deed, idle_after, watching_after};
 ghost use Rattle.lock_client.specs.Guards.{searching_after, asked_after, killed_after};
-ghost use Rattle.lock_client.specs.Guards.{waiting_after, unseen, look_rest};
+ghost use Rattle.lock_client.specs.Guards.{waiting_after, quiet_after, look_rest};
 
 use crate::GuardWord;
 
@@ -131,11 +131,7 @@ impl Guard {
                 waiting_after(event, quiet)
             }
             GuardEvent::Looked(sight) if sight.somebody => GuardStage::Asked(0),
-            GuardEvent::Looked(_) => match unseen(quiet) {
-                Some(quiet) => GuardStage::Searching(quiet),
-                None => GuardStage::Over,
-            },
-            _ => GuardStage::Searching(quiet),
+            _ => quiet_after(event, quiet).map_or(GuardStage::Over, GuardStage::Searching),
         }
     }
 }
@@ -168,12 +164,7 @@ fn asked_after(event: GuardEvent, quiet: u8) -> GuardStage
 {
     match event {
         GuardEvent::GraceIsOver => GuardStage::Killed(0),
-        GuardEvent::Looked(sight) if sight.somebody => GuardStage::Asked(0),
-        GuardEvent::Looked(_) => match unseen(quiet) {
-            Some(quiet) => GuardStage::Asked(quiet),
-            None => GuardStage::Over,
-        },
-        _ => GuardStage::Asked(quiet),
+        _ => quiet_after(event, quiet).map_or(GuardStage::Over, GuardStage::Asked),
     }
 }
 
@@ -181,38 +172,26 @@ fn asked_after(event: GuardEvent, quiet: u8) -> GuardStage
 fn killed_after(event: GuardEvent, quiet: u8) -> GuardStage
     ensures { result ≡ killed_after event quiet }
 {
-    match event {
-        GuardEvent::Looked(sight) if sight.somebody => GuardStage::Killed(0),
-        GuardEvent::Looked(_) => match unseen(quiet) {
-            Some(quiet) => GuardStage::Killed(quiet),
-            None => GuardStage::Over,
-        },
-        _ => GuardStage::Killed(quiet),
-    }
+    quiet_after(event, quiet).map_or(GuardStage::Over, GuardStage::Killed)
 }
 
 /// The command ends by itself.
 fn waiting_after(event: GuardEvent, quiet: u8) -> GuardStage
     ensures { result ≡ waiting_after event quiet }
 {
-    match event {
-        GuardEvent::Looked(sight) if sight.somebody => GuardStage::Waiting(0),
-        GuardEvent::Looked(_) => match unseen(quiet) {
-            Some(quiet) => GuardStage::Waiting(quiet),
-            None => GuardStage::Over,
-        },
-        _ => GuardStage::Waiting(quiet),
-    }
+    quiet_after(event, quiet).map_or(GuardStage::Over, GuardStage::Waiting)
 }
 
-/// How many looks in a row have found nobody after one more; none if these are enough.
-fn unseen(quiet: u8) -> Option<u8>
-    ensures { result ≡ unseen quiet }
+/// How many looks in a row have found nobody after this, if so many had before it; none if these
+/// are enough.
+fn quiet_after(event: GuardEvent, quiet: u8) -> Option<u8>
+    ensures { result ≡ quiet_after event quiet }
 {
-    if quiet < QUIET_LOOKS - 1 {
-        Some(quiet + 1)
-    } else {
-        None
+    match event {
+        GuardEvent::Looked(sight) if sight.somebody => Some(0),
+        GuardEvent::Looked(_) if quiet >= QUIET_LOOKS - 1 => None,
+        GuardEvent::Looked(_) => Some(quiet + 1),
+        _ => Some(quiet),
     }
 }
 

@@ -74,25 +74,25 @@ impl LineReading<8> for Answers {
     }
 }
 
+/// The answers whose lines are known.
+const KNOWN: [Answer; 7] = [
+    Answer::Granted,
+    Answer::Lost,
+    Answer::Released,
+    Answer::Full,
+    Answer::Twice,
+    Answer::Stranger,
+    Answer::Unknown,
+];
+
 /// What the line says.
 fn known(line: &[u8]) -> Answer
     ensures { result ≡ answer_line line.now }
 {
-    if line == b"granted".as_slice() {
-        Answer::Granted
-    } else if line == b"lost".as_slice() {
-        Answer::Lost
-    } else if line == b"released".as_slice() {
-        Answer::Released
-    } else if line == b"full".as_slice() {
-        Answer::Full
-    } else if line == b"twice".as_slice() {
-        Answer::Twice
-    } else if line == b"stranger".as_slice() {
-        Answer::Stranger
-    } else if line == b"unknown".as_slice() {
-        Answer::Unknown
-    } else {
-        Answer::Other
+    for answer in KNOWN {
+        if line == answer.text() {
+            return answer;
+        }
     }
+    Answer::Other
 }

@@ -1,5 +1,5 @@
 -- Small examples of each definition, and ones that fail.
-use Rattle.std.proofs.Common.{◌≡◌, ℕ, true, false, List, [], ◌∷◌, ◌++◌, Some, None, refl, codes, replicate}
+use Rattle.std.proofs.Common.{◌≡◌, ℕ, true, false, List, [], ◌∷◌, ◌++◌, map, Some, None, refl, codes, replicate}
 use Rattle.std.specs.List.{range_with_len}
 use Rattle.lock_desk.specs.declared.fault.AskFault.TheVariants.{Full, Twice}
 use Rattle.lock_desk.specs.declared.act.DeskAct.TheVariants.{Granted, Lost}
@@ -141,26 +141,11 @@ unfolding queue
 writes_not-rest = refl
 
 -- the three words, and what is none of them
-word-lock : client_line (codes "lock") ≡ Lock
-word-lock = refl
+words : map client_line (codes "lock" ∷ codes "unlock" ∷ codes "status" ∷ []) ≡ Lock ∷ Unlock ∷ Status ∷ []
+words = refl
 
-word-unlock : client_line (codes "unlock") ≡ Unlock
-word-unlock = refl
-
-word-status : client_line (codes "status") ≡ Status
-word-status = refl
-
-no_word-upper : client_line (codes "Lock") ≡ Unknown
-no_word-upper = refl
-
-no_word-space : client_line (codes "lock ") ≡ Unknown
-no_word-space = refl
-
-no_word-short : client_line (codes "loc") ≡ Unknown
-no_word-short = refl
-
-no_word-empty : client_line [] ≡ Unknown
-no_word-empty = refl
+no-words : map client_line (codes "Lock" ∷ codes "lock " ∷ codes "loc" ∷ [] ∷ []) ≡ replicate 4 Unknown
+no-words = refl
 
 -- two whole lines and a half one; a line of 17 bytes is one unknown line
 lines-two : client_lines (codes "lock" ++ 10 ∷ 10 ∷ codes "stat") ≡ Lock ∷ Unknown ∷ []

@@ -1,7 +1,7 @@
 //! The lines of a client, byte by byte.
 ghost use Rattle.std.specs.Prelude.{◌≡◌, ◌++◌, ◌∷◌, [], List, ℕ};
 ghost use Rattle.std.specs.Option.{option_to_list};
-ghost use Rattle.byte_lines.specs.Kept.{StandsAfter};
+ghost use Rattle.byte_lines.specs.Kept.{StandsAfter, Kept};
 ghost use Rattle.lock_desk.specs.ClientText.{client_line, client_lines};
 
 use crate::ClientLine;
@@ -16,8 +16,6 @@ pub struct ClientReader {
 }
 
 impl Model for ClientReader {
-    ghost use Rattle.byte_lines.specs.Kept.{Kept};
-
     ghost Value = { Kept };
 
     ghost view = { λ r. r.half };

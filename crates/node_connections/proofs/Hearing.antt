@@ -1,5 +1,5 @@
 -- Connections that come, and frames that come on them, at a port.
-use Rattle.std.proofs.Common.{◌≡◌, ◌≢◌, ◌⊎◌, ◌<◌, ℕ, true, List, ◌∷◌, ◌++◌, Option, None, Some, is_some, slice_get, slice_index_or, refl, inl, inr, sym, subst, arith, ◌∙◌, append-nil, append_assoc, []}
+use Rattle.std.proofs.Common.{◌≡◌, ◌≢◌, ◌⊎◌, ◌<◌, ◌≤◌, ℕ, true, List, ◌∷◌, ◌++◌, Option, None, Some, is_some, slice_get, slice_index_or, refl, inl, inr, sym, subst, arith, ◌∙◌, append-nil, append_assoc, []}
 use Rattle.std.specs.Prelude.{MatchOption, ⊤, length, slice_set}
 use Rattle.std.proofs.lemmas.Grind.{common_steps}
 use Rattle.std.proofs.lemmas.Option.{slice_get_read}
@@ -13,7 +13,7 @@ use Rattle.socket_links.specs.declared.link.SocketLink.{SocketLink}
 use Rattle.socket_links.specs.declared.link.Pull.{Pull}
 use Rattle.socket_links.specs.declared.link.Pull.TheVariants as pull
 use Rattle.node_connections.specs.declared.port.NodePort.{NodePort}
-use Rattle.node_connections.specs.Hearing.{AreWired, Comes, HasCome, Pulls, Wires}
+use Rattle.node_connections.specs.Hearing.{AreWired, Comes, HasCome, IsWiredAt, Pulls, Wires}
 use Rattle.node_connections.specs.Ports.{AtBoth}
 use Rattle.node_connections.proofs.Pushing.{goes-on, stays-on}
 
@@ -59,12 +59,16 @@ module _ {P : Type 0} where
   wired-join a b c f g w = both-join Wires Wires Wires wires-join (slice_get a w) (slice_get b w) (slice_get c w) (f w) (g w)
 
   -- at one place, and at no other
-  pub wired-at : (a b : List (NodePort P)) (i : ℕ) → AtBoth Wires (slice_get a i) (slice_get b i) → ((w : ℕ) → w ≢ i → slice_get b w ≡ slice_get a w) → AreWired a b
-  wired-at a b i there others w =
+  pub wired-at : (a b : List (NodePort P)) (i : ℕ) → IsWiredAt i a b → AreWired a b
+  wired-at a b i (there, others) w =
       elim (cases_eq w i) [
         | inl e ↦ rw e there
         | inr n ↦ rw (others w n) (wired-same a w)
       ]
+
+  pub wired-set : (ports : List (NodePort P)) (i n : ℕ) (old new : NodePort P) → (length ports ≡ n) × (n ≤ 64) → i < n → old ≡ slice_index_or ports i old → Wires old new
+      → IsWiredAt i ports (slice_set ports i new)
+  wired-set ports i n old new are below read did = (let size = are.0 in both-set Wires ports i old new (omega arith) read did, others-set ports i new)
 
   is-loose : (a b : Option P) → is_some b ≡ is_some a → a ≡ None → b ≡ None
   is-loose None None s e = refl

@@ -1,7 +1,7 @@
 -- Small examples of clients, visitors, doors and ports, and some that look like them and are none.
 use Rattle.std.proofs.Common.{◌≡◌, zero, suc, true, false, ◌∷◌, None, Some, codes, refl, inl, inr, arith, []}
 use Rattle.node_connections.specs.Clients.{is_connected, answers_of, GivesWithin, IsReported, room_of}
-use Rattle.node_connections.specs.Hearing.{Wires}
+use Rattle.node_connections.specs.Hearing.{IsWiredAt, Wires}
 use Rattle.std.proofs.lemmas.Grind.{common_steps}
 use Rattle.lock_desk.specs.declared.act.DeskAct.TheVariants.{Granted, Lost}
 use Rattle.socket_links.specs.declared.pipe.ReadAnswer.TheVariants as read
@@ -101,6 +101,13 @@ module _ {P : Type 0} where
   wires_not-closed : (p : P) (old new : NodePort P) → old.link.pipe ≡ Some p → new.link.pipe ≡ None → ¬ Wires old new
   wires_not-closed p old new was is (inl same) = grind (arith, same.0, was, is)
   wires_not-closed p old new was is (inr fresh) = grind (arith, fresh.0, is)
+
+  -- if one port is wired, no other loses its connection
+  wired_at-same : (port : NodePort P) → IsWiredAt 0 (port ∷ []) (port ∷ [])
+  wired_at-same port = (inl (refl, refl), λ w n. refl)
+
+  wired_at_not-other : (p : P) (old new : NodePort P) → old.link.pipe ≡ Some p → new.link.pipe ≡ None → ¬ IsWiredAt 0 (old ∷ old ∷ []) (old ∷ new ∷ [])
+  wired_at_not-other p old new was is wired = grind (arith, was, is, wired.1 1 (omega arith))
 
 left : is_left flow.Later ≡ true
 left = refl

@@ -1,5 +1,5 @@
 -- What a port hears: a connection comes, and frames come on it.
-use Rattle.std.specs.Prelude.{◌≡◌, ℕ, true, false, is_some, List, slice_get, Option, None, ◌⊎◌, []}
+use Rattle.std.specs.Prelude.{◌≡◌, ◌≢◌, ℕ, true, false, is_some, List, slice_get, Option, None, ◌⊎◌, []}
 use Rattle.topology.specs.declared.frame.Frame.{Frame}
 use Rattle.topology.specs.declared.frame.Ranges.{Ranges}
 use Rattle.socket_links.specs.Counts.{Counts}
@@ -17,6 +17,12 @@ Wires old new =
 -- so it is at each port
 abbrev pub AreWired : {P : Type 0} → List (NodePort P) → List (NodePort P) → Type 0
 AreWired ports wired = (w : ℕ) → AtBoth Wires (slice_get ports w) (slice_get wired w)
+
+-- so it is at the port with this id, and no other port changed
+abbrev pub IsWiredAt : {P : Type 0} → ℕ → List (NodePort P) → List (NodePort P) → Type 0
+IsWiredAt id ports wired =
+    AtBoth Wires (slice_get ports id) (slice_get wired id)
+    × ((w : ℕ) → w ≢ id → slice_get wired w ≡ slice_get ports w)
 
 -- These frames came, one after the other: they are the next good lines of what the link's pipe
 -- gave. What was written stands; and on a link without a pipe nothing comes.

@@ -60,6 +60,3 @@ runs_on sights lost h = (
   on-asked sights lost h,
   on-lost sights lost h,
 )
-
-pub stops : (sights : Sights) → after_save sights ≡ Stop → sights.stop ≡ Absent → sights.is_asked ≡ true
-stops sights h absent = grind (arith, common_steps)

@@ -1,5 +1,5 @@
 -- What `up` says to its nodes, whatever it sees.
-use Rattle.std.proofs.Common.{◌≡◌, ◌≤◌, ◌+◌, ℕ, Bool, true, false, not, if◌then◌else◌, Option, Some, None, List, [], ◌∷◌, length, filter, arith, refl}
+use Rattle.std.proofs.Common.{◌≡◌, ◌≤◌, ◌+◌, ℕ, Bool, true, false, not, is_none, if◌then◌else◌, Option, Some, None, List, [], ◌∷◌, length, filter, arith, refl}
 use Rattle.std.proofs.lemmas.Grind.{common_steps}
 use Rattle.std.specs.List.{list_all}
 use Rattle.held_signals.specs.declared.signals.Signals.{Signals}
@@ -8,18 +8,18 @@ use Rattle.node_keeping.specs.declared.keeper.Seen.TheVariants.{Asked, Urged}
 use Rattle.node_keeping.specs.declared.course.UpStage.{UpStage}
 use Rattle.node_keeping.specs.declared.course.UpStage.TheVariants.{Running, Ending, Killing}
 use Rattle.node_keeping.specs.declared.course.UpSights.{UpSights}
-use Rattle.node_keeping.specs.Course.{is_asked, is_urged, stage_then, seen_then, word_then, words}
-use Rattle.node_keeping.specs.CourseLaws.{asks, urges, says_anything}
+use Rattle.node_keeping.specs.Course.{is_asked, is_ending, is_urged, stage_then, seen_then, word_then, words}
+use Rattle.node_keeping.specs.CourseLaws.{asks, urges, IsSaidOnce}
 
 -- one that is not asked runs on, and says nothing
 runs-on : (seen : Signals) (sights : UpSights) → not (is_asked sights) ≡ true → stage_then sights seen Running ≡ Running
 runs-on seen sights h = grind (arith, common_steps)
 
-says-nothing : (seen : Signals) (sights : UpSights) → not (is_asked sights) ≡ true → not (says_anything (word_then sights seen Running)) ≡ true
+says-nothing : (seen : Signals) (sights : UpSights) → not (is_asked sights) ≡ true → is_none (word_then sights seen Running) ≡ true
 says-nothing seen sights h = grind (arith, common_steps)
 
 pub unasked : (seen : Signals) (sights : List UpSights) → list_all (λ one. not (is_asked one)) sights ≡ true
-    → list_all (λ word. not (says_anything word)) (words seen Running sights) ≡ true
+    → list_all is_none (words seen Running sights) ≡ true
 unasked seen [] h = refl
 unasked seen (s ∷ ss) h =
     let first : not (is_asked s) ≡ true = grind (arith, common_steps) in
@@ -59,8 +59,7 @@ module _ (kind : Option Seen → Bool) (left : UpStage → ℕ) (none : kind Non
 
 -- how often the nodes may still be asked, and urged
 abbrev asks_left : UpStage → ℕ
-asks_left Running = 1
-asks_left _ = 0
+asks_left stage = if is_ending stage then 0 else 1
 
 abbrev urges_left : UpStage → ℕ
 urges_left Killing = 0
@@ -72,8 +71,5 @@ asks-left stage = grind (arith, common_steps)
 urges-left : (stage : UpStage) → urges_left stage ≤ 1
 urges-left stage = grind (arith, common_steps)
 
-pub asks_once : (seen : Signals) (stage : UpStage) (sights : List UpSights) → length (filter asks (words seen stage sights)) ≤ 1
-asks_once = once asks asks_left refl (omega arith) (omega arith) asks-left
-
-pub urges_once : (seen : Signals) (stage : UpStage) (sights : List UpSights) → length (filter urges (words seen stage sights)) ≤ 1
-urges_once = once urges urges_left refl (omega arith) (omega arith) urges-left
+pub said_once : IsSaidOnce asks × IsSaidOnce urges
+said_once = (once asks asks_left refl (omega arith) (omega arith) asks-left, once urges urges_left refl (omega arith) (omega arith) urges-left)

@@ -6,7 +6,7 @@ use Rattle.node_keeping.specs.declared.keeper.Seen.TheVariants.{Asked, Urged}
 use Rattle.node_keeping.specs.declared.course.UpStage.TheVariants.{Running, Ending, Killing}
 use Rattle.node_keeping.specs.declared.course.UpSights.{UpSights}
 use Rattle.node_keeping.specs.Course.{new_course, is_ending, is_asked, is_urged, stage_then, seen_then, word_then, words}
-use Rattle.node_keeping.specs.CourseLaws.{asks, urges, says_anything}
+use Rattle.node_keeping.specs.CourseLaws.{asks, urges}
 
 interrupt : Signals
 interrupt = record no_signals { interrupt = true }
@@ -71,9 +71,3 @@ urging = refl
 
 urging_not-nothing : urges None ≡ false
 urging_not-nothing = refl
-
-saying : says_anything (Some Asked) ≡ true
-saying = refl
-
-saying_not-nothing : says_anything None ≡ false
-saying_not-nothing = refl

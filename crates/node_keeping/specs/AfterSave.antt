@@ -1,5 +1,5 @@
 -- What a node does after a turn that saved its state.
-use Rattle.std.specs.Prelude.{Bool, true, false, if◌then◌else◌}
+use Rattle.std.specs.Prelude.{Bool, true, false, not, if◌then◌else◌}
 use Rattle.node_keeping.specs.declared.sight.FileSight.{FileSight}
 use Rattle.node_keeping.specs.declared.sight.FileSight.TheVariants.{NotOwn}
 use Rattle.node_keeping.specs.declared.saved.StopSight.{StopSight}
@@ -9,15 +9,14 @@ use Rattle.node_keeping.specs.declared.saved.Lost.{Lost}
 use Rattle.node_keeping.specs.declared.saved.AfterSave.{AfterSave}
 use Rattle.node_keeping.specs.declared.saved.AfterSave.TheVariants.{Displaced, StopStays, Stop, GoOn}
 
--- a stop file is this node's unless the folder is another's
-abbrev pub looks_for_stop : FileSight → Bool
-looks_for_stop NotOwn = false
-looks_for_stop _ = true
-
 -- a name that leads to no file of this node's
 abbrev pub is_lost : FileSight → Bool
 is_lost NotOwn = true
 is_lost _ = false
+
+-- a stop file is this node's unless the folder is another's
+abbrev pub looks_for_stop : FileSight → Bool
+looks_for_stop place = not (is_lost place)
 
 -- the names of a node that are lost
 abbrev pub lost_of : Sights → Lost

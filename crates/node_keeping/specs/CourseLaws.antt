@@ -1,5 +1,5 @@
 -- Laws of when `up` ends its nodes.
-use Rattle.std.specs.Prelude.{◌≡◌, ◌≤◌, Bool, true, false, not, Option, None, Some, List, filter, length}
+use Rattle.std.specs.Prelude.{◌≡◌, ◌≤◌, Bool, true, false, not, Option, Some, is_none, List, filter, length}
 use Rattle.std.specs.List.{list_all}
 use Rattle.held_signals.specs.declared.signals.Signals.{Signals}
 use Rattle.node_keeping.specs.declared.keeper.Seen.{Seen}
@@ -17,24 +17,21 @@ abbrev pub urges : Option Seen → Bool
 urges (Some Urged) = true
 urges _ = false
 
-abbrev pub says_anything : Option Seen → Bool
-says_anything (Some seen) = true
-says_anything None = false
-
 -- as long as nothing asks `up` to end, no node is asked anything
 abbrev pub RunsUnasked : Type 0
 RunsUnasked =
     (seen : Signals) (sights : List UpSights) → list_all (λ one. not (is_asked one)) sights ≡ true
-    → list_all (λ word. not (says_anything word)) (words seen Running sights) ≡ true
+    → list_all is_none (words seen Running sights) ≡ true
 
--- whatever is seen, the nodes are asked to end at most once
+-- whatever is seen, words of this kind are said to the nodes at most once
+abbrev pub IsSaidOnce : (Option Seen → Bool) → Type 0
+IsSaidOnce kind =
+    (seen : Signals) (stage : UpStage) (sights : List UpSights)
+    → length (filter kind (words seen stage sights)) ≤ 1
+
+-- the nodes are asked to end at most once, and urged at most once
 abbrev pub AsksOnce : Type 0
-AsksOnce =
-    (seen : Signals) (stage : UpStage) (sights : List UpSights)
-    → length (filter asks (words seen stage sights)) ≤ 1
+AsksOnce = IsSaidOnce asks
 
--- and urged at most once
 abbrev pub UrgesOnce : Type 0
-UrgesOnce =
-    (seen : Signals) (stage : UpStage) (sights : List UpSights)
-    → length (filter urges (words seen stage sights)) ≤ 1
+UrgesOnce = IsSaidOnce urges

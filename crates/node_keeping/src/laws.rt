@@ -7,6 +7,7 @@ ghost use Rattle.node_keeping.specs.CourseLaws.{RunsUnasked, AsksOnce, UrgesOnce
 
 /// A node lends only in a folder that is its own: whoever removes the folder of a network and makes
 /// another there relies on it.
+#[tactic(auto, using(crate::proofs::AfterSaving::displaced))]
 pub fn a_node_runs_on_in_its_place()
     ensures displaced { EndsWhereDisplaced }
     ensures on { RunsOnInPlace }
@@ -30,6 +31,7 @@ pub fn up_leaves_nobody()
 {}
 
 /// `up` runs on as long as nothing asks it to end. It asks its nodes to end once, and urges them once.
+#[tactic(auto, using(crate::proofs::Coursing::unasked, crate::proofs::Coursing::said_once))]
 pub fn up_ends_when_asked()
     ensures unasked { RunsUnasked }
     ensures asks { AsksOnce }

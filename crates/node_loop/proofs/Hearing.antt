@@ -17,7 +17,7 @@ use Rattle.node_loop.specs.Hearing.{Hears, TakesAt}
 use Rattle.node_connections.specs.Ports.{AtBoth}
 use Rattle.node_loop.proofs.Became.{joins, one, stays, taken-join}
 use Rattle.node_connections.proofs.Places.{apart, below-or-last, none-below, past}
-use Rattle.node_connections.proofs.Hearing.{Same, both-join, both-same, both-set, comes-end, pulls-same}
+use Rattle.node_connections.proofs.Hearing.{Same, both-join, both-same, both-set, comes-end, others-set, pulls-same}
 
 module _ {P : Type 0} where
   -- takes at one port
@@ -66,6 +66,11 @@ module _ {P : Type 0} where
   pub changed-there : (R : NodePort P → NodePort P → Type 0) (ports : List (NodePort P)) (i n : ℕ) (old new : NodePort P) → (length ports ≡ n) × (n ≤ 64) → i < n → old ≡ slice_index_or ports i old → R old new
       → AtBoth R (slice_get ports i) (slice_get (slice_set ports i new) i)
   changed-there R ports i n old new are below read did = let size = are.0 in both-set R ports i old new (omega arith) read did
+
+  -- the port with an id was pulled, and no frame came
+  abbrev pub takes-set : (R : List Frame → NodePort P → NodePort P → Type 0) (x : NodeView) (ports : List (NodePort P)) (i n : ℕ) (old new : NodePort P)
+      → (length ports ≡ n) × (n ≤ 64) → i < n → old ≡ slice_index_or ports i old → R [] old new → TakesAt R i x x ports (slice_set ports i new)
+  takes-set R x ports i n old new are below read did = takes-nothing R i x ports (slice_set ports i new) (changed-there (R []) ports i n old new are below read did) (others-set ports i new)
 
   abbrev pub takes-end : (r : Ranges) (gave took : P → Option (List ℕ)) (counts : P → Counts) (i : ℕ) (x y : NodeView) (a b : List (NodePort P))
       → TakesAt (Comes r gave took) i x y a b → TakesAt (Pulls r gave took counts) i x y a b

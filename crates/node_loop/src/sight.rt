@@ -49,6 +49,19 @@ fn tree<A: Allocator>(node: &Node<A>, net: &Net) -> TreeNeighbours
     tree_neighbours(node.parent(), node.id(), node.neighbours(), copied_parent)
 }
 
+/// The node's neighbours: each is a node of the network, so its id is below 64.
+fn neighbours<'a, A: Allocator>(node: &'a Node<A>, net: &Net) -> &'a [u16]
+    requires { site_in node.now ≡ site_of net.now (site_in node.now).id }
+    ensures neighbours { result.now ≡ (site_in node.now).neighbours }
+    ensures within { (i : ℕ) → i < length result.now → (slice_index_or result.now i 0 < 64)
+        × (slice_index_or result.now i 0 < (site_in node.now).ranges.nodes) }
+{
+    topology_laws::neighbours();
+    topology_laws::limits();
+    let _known = net.nodes();
+    node.neighbours()
+}
+
 /// By id, whether that node is a tree neighbour.
 pub(crate) fn trees<A: Allocator>(node: &Node<A>, net: &Net) -> [bool; NODES]
     requires id { (site_in node.now).id < net.now.nodes }
@@ -56,12 +69,9 @@ pub(crate) fn trees<A: Allocator>(node: &Node<A>, net: &Net) -> [bool; NODES]
     ensures { (w : ℕ) → w < 64
         → is_tree result w ≡ is_on (tree_of (site_in node.now) (state_of node.now)) w }
 {
-    topology_laws::neighbours();
-    topology_laws::limits();
-    let _known = net.nodes();
     let tree = tree(node, net);
     let mut trees = [false; NODES];
-    for w in node.neighbours() {
+    for w in neighbours(node, net) {
         trees[*w as usize] = tree.contains(*w);
     }
     trees
@@ -76,11 +86,8 @@ pub(crate) fn values<A: Allocator>(node: &Node<A>, net: &Net) -> [u16; NODES]
     ensures others { (w : ℕ) → ¬ Contains (site_in node.now).neighbours w
         → slice_index_or result w 0 ≡ 0 }
 {
-    topology_laws::neighbours();
-    topology_laws::limits();
-    let _known = net.nodes();
     let mut values = [0; NODES];
-    for w in node.neighbours() {
+    for w in neighbours(node, net) {
         values[*w as usize] = node.value(*w);
     }
     values
@@ -98,11 +105,8 @@ pub(crate) fn sights<P: Pipe, A: Allocator>(
     ensures { (w : ℕ) → w < 64 → Contains (site_in node.now).neighbours w
         → sight_of result w ≡ sight_at node.now ports.now w }
 {
-    topology_laws::neighbours();
-    topology_laws::limits();
-    let _known = net.nodes();
     let mut sights = [no_sight(); NODES];
-    for w in node.neighbours() {
+    for w in neighbours(node, net) {
         sights[*w as usize] = PortSight {
             takes_frames: ports[*w as usize].takes_frames(),
             frame: node.frame_for(*w),

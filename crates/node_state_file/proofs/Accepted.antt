@@ -51,32 +51,22 @@ header_there : (l : Layout) (net : Network) (id : ℕ) (ids : List ℕ) (s : Loc
 header_there Tkt1 net id ids s = omega arith
 header_there Tkt2 net id ids s = omega arith
 
+same_header : (a b : Header) → a.nodes ≡ b.nodes → a.id ≡ b.id → a.capacity ≡ b.capacity → a.degree ≡ b.degree → a.distance ≡ b.distance → a.parent ≡ b.parent → a ≡ b
+same_header a b nodes id capacity degree distance parent i =
+    record { nodes = nodes i; id = id i; capacity = capacity i; degree = degree i; distance = distance i; parent = parent i }
+
 header_read : (l : Layout) (net : Network) (id : ℕ) (ids : List ℕ) (s : LocalState) → AllByRecursion IsSmall (header_numbers l net id (length ids) s)
     → parent_of (parent_number s.parent) ≡ s.parent → header_of l (spelling l net id ids s) ≡ header l net id (length ids) s
 header_read Tkt1 net id ids s small again =
     let xs = header_numbers Tkt1 net id (length ids) s in
     let rest = bytes_of (flat_map (port_numbers s) ids) in
-    let parent = ap parent_of (read_at xs rest 4 (omega arith) small) ∙ again in
-    λ i. record {
-      nodes = (read_at xs rest 0 (omega arith) small) i;
-      id = (read_at xs rest 1 (omega arith) small) i;
-      capacity = None;
-      degree = (read_at xs rest 2 (omega arith) small) i;
-      distance = (read_at xs rest 3 (omega arith) small) i;
-      parent = parent i;
-    }
+    same_header _ _ (read_at xs rest 0 (omega arith) small) (read_at xs rest 1 (omega arith) small) refl (read_at xs rest 2 (omega arith) small)
+    (read_at xs rest 3 (omega arith) small) (ap parent_of (read_at xs rest 4 (omega arith) small) ∙ again)
 header_read Tkt2 net id ids s small again =
     let xs = header_numbers Tkt2 net id (length ids) s in
     let rest = bytes_of (flat_map (port_numbers s) ids) in
-    let parent = ap parent_of (read_at xs rest 5 (omega arith) small) ∙ again in
-    λ i. record {
-      nodes = (read_at xs rest 0 (omega arith) small) i;
-      id = (read_at xs rest 1 (omega arith) small) i;
-      capacity = Some ((read_at xs rest 2 (omega arith) small) i);
-      degree = (read_at xs rest 3 (omega arith) small) i;
-      distance = (read_at xs rest 4 (omega arith) small) i;
-      parent = parent i;
-    }
+    same_header _ _ (read_at xs rest 0 (omega arith) small) (read_at xs rest 1 (omega arith) small) (ap Some (read_at xs rest 2 (omega arith) small))
+    (read_at xs rest 3 (omega arith) small) (read_at xs rest 4 (omega arith) small) (ap parent_of (read_at xs rest 5 (omega arith) small) ∙ again)
 
 header_small : (l : Layout) (net : Network) (id degree : ℕ) (s : LocalState) → net.nodes ≤ 64 → net.capacity ≤ 4096 → id < net.nodes → degree < net.nodes → s.distance ≤ net.nodes
     → parent_number s.parent < 65536 → AllByRecursion IsSmall (header_numbers l net id degree s)

@@ -32,9 +32,10 @@ mod reading;
 mod saved;
 mod starting;
 
+pub use byte_streams::Fused as FusedStore;
 pub use fault::FileFault;
 pub use file_store::FileStore;
-pub use memory_store::{FusedStore, MemoryStore};
+pub use memory_store::MemoryStore;
 pub use reading::decode;
 pub use starting::{StartFault, Started, start};
 pub use state_writing::{LOADED_BYTES, MOST_BYTES, Node, Store, StoreFault, encode};

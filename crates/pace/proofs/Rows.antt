@@ -1,6 +1,6 @@
 -- Small examples of each rule, and ones that fail. Times are microseconds; a frame is repeated
 -- after 8,000, and a hold lasts 2,000.
-use Rattle.std.proofs.Common.{◌≡◌, ℕ, true, false, Some, refl}
+use Rattle.std.proofs.Common.{◌≡◌, ℕ, true, false, [], ◌∷◌, map, Some, refl}
 use Rattle.topology.specs.declared.frame.Payload.{Payload}
 use Rattle.topology.specs.declared.frame.Frame.{Frame}
 use Rattle.pace.specs.declared.node.Outlook.{Outlook}
@@ -95,55 +95,35 @@ owes_not-answered = refl
 
 -- the second equal frame is a question, the third nothing, the fourth a call, and so is the eighth;
 -- but not one that comes late
-hears : hearing_of 1 true ≡ hearing.Frame
+hears : map (λ equal. hearing_of equal true) (1 ∷ 3 ∷ 4 ∷ 6 ∷ 8 ∷ []) ≡ hearing.Frame ∷ hearing.Frame ∷ hearing.Call ∷ hearing.Frame ∷ hearing.Call ∷ []
 hears = refl
 
-hears-question : hearing_of 2 false ≡ hearing.Question
-hears-question = refl
-
-hears_not-third : hearing_of 3 true ≡ hearing.Frame
-hears_not-third = refl
-
-hears-call : hearing_of 4 true ≡ hearing.Call
-hears-call = refl
-
-hears-eighth : hearing_of 8 true ≡ hearing.Call
-hears-eighth = refl
-
-hears_not-sixth : hearing_of 6 true ≡ hearing.Frame
-hears_not-sixth = refl
-
-hears_not-late : hearing_of 4 false ≡ hearing.Frame
-hears_not-late = refl
+hears-late : map (λ equal. hearing_of equal false) (2 ∷ 4 ∷ []) ≡ hearing.Question ∷ hearing.Frame ∷ []
+hears-late = refl
 
 -- within 4 milliseconds is soon, and within 1 if frames are given again after 2; else it is not
-soon : is_soon 8000 8999 (heard_port (framed 9) 5000 fresh_port) ≡ true
-unfolding framed saying
+heard_once : PortPace
+heard_once = heard_port (framed 9) 5000 fresh_port
+
+soon : map (λ now. is_soon 8000 now heard_once) (8999 ∷ 9000 ∷ []) ≡ true ∷ false ∷ []
+unfolding framed saying heard_once
 soon = refl
 
-soon_not-late : is_soon 8000 9000 (heard_port (framed 9) 5000 fresh_port) ≡ false
-unfolding framed saying
-soon_not-late = refl
-
-soon_not-slow : is_soon 100000 9000 (heard_port (framed 9) 5000 fresh_port) ≡ false
-unfolding framed saying
+soon_not-slow : is_soon 100000 9000 heard_once ≡ false
+unfolding framed saying heard_once
 soon_not-slow = refl
 
-soon-quick : is_soon 2000 5999 (heard_port (framed 9) 5000 fresh_port) ≡ true
-unfolding framed saying
+soon-quick : map (λ now. is_soon 2000 now heard_once) (5999 ∷ 6000 ∷ []) ≡ true ∷ false ∷ []
+unfolding framed saying heard_once
 soon-quick = refl
 
-soon_not-quick : is_soon 2000 6000 (heard_port (framed 9) 5000 fresh_port) ≡ false
-unfolding framed saying
-soon_not-quick = refl
-
 -- another frame starts the count again
-counts-equal : times_heard (framed 9) (heard_port (framed 9) 5000 fresh_port) ≡ 2
-unfolding framed saying
+counts-equal : times_heard (framed 9) heard_once ≡ 2
+unfolding framed saying heard_once
 counts-equal = refl
 
-counts-other : times_heard (framed 8) (heard_port (framed 9) 5000 fresh_port) ≡ 1
-unfolding framed saying
+counts-other : times_heard (framed 8) heard_once ≡ 1
+unfolding framed saying heard_once
 counts-other = refl
 
 -- a call goes on until the frame was given four times in a row

@@ -111,6 +111,11 @@ module _ {P : Type 0} (r : Ranges) (gave took : P → Option (List ℕ)) (counts
         ] in
         rw (is, goes) (by_gave (gave before) k)
 
+    pub flows_got : (mid : Kept) (waits bytes : List ℕ) (more : List Frame) → GoesOn bytes (gave before) (gave after)
+        → Looks r old.reader mid (waiting old) waits [] → waits ≡ [] → Looks r mid new.reader bytes (waiting new) more
+        → took after ≡ took before → unsent new ≡ unsent old → PullsOn r gave more old new × PushesOn took [] old new
+    flows_got mid waits bytes more goes l none l2 same left = (pulls_got mid waits bytes more goes l none l2, pushes_same same left)
+
 -- by the parts of a link alone: its pipe, its reader, what waits, and what is not yet written
 abbrev Pulls : {P : Type 0} → Ranges → (P → Option (List ℕ)) → List ℕ → List Frame → Option P → Kept → List ℕ → Type 0
 Pulls r gave start frames pipe reader waits = MatchOption pipe ⊤ (λ p. MatchOption (gave p) ⊤ (λ bytes. HasPulled r start frames bytes reader waits))

@@ -12,8 +12,9 @@
 //! let saved = store.save(&bytes[..count]);
 //! ```
 //!
-//! Nothing is read here, and there is no store: whoever runs a node writes its state and needs no
-//! more. `node_state_file` reads the bytes again, and has the stores.
+//! Nothing is read here, and no bytes are kept: whoever runs a node writes its state and needs no
+//! more. `node_state_file` reads the bytes again, and has the stores. A store in a `Fused` of
+//! `byte_streams` fails once.
 //!
 //! The trap: a save that fails may have changed what was stored, to any bytes.
 #![tactic(auto)]

@@ -1,8 +1,10 @@
 //! Where a node's state is kept.
-ghost use Rattle.std.specs.Prelude.{◌≡◌, ℕ, List, Option};
+ghost use Rattle.std.specs.Prelude.{◌≡◌, ◌+◌, ℕ, List, Option};
+ghost use Rattle.byte_streams.specs.Fuse.{failures_of, Passes};
 ghost use Rattle.state_writing.specs.Stores.{Loads, Saves};
 
 use crate::layout::LOADED_BYTES;
+use byte_streams::Fused;
 use thiserror::Error;
 
 /// Why a store gives or takes no bytes.
@@ -40,4 +42,33 @@ pub trait Store {
     fn save(&mut self, bytes: &[u8]) -> Result<(), StoreFault>
         ensures { Saves result bytes.now (stored self.old) (stored self.new) (failures self.old)
             (failures self.new) };
+}
+
+/// A store that fails once. It tests what becomes of a node whose store fails.
+impl<S: Store> Store for Fused<S> {
+    ghost stored = { λ s. S.stored s.inner };
+
+    ghost failures = { λ s. S.failures s.inner + failures_of s.fuse };
+
+    fn load(&mut self, buffer: &mut [u8; LOADED_BYTES]) -> Result<usize, StoreFault>
+        ensures loads { Loads result (S.stored self.old.inner) (S.stored self.new.inner) buffer.new
+            (S.failures self.old.inner + failures_of self.old.fuse)
+            (S.failures self.new.inner + failures_of self.new.fuse) }
+        // The call that fails does not reach the store.
+        ensures fuse { Passes self.old.fuse self.new.fuse self.old.inner self.new.inner result }
+    {
+        self.fuse.pass().map_err(|_| StoreFault::Device)?;
+        self.inner.load(buffer)
+    }
+
+    fn save(&mut self, bytes: &[u8]) -> Result<(), StoreFault>
+        ensures saves { Saves result bytes.now (S.stored self.old.inner) (S.stored self.new.inner)
+            (S.failures self.old.inner + failures_of self.old.fuse)
+            (S.failures self.new.inner + failures_of self.new.fuse) }
+        // The call that fails does not reach the store.
+        ensures fuse { Passes self.old.fuse self.new.fuse self.old.inner self.new.inner result }
+    {
+        self.fuse.pass().map_err(|_| StoreFault::Device)?;
+        self.inner.save(bytes)
+    }
 }

@@ -1,7 +1,5 @@
 //! Connections to lower neighbours, which a node makes itself.
-ghost use Rattle.std.specs.Prelude.{◌≡◌, ◌<◌, true};
-ghost use Rattle.std.specs.Prelude.{Contains, slice_get};
-ghost use Rattle.std.specs.Prelude.{◌≢◌, ℕ};
+ghost use Rattle.std.specs.Prelude.{◌≡◌, ◌<◌, true, Contains, slice_get};
 ghost use Rattle.node_core.specs.View.{site_in};
 ghost use Rattle.node_connections.specs.Ports.{AtBoth};
 
@@ -12,7 +10,7 @@ use std::alloc::Allocator;
 
 impl<D: Doors, S: Store + Drop, A: Allocator + Copy> NodeRun<D, S, A> {
     ghost use Rattle.node_connections.specs.Loose.{is_linked};
-    ghost use Rattle.node_connections.specs.Hearing.{AreWired, Wires};
+    ghost use Rattle.node_connections.specs.Hearing.{AreWired, IsWiredAt};
     ghost use Rattle.node_loop.specs.Remembering.{Remembers};
 
     /// Connects loose ports to lower neighbours, and goes on with hellos that are not out.
@@ -31,10 +29,7 @@ impl<D: Doors, S: Store + Drop, A: Allocator + Copy> NodeRun<D, S, A> {
     /// Connects the port to a lower neighbour, if it is loose, and goes on with its hello.
     fn connect_to(&mut self, id: u16)
         ensures node { self.new.node ≡ self.old.node }
-        ensures wires { AtBoth Wires (slice_get self.old.ports.items id)
-            (slice_get self.new.ports.items id) }
-        ensures others { (w : ℕ) → w ≢ id
-            → slice_get self.new.ports.items w ≡ slice_get self.old.ports.items w }
+        ensures wires { IsWiredAt id self.old.ports.items self.new.ports.items }
         ensures pace { Remembers self.old.pace self.new.pace }
         ensures rest { (self.new.net ≡ self.old.net) × (self.new.turns ≡ self.old.turns)
             × (self.new.store ≡ self.old.store) × (self.new.clients ≡ self.old.clients) }
@@ -57,10 +52,7 @@ impl<D: Doors, S: Store + Drop, A: Allocator + Copy> NodeRun<D, S, A> {
             (slice_get self.old.ports.items id) (slice_get self.new.ports.items id) }
         ensures linked { is_linked (slice_get self.old.ports.items id) ≡ true
             → self.new.ports ≡ self.old.ports }
-        ensures wires { AtBoth Wires (slice_get self.old.ports.items id)
-            (slice_get self.new.ports.items id) }
-        ensures others { (w : ℕ) → w ≢ id
-            → slice_get self.new.ports.items w ≡ slice_get self.old.ports.items w }
+        ensures wires { IsWiredAt id self.old.ports.items self.new.ports.items }
         ensures pace { self.new.pace ≡ self.old.pace }
         ensures rest { (self.new.net ≡ self.old.net) × (self.new.turns ≡ self.old.turns)
             × (self.new.store ≡ self.old.store) × (self.new.clients ≡ self.old.clients) }
@@ -78,10 +70,7 @@ impl<D: Doors, S: Store + Drop, A: Allocator + Copy> NodeRun<D, S, A> {
         requires node { id < self.old.net.nodes }
         requires neighbour { Contains (site_in self.old.node).neighbours id }
         ensures node { self.new.node ≡ self.old.node }
-        ensures wires { AtBoth Wires (slice_get self.old.ports.items id)
-            (slice_get self.new.ports.items id) }
-        ensures others { (w : ℕ) → w ≢ id
-            → slice_get self.new.ports.items w ≡ slice_get self.old.ports.items w }
+        ensures wires { IsWiredAt id self.old.ports.items self.new.ports.items }
         ensures pace { Remembers self.old.pace self.new.pace }
         ensures rest { (self.new.net ≡ self.old.net) × (self.new.turns ≡ self.old.turns)
             × (self.new.store ≡ self.old.store) × (self.new.clients ≡ self.old.clients) }

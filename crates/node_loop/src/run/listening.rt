@@ -1,9 +1,6 @@
 //! The first part of a turn: connections come, and then what came on them is taken.
-ghost use Rattle.std.specs.Prelude.{◌≡◌, ◌<◌};
-ghost use Rattle.std.specs.Prelude.{IfSome, Some, Contains, slice_get};
-ghost use Rattle.std.specs.Prelude.{◌≢◌, ℕ};
+ghost use Rattle.std.specs.Prelude.{◌≡◌, ◌<◌, IfSome, Some, Contains, slice_get};
 ghost use Rattle.node_core.specs.View.{site_in};
-ghost use Rattle.node_connections.specs.Ports.{AtBoth};
 
 use crate::notes::Notes;
 use crate::run::NodeRun;
@@ -17,7 +14,7 @@ const COMERS: usize = 64;
 
 impl<D: Doors, S: Store + Drop, A: Allocator + Copy> NodeRun<D, S, A> {
     ghost use Rattle.node_loop.specs.Clients.{AreConnected};
-    ghost use Rattle.node_connections.specs.Hearing.{AreWired, Wires};
+    ghost use Rattle.node_connections.specs.Hearing.{AreWired, IsWiredAt};
     ghost use Rattle.node_connections.specs.Lives.{Admits, StillLive};
     ghost use Rattle.node_loop.specs.Noting.{emptied};
     ghost use Rattle.node_loop.specs.Remembering.{Remembers};
@@ -114,10 +111,7 @@ impl<D: Doors, S: Store + Drop, A: Allocator + Copy> NodeRun<D, S, A> {
             → IfSome (slice_get self.new.ports.items id) (λ port. port.link.pipe ≡ Some pipe) }
         ensures unwelcome { ¬ ((site_in self.old.node).id < id
             × Contains (site_in self.old.node).neighbours id) → self.new.ports ≡ self.old.ports }
-        ensures wires { AtBoth Wires (slice_get self.old.ports.items id)
-            (slice_get self.new.ports.items id) }
-        ensures others { (w : ℕ) → w ≢ id
-            → slice_get self.new.ports.items w ≡ slice_get self.old.ports.items w }
+        ensures wires { IsWiredAt id self.old.ports.items self.new.ports.items }
         ensures pace { Remembers self.old.pace self.new.pace }
         ensures rest { (self.new.net ≡ self.old.net) × (self.new.turns ≡ self.old.turns)
             × (self.new.store ≡ self.old.store) × (self.new.clients ≡ self.old.clients) }

@@ -5,34 +5,25 @@ use Rattle.node_core.specs.View.{site_in}
 use Rattle.pace.specs.Plans.{no_sight}
 use Rattle.pace.specs.declared.port.PortSight.{PortSight}
 use Rattle.node_loop.specs.Speaking.{sight_at}
-use Rattle.node_loop.proofs.Sights.{AreSeen, is-few-at, is-node-at, seen-as, seen-next, seen-start, take-next}
+use Rattle.node_loop.proofs.Sights.{AreSeen, seen-as, seen-next, seen-start, take-next}
 use Rattle.node_loop.proofs.sight.sights.Goals as goal
 
 pub loop-w-init : goal.loop-w-init
 loop-w-init g c = seen-start (sight_at c.args.node.now c.args.ports.now) no_sight _ refl
 
 pub payload_for-requires : goal.payload_for-requires
-payload_for-requires g c =
-    let site = site_in c.args.node.now in
-    is-node-at c.neighbours.ensures.joined c.args.net.now site.id site c.requires.site c.neighbours-w-items.result.now c.neighbours-w-items.ensures c.loop-w.w-index c.loop-w-test.true
+payload_for-requires g c = (c.neighbours-w-items.ensures.within c.loop-w.w-index c.loop-w-test.true).1
 
 pub frame_for-requires : goal.frame_for-requires
-frame_for-requires g c =
-    let site = site_in c.args.node.now in
-    is-node-at c.neighbours.ensures.joined c.args.net.now site.id site c.requires.site c.neighbours-w-items.result.now c.neighbours-w-items.ensures c.loop-w.w-index c.loop-w-test.true
+frame_for-requires g c = (c.neighbours-w-items.ensures.within c.loop-w.w-index c.loop-w-test.true).1
 
 pub bounds-sights-w : goal.bounds-sights-w
-bounds-sights-w g c =
-    let site = site_in c.args.node.now in
-    is-few-at c.limits.ensures c.neighbours.ensures.joined c.args.net.now site.id site c.nodes-known.ensures.network c.requires.site
-    c.neighbours-w-items.result.now c.neighbours-w-items.ensures c.loop-w.w-index c.loop-w-test.true
+bounds-sights-w g c = (c.neighbours-w-items.ensures.within c.loop-w.w-index c.loop-w-test.true).0
 
 pub bounds-ports-w : goal.bounds-ports-w
 bounds-ports-w g c =
-    let site = site_in c.args.node.now in
-    let nodes : site.ranges.nodes ≡ c.args.net.now.nodes = ap (λ s. s.ranges.nodes) c.requires.site in
-    let below =
-    is-node-at c.neighbours.ensures.joined c.args.net.now site.id site c.requires.site c.neighbours-w-items.result.now c.neighbours-w-items.ensures c.loop-w.w-index c.loop-w-test.true in
+    let nodes : (site_in c.args.node.now).ranges.nodes ≡ c.args.net.now.nodes = ap (λ s. s.ranges.nodes) c.requires.site in
+    let below = (c.neighbours-w-items.ensures.within c.loop-w.w-index c.loop-w-test.true).1 in
     let long = c.requires.ports.0 in
     omega arith
 
@@ -43,20 +34,17 @@ pub loop-w-preserved : goal.loop-w-preserved
 loop-w-preserved g c =
     let node = c.args.node.now in
     let ports = c.args.ports.now in
-    let site = site_in node in
+    let ws = (site_in node).neighbours in
     let items = c.neighbours-w-items.result.now in
     let i = c.loop-w.w-index in
     let w = slice_index_or items i 0 in
-    let there : i < length site.neighbours = search rules in
-    let nodes : site.ranges.nodes ≡ c.args.net.now.nodes = ap (λ s. s.ranges.nodes) c.requires.site in
-    let below : w < site.ranges.nodes =
-    is-node-at c.neighbours.ensures.joined c.args.net.now site.id site c.requires.site items c.neighbours-w-items.ensures i c.loop-w-test.true in
-    let few : w < 64 =
-    is-few-at c.limits.ensures c.neighbours.ensures.joined c.args.net.now site.id site c.nodes-known.ensures.network c.requires.site items c.neighbours-w-items.ensures i c.loop-w-test.true in
-    let within : w < length ports = let long = c.requires.ports.0 in omega arith in
+    let there : i < length ws = search rules in
+    let near = c.neighbours-w-items.ensures.within i c.loop-w-test.true in
+    let nodes : (site_in node).ranges.nodes ≡ c.args.net.now.nodes = ap (λ s. s.ranges.nodes) c.requires.site in
+    let within : w < length ports = let below = near.1 in let long = c.requires.ports.0 in omega arith in
     let sight : PortSight = record { takes_frames = c.takes_frames.result; frame = c.frame_for.result; present = c.payload_for.result } in
-    subst (λ vs. AreSeen (sight_at node ports) no_sight vs (slice_set c.loop-w.sights w sight)) (sym (take-next items site.neighbours c.neighbours-w-items.ensures i there))
-    (seen-next (sight_at node ports) no_sight (take i site.neighbours) c.loop-w.sights w sight few
+    subst (λ vs. AreSeen (sight_at node ports) no_sight vs (slice_set c.loop-w.sights w sight)) (sym (take-next items ws c.neighbours-w-items.ensures.neighbours i there))
+    (seen-next (sight_at node ports) no_sight (take i ws) c.loop-w.sights w sight near.0
     (seen-as node ports w c.index-ports-w.result _ _ _ (slice_get_read ports (length ports) w c.index-ports-w.result refl within c.index-ports-w.is)
     c.takes_frames.ensures c.frame_for.ensures.frame c.payload_for.ensures.payload)
     c.loop-w.invariant)

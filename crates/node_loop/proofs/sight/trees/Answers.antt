@@ -3,7 +3,7 @@ use Rattle.std.proofs.lemmas.List.{take_all}
 use Rattle.euler_ring.specs.Cycle.{is_on}
 use Rattle.node_core.specs.Machines.{tree_of}
 use Rattle.node_core.specs.View.{site_in, state_of}
-use Rattle.node_loop.proofs.Sights.{AreSeen, OnlyTrue, is-few-at, only-next, only-start, seen-all, seen-next, seen-start, take-next}
+use Rattle.node_loop.proofs.Sights.{AreSeen, OnlyTrue, only-next, only-start, seen-all, seen-next, seen-start, take-next}
 use Rattle.node_loop.proofs.sight.trees.Goals as goal
 
 pub loop-w-init : goal.loop-w-init
@@ -12,10 +12,7 @@ loop-w-init g c =
     (seen-start on false _ refl, only-start on)
 
 pub bounds-trees-w : goal.bounds-trees-w
-bounds-trees-w g c =
-    let site = site_in c.args.node.now in
-    is-few-at c.limits.ensures c.neighbours.ensures.joined c.args.net.now site.id site c.nodes-known.ensures.network c.requires.site
-    c.neighbours-w-items.result.now c.neighbours-w-items.ensures c.loop-w.w-index c.loop-w-test.true
+bounds-trees-w g c = (c.neighbours-w-items.ensures.within c.loop-w.w-index c.loop-w-test.true).0
 
 pub loop-w-preserved : goal.loop-w-preserved
 loop-w-preserved g c =
@@ -28,7 +25,7 @@ loop-w-preserved g c =
     let few : w < 64 = bounds-trees-w g c in
     let same : c.contains.result ≡ on w = c.contains.ensures ∙ ap (λ tree. is_on tree w) c.tree-tree.ensures.tree in
     let next = slice_set c.loop-w.trees w c.contains.result in
-    subst (λ vs. AreSeen on false vs next × OnlyTrue on next) (sym (take-next c.neighbours-w-items.result.now ws c.neighbours-w-items.ensures i there)) (
+    subst (λ vs. AreSeen on false vs next × OnlyTrue on next) (sym (take-next c.neighbours-w-items.result.now ws c.neighbours-w-items.ensures.neighbours i there)) (
       seen-next on false (take i ws) c.loop-w.trees w c.contains.result few same c.loop-w.invariant.0,
       only-next on c.loop-w.trees w c.contains.result (rw c.loop-w.invariant.0.size few) same c.loop-w.invariant.1,
     )

@@ -1,21 +1,13 @@
 use Rattle.std.proofs.Common.{◌<◌, length, take, refl, slice_set, slice_index_or, subst, sym, rules}
 use Rattle.node_core.specs.View.{site_in, state_of}
-use Rattle.node_loop.proofs.Sights.{AreSeen, NoneElse, is-few-at, is-node-at, none-next, none-start, seen-next, seen-start, take-next}
+use Rattle.node_loop.proofs.Sights.{AreSeen, NoneElse, none-next, none-start, seen-next, seen-start, take-next}
 use Rattle.node_loop.proofs.sight.values.Goals as goal
 
 pub loop-w-init : goal.loop-w-init
 loop-w-init g c = (seen-start (state_of c.args.node.now).value 0 _ refl, none-start)
 
-pub value-requires : goal.value-requires
-value-requires g c =
-    let site = site_in c.args.node.now in
-    is-node-at c.neighbours.ensures.joined c.args.net.now site.id site c.requires.site c.neighbours-w-items.result.now c.neighbours-w-items.ensures c.loop-w.w-index c.loop-w-test.true
-
 pub bounds-values-w : goal.bounds-values-w
-bounds-values-w g c =
-    let site = site_in c.args.node.now in
-    is-few-at c.limits.ensures c.neighbours.ensures.joined c.args.net.now site.id site c.nodes-known.ensures.network c.requires.site
-    c.neighbours-w-items.result.now c.neighbours-w-items.ensures c.loop-w.w-index c.loop-w-test.true
+bounds-values-w g c = (c.neighbours-w-items.ensures.within c.loop-w.w-index c.loop-w-test.true).0
 
 pub loop-w-preserved : goal.loop-w-preserved
 loop-w-preserved g c =
@@ -25,7 +17,7 @@ loop-w-preserved g c =
     let w = slice_index_or c.neighbours-w-items.result.now i 0 in
     let there : i < length ws = search rules in
     let next = slice_set c.loop-w.values w c.value.result in
-    subst (λ vs. AreSeen value 0 vs next × NoneElse vs next) (sym (take-next c.neighbours-w-items.result.now ws c.neighbours-w-items.ensures i there)) (
+    subst (λ vs. AreSeen value 0 vs next × NoneElse vs next) (sym (take-next c.neighbours-w-items.result.now ws c.neighbours-w-items.ensures.neighbours i there)) (
       seen-next value 0 (take i ws) c.loop-w.values w c.value.result (bounds-values-w g c) c.value.ensures c.loop-w.invariant.0,
       none-next (take i ws) c.loop-w.values w c.value.result c.loop-w.invariant.1,
     )

@@ -1,7 +1,6 @@
 use Rattle.std.proofs.Common.{◌≡◌, inl}
-use Rattle.node_connections.specs.Hearing.{Wires}
-use Rattle.node_connections.proofs.Hearing.{others-set}
 use Rattle.node_connections.proofs.Loose.{loose-set}
+use Rattle.node_connections.proofs.Hearing.{wired-set}
 use Rattle.node_loop.proofs.Hearing.{changed-there, counted-set}
 use Rattle.node_loop.proofs.run.NodeRun.call_on.Goals as goal
 
@@ -15,7 +14,4 @@ pub returns-in-Came-clause-links : goal.returns-in-Came-clause-links
 returns-in-Came-clause-links g c = changed-there (λ old new. (new.link ≡ old.link) × (new.is_stuck ≡ old.is_stuck)) c.args.self.now.ports.items c.args.id c.args.self.now.net.nodes c.index_mut.result.now c.greet.new.self c.args.self.now.ports_are c.requires.node c.index_mut.ensures.value (c.greet.ensures.link.0, c.greet.ensures.link.1)
 
 pub returns-in-Came-clause-wires : goal.returns-in-Came-clause-wires
-returns-in-Came-clause-wires g c = changed-there Wires c.args.self.now.ports.items c.args.id c.args.self.now.net.nodes c.index_mut.result.now c.greet.new.self c.args.self.now.ports_are c.requires.node c.index_mut.ensures.value (inl (c.greet.ensures.link.0, c.greet.ensures.link.1))
-
-pub returns-in-Came-clause-others : goal.returns-in-Came-clause-others
-returns-in-Came-clause-others g c = others-set c.args.self.now.ports.items c.args.id c.greet.new.self
+returns-in-Came-clause-wires g c = wired-set c.args.self.now.ports.items c.args.id c.args.self.now.net.nodes c.index_mut.result.now c.greet.new.self c.args.self.now.ports_are c.requires.node c.index_mut.ensures.value (inl (c.greet.ensures.link.0, c.greet.ensures.link.1))

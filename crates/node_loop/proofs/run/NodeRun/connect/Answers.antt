@@ -16,7 +16,7 @@ loop-id-preserved g c =
       done.rest.0 ∙ before.1,
       done.rest.1 ∙ before.2,
       done.rest.2 ∙ before.3,
-      wired-join c.args.self.now.ports.items mid new before.4 (wired-at mid new c.loop-id.id done.wires done.others),
+      wired-join c.args.self.now.ports.items mid new before.4 (wired-at mid new c.loop-id.id done.wires),
       done.rest.3 ∙ before.5,
       remembers-join c.args.self.now.pace c.loop-id.self.pace c.connect_to.new.self.pace before.6 done.pace,
     )

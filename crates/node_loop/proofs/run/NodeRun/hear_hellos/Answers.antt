@@ -21,7 +21,7 @@ loop-place-preserved g c =
             done.rest.0 ∙ before.1,
             done.rest.1 ∙ before.2,
             done.rest.2 ∙ before.3,
-            wired-join start mid new.ports.items before.4 (wired-at mid new.ports.items w.in-Some.id done.wires done.others),
+            wired-join start mid new.ports.items before.4 (wired-at mid new.ports.items w.in-Some.id done.wires),
             done.rest.3 ∙ before.5,
             remembers-join c.args.self.now.pace c.loop-place.self.pace new.pace before.6 done.pace,
           ))

@@ -1,13 +1,12 @@
-use Rattle.std.proofs.Common.{◌≡◌, ◌<◌, ◌∷◌, Contains, length, ap, refl, rules, subst, sym, ◌∙◌, []}
+use Rattle.std.proofs.Common.{◌≡◌, ◌<◌, ◌∷◌, Contains, length, ap, refl, rules, subst, sym, []}
 use Rattle.std.specs.Prelude.{slice_set}
-use Rattle.std.proofs.lemmas.List.{length-set}
 use Rattle.node_core.specs.Site.{Site, site_of}
 use Rattle.topology.specs.Ranges.{ranges_of}
 use Rattle.socket_links.specs.Links.{Pulled}
 use Rattle.socket_links.specs.declared.link.Pull.TheVariants as pull
 use Rattle.node_connections.specs.Hearing.{Comes, Pulls}
 use Rattle.node_connections.proofs.Hearing.{both-set, others-set, frame-came, later-came, broken-came, pulls-same}
-use Rattle.node_loop.proofs.Hearing.{takes-none, takes-nothing, takes-one}
+use Rattle.node_loop.proofs.Hearing.{counted-set, takes-none, takes-one, takes-set}
 use Rattle.node_connections.specs.Loose.{AreLoose}
 use Rattle.node_connections.proofs.Loose.{loose-set}
 use Rattle.node_loop.proofs.run.NodeRun.pull_one.Goals as goal
@@ -22,17 +21,11 @@ pub returns-in-Later-clause-ended : goal.returns-in-Later-clause-ended
 returns-in-Later-clause-ended g c _ =
     let self = c.args.self.now in
     let r = self.node.registers.ranges in
-    let id = c.args.id in
-    let old = c.index_mut.result.now in
-    let new = c.pull.new.self in
     let ranges : r ≡ ranges_of self.net = ap (λ s. s.ranges) self.wired in
-    let within : id < length self.ports.items = search rules in
-    let pulled : Pulled r g.D.P.Pipe.gave g.D.P.Pipe.took g.D.P.Pipe.counts old.link new.link pull.Later = rw ranges (rw c.in-Later.is at c.pull.ensures.pulled) in
+    let pulled : Pulled r g.D.P.Pipe.gave g.D.P.Pipe.took g.D.P.Pipe.counts c.index_mut.result.now.link c.pull.new.self.link pull.Later = rw ranges (rw c.in-Later.is at c.pull.ensures.pulled) in
     record {
-      takes = takes-nothing (Pulls r g.D.P.Pipe.gave g.D.P.Pipe.took g.D.P.Pipe.counts) id self.node self.ports.items _
-          (both-set (Pulls r g.D.P.Pipe.gave g.D.P.Pipe.took g.D.P.Pipe.counts []) self.ports.items id old new within c.index_mut.ensures.value
-          (later-came r g.D.P.Pipe.gave g.D.P.Pipe.took g.D.P.Pipe.counts old new pulled c.pull.ensures.rest))
-          (others-set self.ports.items id new);
+      takes = takes-set (Pulls r g.D.P.Pipe.gave g.D.P.Pipe.took g.D.P.Pipe.counts) self.node self.ports.items c.args.id self.net.nodes c.index_mut.result.now c.pull.new.self self.ports_are (search rules) c.index_mut.ensures.value
+          (later-came r g.D.P.Pipe.gave g.D.P.Pipe.took g.D.P.Pipe.counts c.index_mut.result.now c.pull.new.self pulled c.pull.ensures.rest);
       noted = refl;
     }
 
@@ -40,16 +33,10 @@ pub returns-in-Broken-clause-ended : goal.returns-in-Broken-clause-ended
 returns-in-Broken-clause-ended g c _ =
     let self = c.args.self.now in
     let r = self.node.registers.ranges in
-    let id = c.args.id in
-    let old = c.index_mut.result.now in
-    let new = c.pull.new.self in
-    let within : id < length self.ports.items = search rules in
-    let pulled : Pulled r g.D.P.Pipe.gave g.D.P.Pipe.took g.D.P.Pipe.counts old.link new.link pull.Broken = rw c.in-Broken.is at c.pull.ensures.pulled in
+    let pulled : Pulled r g.D.P.Pipe.gave g.D.P.Pipe.took g.D.P.Pipe.counts c.index_mut.result.now.link c.pull.new.self.link pull.Broken = rw c.in-Broken.is at c.pull.ensures.pulled in
     record {
-      takes = takes-nothing (Pulls r g.D.P.Pipe.gave g.D.P.Pipe.took g.D.P.Pipe.counts) id self.node self.ports.items _
-          (both-set (Pulls r g.D.P.Pipe.gave g.D.P.Pipe.took g.D.P.Pipe.counts []) self.ports.items id old new within c.index_mut.ensures.value
-          (broken-came r g.D.P.Pipe.gave g.D.P.Pipe.took g.D.P.Pipe.counts old new pulled c.pull.ensures.rest))
-          (others-set self.ports.items id new);
+      takes = takes-set (Pulls r g.D.P.Pipe.gave g.D.P.Pipe.took g.D.P.Pipe.counts) self.node self.ports.items c.args.id self.net.nodes c.index_mut.result.now c.pull.new.self self.ports_are (search rules) c.index_mut.ensures.value
+          (broken-came r g.D.P.Pipe.gave g.D.P.Pipe.took g.D.P.Pipe.counts c.index_mut.result.now c.pull.new.self pulled c.pull.ensures.rest);
       noted = refl;
     }
 
@@ -86,25 +73,16 @@ invariant_of-self-2-clause-wired g c =
     subst (λ (site : Site). site ≡ site_of self.net site.id) (sym c.take.ensures.site) self.wired
 
 pub invariant_of-self-2-clause-ports_are : goal.invariant_of-self-2-clause-ports_are
-invariant_of-self-2-clause-ports_are g c =
-    let self = c.args.self.now in
-    let new = c.pull.new.self in
-    (length-set self.ports.items c.args.id new ∙ self.ports_are.0, self.ports_are.1)
+invariant_of-self-2-clause-ports_are g c = counted-set c.args.self.now.ports.items c.args.id c.pull.new.self c.args.self.now.net.nodes c.args.self.now.ports_are
 
 pub invariant_of-self-in-Later-clause-ports_are : goal.invariant_of-self-in-Later-clause-ports_are
-invariant_of-self-in-Later-clause-ports_are g c = let self = c.args.self.now in (length-set self.ports.items c.args.id c.pull.new.self ∙ self.ports_are.0, self.ports_are.1)
+invariant_of-self-in-Later-clause-ports_are g c = counted-set c.args.self.now.ports.items c.args.id c.pull.new.self c.args.self.now.net.nodes c.args.self.now.ports_are
 
 pub invariant_of-self-in-Later-clause-strangers : goal.invariant_of-self-in-Later-clause-strangers
-invariant_of-self-in-Later-clause-strangers g c =
-    let self = c.args.self.now in
-    let has : Contains self.node.registers.neighbours c.args.id = search rules in
-    loose-set self.node.registers.neighbours self.ports.items c.args.id c.pull.new.self has self.strangers
+invariant_of-self-in-Later-clause-strangers g c = loose-set c.args.self.now.node.registers.neighbours c.args.self.now.ports.items c.args.id c.pull.new.self (search rules) c.args.self.now.strangers
 
 pub invariant_of-self-in-Broken-clause-ports_are : goal.invariant_of-self-in-Broken-clause-ports_are
-invariant_of-self-in-Broken-clause-ports_are g c = let self = c.args.self.now in (length-set self.ports.items c.args.id c.pull.new.self ∙ self.ports_are.0, self.ports_are.1)
+invariant_of-self-in-Broken-clause-ports_are g c = counted-set c.args.self.now.ports.items c.args.id c.pull.new.self c.args.self.now.net.nodes c.args.self.now.ports_are
 
 pub invariant_of-self-in-Broken-clause-strangers : goal.invariant_of-self-in-Broken-clause-strangers
-invariant_of-self-in-Broken-clause-strangers g c =
-    let self = c.args.self.now in
-    let has : Contains self.node.registers.neighbours c.args.id = search rules in
-    loose-set self.node.registers.neighbours self.ports.items c.args.id c.pull.new.self has self.strangers
+invariant_of-self-in-Broken-clause-strangers g c = loose-set c.args.self.now.node.registers.neighbours c.args.self.now.ports.items c.args.id c.pull.new.self (search rules) c.args.self.now.strangers

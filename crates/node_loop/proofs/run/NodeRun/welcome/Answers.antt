@@ -1,13 +1,12 @@
-use Rattle.std.proofs.Common.{◌≡◌, ◌<◌, length, refl, inr, ap, arith, ◌∙◌}
-use Rattle.std.proofs.lemmas.List.{length-set}
+use Rattle.std.proofs.Common.{◌≡◌, ◌<◌, length, refl, inr, ap, arith}
 use Rattle.circular_buffer.proofs.Places.{slice_get-set_same}
-use Rattle.node_connections.specs.Hearing.{Wires}
-use Rattle.node_connections.proofs.Hearing.{both-set, others-set}
 use Rattle.node_connections.proofs.Loose.{loose-set}
+use Rattle.node_connections.proofs.Hearing.{wired-set}
+use Rattle.node_loop.proofs.Hearing.{counted-set}
 use Rattle.node_loop.proofs.run.NodeRun.welcome.Goals as goal
 
 pub invariant_of-self-clause-ports_are : goal.invariant_of-self-clause-ports_are
-invariant_of-self-clause-ports_are g c = let self = c.args.self.now in (length-set self.ports.items c.args.id c.attach.new.self ∙ self.ports_are.0, self.ports_are.1)
+invariant_of-self-clause-ports_are g c = let self = c.args.self.now in counted-set self.ports.items c.args.id c.attach.new.self self.net.nodes self.ports_are
 
 pub invariant_of-self-clause-strangers : goal.invariant_of-self-clause-strangers
 invariant_of-self-clause-strangers g c =
@@ -25,9 +24,6 @@ pub returns-then-is_neighbour-clause-wires : goal.returns-then-is_neighbour-clau
 returns-then-is_neighbour-clause-wires g c =
     let self = c.args.self.now in
     let nodes : self.node.registers.ranges.nodes ≡ self.net.nodes = ap (λ s. s.ranges.nodes) self.wired in
-    let within : c.args.id < length self.ports.items = let size = self.ports_are.0 in let below = c.if-is_neighbour.ensures.node refl in omega arith in
-    both-set Wires self.ports.items c.args.id c.index_mut.result.now c.attach.new.self within c.index_mut.ensures.value
+    let below = c.if-is_neighbour.ensures.node refl in
+    wired-set self.ports.items c.args.id self.net.nodes c.index_mut.result.now c.attach.new.self self.ports_are (omega (arith, nodes, below)) c.index_mut.ensures.value
     (inr (rw c.attach.ensures.stands.0 refl, c.attach.ensures.bare, c.attach.ensures.stands.2))
-
-pub returns-then-is_neighbour-clause-others : goal.returns-then-is_neighbour-clause-others
-returns-then-is_neighbour-clause-others g c = others-set c.args.self.now.ports.items c.args.id c.attach.new.self

@@ -2,7 +2,7 @@ use Rattle.std.proofs.Common.{◌≡◌, ◌<◌, [], ◌∷◌, ◌∙◌, leng
 use Rattle.std.proofs.lemmas.List.{length-take-le}
 use Rattle.topology.specs.Ranges.{ranges_of}
 use Rattle.socket_links.specs.Links.{waiting, unsent}
-use Rattle.socket_links.proofs.Flowing.{pulls_look, pushes_look, pulls_later, pushes_none, pulls_got, pushes_same, gave_bytes, asked}
+use Rattle.socket_links.proofs.Flowing.{pulls_look, pushes_look, pulls_later, pushes_none, flows_got, gave_bytes, asked}
 use Rattle.socket_links.proofs.link.SocketLink.pull.Goals as goal
 
 pub returns-in_default-pipe-clause-pulled : goal.returns-in_default-pipe-clause-pulled
@@ -33,19 +33,13 @@ returns-in-Later-clause-pulled g c =
 
 pub returns-in-Some-look-clause-pulled : goal.returns-in-Some-look-clause-pulled
 returns-in-Some-look-clause-pulled g c =
-    let r = ranges_of c.args.net.now in
     let l = c.args.self.now in
-    let q = c.try_read.new.self in
-    let new = c.look-in-Got.new.self in
     let was : l.pipe ≡ Some c.in-Some-pipe.pipe = sym c.look.ensures.pipe ∙ c.in-Some-pipe.is in
-    let reads = c.in-Got.ensures.reads in
-    let bytes = take c.in-Got.count c.try_read.new.buffer in (
-      pulls_got r g.P.Pipe.gave g.P.Pipe.took g.P.Pipe.counts l new c.in-Some-pipe.pipe q was c.look-in-Got.ensures.pipe c.look.new.self.reader
-          (waiting c.look.new.self) bytes (c.in-Some-look.frame ∷ []) reads.2 c.in_default.ensures.looked c.in_default.ensures.all c.in-Some-look.ensures.looked,
-      pushes_same r g.P.Pipe.gave g.P.Pipe.took g.P.Pipe.counts l new c.in-Some-pipe.pipe q was c.look-in-Got.ensures.pipe c.try_read.ensures.took
-          (c.look-in-Got.ensures.unsent ∙ c.in_default.ensures.unsent),
-      rw c.look-in-Got.ensures.pipe refl,
-    )
+    let flows =
+    flows_got (ranges_of c.args.net.now) g.P.Pipe.gave g.P.Pipe.took g.P.Pipe.counts l c.look-in-Got.new.self c.in-Some-pipe.pipe c.try_read.new.self was c.look-in-Got.ensures.pipe c.look.new.self.reader
+        (waiting c.look.new.self) (take c.in-Got.count c.try_read.new.buffer) (c.in-Some-look.frame ∷ []) c.in-Got.ensures.reads.2 c.in_default.ensures.looked c.in_default.ensures.all
+        c.in-Some-look.ensures.looked c.try_read.ensures.took (c.look-in-Got.ensures.unsent ∙ c.in_default.ensures.unsent) in
+    (flows.0, flows.1, rw c.look-in-Got.ensures.pipe refl)
 
 pub returns-in-None-clause-pulled : goal.returns-in-None-clause-pulled
 returns-in-None-clause-pulled g c =
@@ -57,11 +51,13 @@ returns-in-None-clause-pulled g c =
     let reads = c.in-Got.ensures.reads in
     let bytes = take c.in-Got.count c.try_read.new.buffer in
     let len : length bytes ≡ c.in-Got.count = length-take-le c.in-Got.count c.try_read.new.buffer reads.1 in
-    let some : 0 < length bytes = omega (arith, len, reads.0) in (
-      pulls_got r g.P.Pipe.gave g.P.Pipe.took g.P.Pipe.counts l new c.in-Some-pipe.pipe q was c.look-in-Got.ensures.pipe c.look.new.self.reader
-          (waiting c.look.new.self) bytes [] reads.2 c.in_default.ensures.looked c.in_default.ensures.all c.in-None.ensures.looked,
-      pushes_same r g.P.Pipe.gave g.P.Pipe.took g.P.Pipe.counts l new c.in-Some-pipe.pipe q was c.look-in-Got.ensures.pipe c.try_read.ensures.took
-          (c.look-in-Got.ensures.unsent ∙ c.in_default.ensures.unsent),
+    let some : 0 < length bytes = omega (arith, len, reads.0) in
+    let flows =
+    flows_got r g.P.Pipe.gave g.P.Pipe.took g.P.Pipe.counts l new c.in-Some-pipe.pipe q was c.look-in-Got.ensures.pipe c.look.new.self.reader
+        (waiting c.look.new.self) bytes [] reads.2 c.in_default.ensures.looked c.in_default.ensures.all c.in-None.ensures.looked
+        c.try_read.ensures.took (c.look-in-Got.ensures.unsent ∙ c.in_default.ensures.unsent) in (
+      flows.0,
+      flows.1,
       c.in-None.ensures.all,
       asked l.pipe c.in-Some-pipe.pipe _ _ was (inr (gave_bytes r g.P.Pipe.gave g.P.Pipe.took g.P.Pipe.counts l new c.in-Some-pipe.pipe q was c.look-in-Got.ensures.pipe bytes some reads.2)),
     )
