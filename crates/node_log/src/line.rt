@@ -1,6 +1,6 @@
 //! The line of what is said.
 ghost use Rattle.std.specs.Prelude.{Some};
-ghost use Rattle.node_log.specs.Line.{log_line, priority_text, left_out_text, event_text};
+ghost use Rattle.node_log.specs.Line.{log_line, left_out_text, event_text};
 
 use crate::event::Event;
 use std::fmt;
@@ -22,27 +22,12 @@ impl fmt::Display for LogLine {
     ghost output = { λ line. Some (log_line line.id line.event line.left_out line.has_priority) };
 
     fn fmt<W: fmt::Write>(&self, f: &mut fmt::Formatter<W>) -> fmt::Result {
-        let (id, what) = (self.id, What(self.event));
-        let priority = Priority(self.event, self.has_priority);
-        let left_out = LeftOut(self.left_out);
-        write!(f, "{priority}tokentree: node {id}: {what}{left_out}")
-    }
-}
-
-/// The priority in front of a line, if it stands there.
-#[derive(Drop)]
-struct Priority(Event, bool);
-
-impl fmt::Display for Priority {
-    ghost output = { λ line. Some (priority_text line.0 line.1) };
-
-    fn fmt<W: fmt::Write>(&self, f: &mut fmt::Formatter<W>) -> fmt::Result {
-        if self.1 {
-            let priority = self.0.level().priority();
-            write!(f, "<{priority}>")
-        } else {
-            Ok(())
+        if self.has_priority {
+            let priority = self.event.level().priority();
+            write!(f, "<{priority}>")?;
         }
+        let (id, what, left_out) = (self.id, What(self.event), LeftOut(self.left_out));
+        write!(f, "tokentree: node {id}: {what}{left_out}")
     }
 }
 
