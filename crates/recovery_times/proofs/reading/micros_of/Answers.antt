@@ -1,5 +1,4 @@
-use Rattle.std.proofs.Common.{◌≡◌, ◌∙◌, Some, None, take, ap, arith}
-use Rattle.std.proofs.lemmas.Bool.Decides.{nat_tests}
+use Rattle.std.proofs.Common.{◌≡◌, ◌∙◌, Some, None, take, ap}
 use Rattle.recovery_times.specs.Reading.{point_at, after_point, whole_of, part_of}
 use Rattle.recovery_times.proofs.Points.{after-first, no-part, cut-parts}
 use Rattle.recovery_times.proofs.reading.micros_of.Goals as goal
