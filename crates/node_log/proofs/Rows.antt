@@ -1,5 +1,5 @@
 -- Small examples of what a node says of itself, and ones that fail.
-use Rattle.std.proofs.Common.{◌≡◌, ◌≢◌, ℕ, Bool, true, false, List, [], ◌∷◌, Option, Some, None, refl, codes, arith}
+use Rattle.std.proofs.Common.{◌≡◌, ◌≢◌, ℕ, Bool, true, false, List, [], ◌∷◌, Option, Some, None, map, refl, codes, arith}
 use Rattle.std.specs.Fmt.{digits}
 use Rattle.lock_desk.specs.declared.act.DeskAct.TheVariants as act
 use Rattle.node_log.specs.declared.event.Event.{Event}
@@ -15,8 +15,9 @@ use Rattle.node_log.specs.Places.{by_place, place_after}
 use Rattle.node_log.specs.Line.{event_text, priority_text, left_out_text, log_line}
 use Rattle.node_log.specs.Laws.{is_said}
 
-urgent-lost : level_of (event.Lost 7) ≡ Warning
-urgent-lost = refl
+urgent : map level_of (event.Lost 7 ∷ event.Full ∷ event.Room ∷ event.Crowded ∷ event.Astray ∷ event.InPlace ∷ [])
+    ≡ Warning ∷ Warning ∷ Notice ∷ Warning ∷ Warning ∷ Notice ∷ []
+urgent = refl
 
 urgent_not-grant : level_of (event.Granted 7) ≢ Notice
 urgent_not-grant = grind arith
@@ -122,15 +123,6 @@ desk-says : desk_says false (63 ∷ 64 ∷ 64 ∷ 33 ∷ 32 ∷ 64 ∷ [])
     ≡ None ∷ Some event.Full ∷ None ∷ None ∷ Some event.Room ∷ Some event.Full ∷ []
 desk-says = refl
 
-urgent-full : level_of event.Full ≡ Warning
-urgent-full = refl
-
-urgent-room : level_of event.Room ≡ Notice
-urgent-room = refl
-
-words-full : event_text event.Full ≡ codes "64 clients wait, and further ones are refused"
-words-full = refl
-
 -- the same of connections, by how many were closed and how many stand
 abbrev crowd_says : Bool → List (ℕ × ℕ) → List (Option Event)
 crowd_says is_crowded [] = []
@@ -142,12 +134,6 @@ crowd_says is_crowded ((closed, connected) ∷ later) =
 crowd-says : crowd_says false ((0, 128) ∷ (1, 128) ∷ (3, 128) ∷ (1, 10) ∷ (0, 65) ∷ (0, 64) ∷ (1, 128) ∷ [])
     ≡ None ∷ Some event.Crowded ∷ None ∷ None ∷ None ∷ Some event.Seats ∷ Some event.Crowded ∷ []
 crowd-says = refl
-
-urgent-crowded : level_of event.Crowded ≡ Warning
-urgent-crowded = refl
-
-words-crowded : event_text event.Crowded ≡ codes "128 clients are connected, and further ones are closed"
-words-crowded = refl
 
 -- the same of its place, by whether the node is in it and when the turn ended
 abbrev place_says : Place → List (Bool × ℕ) → List (Option Event)
@@ -169,15 +155,6 @@ place-since = refl
 place_not-still : place_after true 3000000 (WrongSince 1000000) ≢ WrongSince 1000000
 place_not-still = grind arith
 
-urgent-astray : level_of event.Astray ≡ Warning
-urgent-astray = refl
-
-urgent-in_place : level_of event.InPlace ≡ Notice
-urgent-in_place = refl
-
-words-astray : event_text event.Astray ≡ codes "its distance or parent has been wrong for 2 s"
-words-astray = refl
-
 next-first : next_of 3 2 ≡ 0
 next-first = refl
 
@@ -194,9 +171,11 @@ counts_not-info : rate_then (Some Notice) (event.Granted 1) 5 new_rate ≡ new_r
 counts_not-info = refl
 
 -- the words
-words-up : event_text (event.Up 2) ≡ codes "the link to node 2 is up"
+words : map event_text (event.Up 2 ∷ event.Full ∷ event.Crowded ∷ event.Astray ∷ [])
+    ≡ codes "the link to node 2 is up" ∷ codes "64 clients wait, and further ones are refused"
+    ∷ codes "128 clients are connected, and further ones are closed" ∷ codes "its distance or parent has been wrong for 2 s" ∷ []
 unfolding digits
-words-up = refl
+words = refl
 
 words-priority : priority_text (event.Lost 3) true ≡ codes "<4>"
 unfolding digits
