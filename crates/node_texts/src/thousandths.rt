@@ -12,14 +12,13 @@ impl fmt::Display for Thousandths {
     ghost output = { λ number. Some (thousandths_text number.0) };
 
     fn fmt<W: fmt::Write>(&self, f: &mut fmt::Formatter<W>) -> fmt::Result {
-        let thousandths = self.0;
         write!(
             f,
             "{}.{}{}{}",
-            thousandths / 1000,
-            thousandths / 100 % 10,
-            thousandths / 10 % 10,
-            thousandths % 10
+            self.0 / 1000,
+            self.0 / 100 % 10,
+            self.0 / 10 % 10,
+            self.0 % 10
         )
     }
 }
