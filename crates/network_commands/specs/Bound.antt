@@ -7,6 +7,8 @@ use Rattle.topology.specs.Tree.{distance_of, parent_of}
 use Rattle.topology.specs.Eccentricity.{sharp_of}
 use Rattle.recovery_times.specs.declared.premises.Premises.{Premises}
 use Rattle.recovery_times.specs.Text.{times_text}
+use Rattle.network_commands.specs.declared.bound.Column.{Column}
+use Rattle.network_commands.specs.declared.bound.Column.TheVariants.{Distances, Parents}
 
 -- a line of a word and a number
 abbrev pub number_line : List ℕ → ℕ → List ℕ
@@ -26,6 +28,11 @@ abbrev pub parent_word : Option ℕ → List ℕ
 parent_word None = codes "none"
 parent_word (Some parent) = decimal parent
 
+-- what a column says of a node
+abbrev pub column_word : Column → Network → ℕ → List ℕ
+column_word Distances net v = decimal (distance_of net v)
+column_word Parents net v = parent_word (parent_of net v)
+
 -- the eight lines
 abbrev pub bound_text : Network → List ℕ
 bound_text net =
@@ -33,8 +40,8 @@ bound_text net =
     ++ (number_line (codes "edges") (length net.edges)
     ++ (number_line (codes "capacity") net.capacity
     ++ (number_line (codes "counter") (counter_of net) ++ (number_line (codes "ring") (ring_of net)
-    ++ (nodes_line (codes "distances") net.nodes (λ v. decimal (distance_of net v))
-    ++ (nodes_line (codes "parents") net.nodes (λ v. parent_word (parent_of net v))
+    ++ (nodes_line (codes "distances") net.nodes (column_word Distances net)
+    ++ (nodes_line (codes "parents") net.nodes (column_word Parents net)
     ++ number_line (codes "sweeps") (bound_of net)))))))
 
 -- the eight lines and, if it is asked for, the line of the sharp bound

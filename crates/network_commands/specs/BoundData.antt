@@ -9,6 +9,8 @@ use Rattle.topology.specs.Tree.{distance_of, parent_of}
 use Rattle.topology.specs.Eccentricity.{sharp_of}
 use Rattle.recovery_times.specs.declared.premises.Premises.{Premises}
 use Rattle.recovery_times.specs.Times.{window_of, recovery_of, lending_of, millis_up}
+use Rattle.network_commands.specs.declared.bound.Column.{Column}
+use Rattle.network_commands.specs.declared.bound.Column.TheVariants.{Distances, Parents}
 
 abbrev pub count : ℕ → Data
 count n = number (unsigned n)
@@ -18,12 +20,14 @@ abbrev pub or_null : Option ℕ → Data
 or_null None = null
 or_null (Some id) = count id
 
--- the distances of the first nodes, by ascending id
-abbrev pub distances_data : Network → ℕ → List Data
-distances_data net nodes = map (λ v. count (distance_of net v)) (range_with_len 0 nodes)
+-- what a column says of a node
+abbrev pub column_value : Column → Network → ℕ → Data
+column_value Distances net v = count (distance_of net v)
+column_value Parents net v = or_null (parent_of net v)
 
-abbrev pub parents_data : Network → ℕ → List Data
-parents_data net nodes = map (λ v. or_null (parent_of net v)) (range_with_len 0 nodes)
+-- and of the first nodes, by ascending id
+abbrev pub column_data : Column → Network → ℕ → List Data
+column_data column net nodes = map (column_value column net) (range_with_len 0 nodes)
 
 -- the numbers of the first five lines, added to other members
 abbrev pub shape_members : Network → Members → Members
@@ -38,8 +42,8 @@ shape_members net others =
 abbrev pub bound_members : Network → Members → Members
 bound_members net others =
     put (codes "sweeps") (count (bound_of net))
-    (put (codes "parents") (array (items_of (parents_data net net.nodes)))
-    (put (codes "distances") (array (items_of (distances_data net net.nodes))) (shape_members net others)))
+    (put (codes "parents") (array (items_of (column_data Parents net net.nodes)))
+    (put (codes "distances") (array (items_of (column_data Distances net net.nodes))) (shape_members net others)))
 
 -- the sharp bound, if it is asked for
 abbrev pub sharp_members : Network → Bool → Members → Members

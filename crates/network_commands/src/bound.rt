@@ -1,12 +1,11 @@
 //! `bound FILE`, with `--sharp`, with `--time`, or without: what the lock's guarantee costs on a
 //! network.
-ghost use Rattle.std.specs.Prelude.{◌≡◌, ◌↔◌, ℕ, ◌++◌, Err, IfOk, IfErr, IsOk, OnOk, string_bytes};
-ghost use Rattle.std.specs.Prelude.{codes, decimal};
+ghost use Rattle.std.specs.Prelude.{◌≡◌, ◌↔◌, ◌<◌, ◌++◌, Err, IfOk, IfErr, IsOk, OnOk, string_bytes};
+ghost use Rattle.std.specs.Prelude.{codes};
 ghost use Rattle.command_faults.specs.Ends.{DoneMeansZero};
 ghost use Rattle.network_commands.specs.Bound.{number_line, nodes_line, parent_word, bound_text};
-ghost use Rattle.network_commands.specs.Bound.{shown_text, timed_text};
+ghost use Rattle.network_commands.specs.Bound.{column_word, shown_text, timed_text};
 ghost use Rattle.network_commands.specs.Faults.{IsUnprinted};
-ghost use Rattle.topology.specs.Tree.{distance_of, parent_of};
 
 use command_faults::{Fault, printed, read_network};
 use recovery_times::{Premises, times_text};
@@ -83,8 +82,8 @@ pub fn bound_text(alloc: Global, net: &Net) -> Result<String, AllocError>
     push_number(&mut text, "capacity", u32::from(net.capacity()))?;
     push_number(&mut text, "counter", u32::from(net.counter()))?;
     push_number(&mut text, "ring", u32::from(net.ring()))?;
-    push_distances(&mut text, net)?;
-    push_parents(&mut text, net)?;
+    push_column(&mut text, "distances", net, Column::Distances)?;
+    push_column(&mut text, "parents", net, Column::Parents)?;
     push_number(&mut text, "sweeps", net.bound())?;
     Ok(text)
 }
@@ -97,30 +96,37 @@ pub fn push_number(text: &mut String, word: &str, number: u32) -> Result<(), All
     writeln!(text, "{word} {number}")
 }
 
-/// Adds the line of distances.
-fn push_distances(text: &mut String, net: &Net) -> Result<(), AllocError>
+/// What is said of each node.
+#[derive(Clone, Copy)]
+pub(crate) enum Column {
+    /// Its distance.
+    Distances,
+    /// Its true parent.
+    Parents,
+}
+
+/// Adds a line of a word, and of what a column says of each node.
+fn push_column(text: &mut String, word: &str, net: &Net, column: Column) -> Result<(), AllocError>
     ensures { OnOk result (string_bytes text.new
-        ≡ string_bytes text.old
-        ++ nodes_line (codes "distances") net.now.nodes (λ v. decimal (distance_of net.now v))) }
+        ≡ string_bytes text.old ++ nodes_line word.now net.now.nodes (column_word column net.now)) }
 {
-    text.push_str("distances")?;
+    text.push_str(word)?;
     for v in 0..net.nodes() {
-        write!(text, " {}", net.distance(v))?;
+        push_word(text, net, column, v)?;
     }
     text.push_str("\n")
 }
 
-/// Adds the line of true parents.
-fn push_parents(text: &mut String, net: &Net) -> Result<(), AllocError>
+/// Adds a space, and what a column says of a node.
+fn push_word(text: &mut String, net: &Net, column: Column, v: u16) -> Result<(), AllocError>
+    requires { v < net.now.nodes }
     ensures { OnOk result (string_bytes text.new
-        ≡ string_bytes text.old
-        ++ nodes_line (codes "parents") net.now.nodes (λ v. parent_word (parent_of net.now v))) }
+        ≡ string_bytes text.old ++ (codes " " ++ column_word column net.now v)) }
 {
-    text.push_str("parents")?;
-    for v in 0..net.nodes() {
-        push_parent(text, net.parent(v))?;
+    match column {
+        Column::Distances => write!(text, " {}", net.distance(v)),
+        Column::Parents => push_parent(text, net.parent(v)),
     }
-    text.push_str("\n")
 }
 
 /// Adds a space, and a parent's id or `none`.

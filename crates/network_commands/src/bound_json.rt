@@ -1,15 +1,15 @@
 //! `bound FILE --json`: a network's numbers as a JSON object.
-ghost use Rattle.std.specs.Prelude.{◌≡◌, ◌++◌, IfOk, IfErr, OnOk, [], map, string_bytes};
+ghost use Rattle.std.specs.Prelude.{◌≡◌, ◌<◌, ◌++◌, IfOk, IfErr, OnOk, [], map, string_bytes};
 ghost use Rattle.std.specs.List.{range_with_len};
 ghost use Rattle.command_faults.specs.Ends.{DoneMeansZero};
 ghost use Rattle.serde_json.specs.Data.{array};
 ghost use Rattle.serde_json.specs.View.{view, items_view, members_view, items_of};
 ghost use Rattle.serde_json.specs.Written.{IsInOrder};
 ghost use Rattle.network_commands.specs.BoundData.{bound_data, bound_members, shape_members, sharp_members};
-ghost use Rattle.network_commands.specs.BoundData.{time_members, or_null, distances_data, parents_data};
+ghost use Rattle.network_commands.specs.BoundData.{time_members, or_null, column_data, column_value};
 ghost use Rattle.network_commands.specs.Faults.{IsUnprinted};
 
-use crate::bound::done;
+use crate::bound::{Column, done};
 use command_faults::{Fault, printed, read_network};
 use recovery_times::{Premises, millis_up};
 use serde_json::{Map, Value, push, put};
@@ -76,8 +76,13 @@ fn put_bound(map: &mut Map<String, Value>, alloc: Global, net: &Net) -> Result<(
         ≡ bound_members net.now (members_view map.old.entries)) }
 {
     put_shape(map, alloc, net)?;
-    put(map, alloc, "distances", distances(alloc, net)?)?;
-    put(map, alloc, "parents", parents(alloc, net)?)?;
+    put(
+        map,
+        alloc,
+        "distances",
+        list_of(alloc, net, Column::Distances)?,
+    )?;
+    put(map, alloc, "parents", list_of(alloc, net, Column::Parents)?)?;
     put(map, alloc, "sweeps", Value::from(net.bound()))
 }
 
@@ -130,44 +135,35 @@ fn put_times(
     put(map, alloc, "lends_within_ms", Value::from(lends))
 }
 
-/// The distances, by ascending id.
-fn distances(alloc: Global, net: &Net) -> Result<Value, AllocError>
-    ensures { IfOk result (λ value. view value ≡ array (items_of (distances_data net.now net.now.nodes))) }
+/// What a column says of all nodes, by ascending id.
+fn list_of(alloc: Global, net: &Net, column: Column) -> Result<Value, AllocError>
+    ensures { IfOk result (λ value. view value ≡ array (items_of (column_data column net.now net.now.nodes))) }
 {
     let mut list = Vec::new(alloc);
-    push_distances(&mut list, net)?;
+    push_column(&mut list, net, column)?;
     Ok(Value::Array(list))
 }
 
-/// Adds the distances to an empty list.
-fn push_distances(list: &mut Vec<Value>, net: &Net) -> Result<(), AllocError>
+/// Adds that to an empty list.
+fn push_column(list: &mut Vec<Value>, net: &Net, column: Column) -> Result<(), AllocError>
     requires { list.old.items ≡ [] }
-    ensures { OnOk result (map view list.new.items ≡ distances_data net.now net.now.nodes) }
+    ensures { OnOk result (map view list.new.items ≡ column_data column net.now net.now.nodes) }
 {
     for v in 0..net.nodes() {
-        push(list, Value::from(net.distance(v)))?;
+        push(list, column_value(net, column, v))?;
     }
     Ok(())
 }
 
-/// The true parents, by ascending id.
-fn parents(alloc: Global, net: &Net) -> Result<Value, AllocError>
-    ensures { IfOk result (λ value. view value ≡ array (items_of (parents_data net.now net.now.nodes))) }
+/// What a column says of a node.
+fn column_value(net: &Net, column: Column, v: u16) -> Value
+    requires { v < net.now.nodes }
+    ensures { view result ≡ column_value column net.now v }
 {
-    let mut list = Vec::new(alloc);
-    push_parents(&mut list, net)?;
-    Ok(Value::Array(list))
-}
-
-/// Adds the true parents to an empty list.
-fn push_parents(list: &mut Vec<Value>, net: &Net) -> Result<(), AllocError>
-    requires { list.old.items ≡ [] }
-    ensures { OnOk result (map view list.new.items ≡ parents_data net.now net.now.nodes) }
-{
-    for v in 0..net.nodes() {
-        push(list, or_null(net.parent(v)))?;
+    match column {
+        Column::Distances => Value::from(net.distance(v)),
+        Column::Parents => or_null(net.parent(v)),
     }
-    Ok(())
 }
 
 /// An id, or null.

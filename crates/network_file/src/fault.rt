@@ -1,4 +1,7 @@
 //! Why a file gives no network.
+ghost use Rattle.std.specs.Prelude.{Some};
+ghost use Rattle.network_file.specs.FaultText.{network_fault_text};
+
 use std::fmt;
 use topology::NetFault;
 
@@ -12,9 +15,6 @@ pub enum NetworkFault {
 }
 
 impl fmt::Display for NetworkFault {
-    ghost use Rattle.std.specs.Prelude.{Some};
-    ghost use Rattle.network_file.specs.FaultText.{network_fault_text};
-
     ghost output = { λ fault. Some (network_fault_text fault) };
 
     fn fmt<W: fmt::Write>(&self, f: &mut fmt::Formatter<W>) -> fmt::Result {

@@ -1,5 +1,5 @@
 -- Small examples of what a node finds in its network file and says of it, and ones that fail.
-use Rattle.std.proofs.Common.{◌≡◌, ◌≢◌, true, false, [], ◌∷◌, Ok, Err, refl, codes, arith}
+use Rattle.std.proofs.Common.{◌≡◌, ◌≢◌, true, false, [], ◌∷◌, Ok, Err, map, refl, codes, arith}
 use Rattle.std.specs.Fmt.{digits}
 use Rattle.topology.specs.Network.{Network, Edge}
 use Rattle.network_file.specs.declared.fault.NetworkFault.TheVariants.{Unreadable}
@@ -11,41 +11,23 @@ use Rattle.network_news.specs.News.{found_in, has_new, new_news, news_then, is_s
 use Rattle.network_news.specs.Line.{edge_text, edge_if_new, new_edges_text, or_none, taken_line, not_taken_line, news_line}
 
 -- a line of three, the same with its edges in another order, and a ring
-row : Network
+abbrev row : Network
 row = record { nodes = 3; root = 0; capacity = 64; lease = 0; edges = (0, 1) ∷ (1, 2) ∷ [] }
 
-turned : Network
+abbrev turned : Network
 turned = record row { edges = (2, 1) ∷ (0, 1) ∷ [] }
 
-ring : Network
+abbrev ring : Network
 ring = record row { edges = (0, 1) ∷ (1, 2) ∷ (0, 2) ∷ [] }
 
-finds-same : found_in row (Ok turned) ≡ Same
-unfolding row turned
-finds-same = refl
-
-finds-edges : found_in row (Ok ring) ≡ OtherEdges
-unfolding row ring
-finds-edges = refl
+finds : map (found_in row) (Ok turned ∷ Ok ring ∷ Ok (record ring { lease = 5 }) ∷ Err Unreadable ∷ []) ≡ Same ∷ OtherEdges ∷ Other ∷ Refused Unreadable ∷ []
+finds = refl
 
 finds-gone : found_in ring (Ok row) ≡ OtherEdges
-unfolding row ring
 finds-gone = refl
 
-finds-other : found_in row (Ok (record ring { lease = 5 })) ≡ Other
-unfolding row ring
-finds-other = refl
-
-finds-refused : found_in row (Err Unreadable) ≡ Refused Unreadable
-finds-refused = refl
-
-new-edge : has_new row ring ≡ true
-unfolding row ring
-new-edge = refl
-
-new_not-turned : has_new row turned ≡ false
-unfolding row turned
-new_not-turned = refl
+new-edges : map (has_new row) (ring ∷ turned ∷ []) ≡ true ∷ false ∷ []
+new-edges = refl
 
 remembers : news_then (Refused Unreadable) ≡ record { refused = 2 }
 remembers = refl
@@ -53,20 +35,12 @@ remembers = refl
 forgets : news_then OtherEdges ≡ new_news
 forgets = refl
 
-says-edges : is_said OtherEdges 0 ≡ true
-says-edges = refl
-
-says-first : is_said Other 0 ≡ true
-says-first = refl
-
-says_not-again : is_said Other 1 ≡ false
-says_not-again = refl
+-- other edges each time, any other fault once
+says : map (λ found. map (is_said found) (0 ∷ 1 ∷ [])) (OtherEdges ∷ Other ∷ Same ∷ []) ≡ (true ∷ true ∷ []) ∷ (true ∷ false ∷ []) ∷ (false ∷ false ∷ []) ∷ []
+says = refl
 
 says-another : is_said (Refused (file.Refused Apart)) (reason (Refused (file.Refused Shape))) ≡ true
 says-another = refl
-
-says_not-same : is_said Same 1 ≡ false
-says_not-same = refl
 
 numbers_not-alike : fault_number Apart ≢ fault_number Shape
 numbers_not-alike = grind arith
@@ -80,7 +54,7 @@ spells_not-old : edge_if_new ((0, 1) ∷ []) (1, 0) ≡ []
 spells_not-old = refl
 
 spells-new : new_edges_text row.edges ring.edges ≡ codes " [0, 2]"
-unfolding row ring digits
+unfolding digits
 spells-new = refl
 
 spells-none : or_none [] ≡ codes " none"
@@ -91,7 +65,7 @@ spells_not-none = refl
 
 spells-taken : news_line 1 (codes "x.toml") row (Ok ring)
     ≡ codes "tokentree: node 1 takes up x.toml: edges that came: [0, 2]; that went: none"
-unfolding row ring digits
+unfolding digits
 spells-taken = refl
 
 spells-refused : news_line 1 (codes "x.toml") row (Err Unreadable)
@@ -101,5 +75,5 @@ spells-refused = refl
 
 spells-other : news_line 1 (codes "x.toml") row (Ok (record ring { root = 1 }))
     ≡ codes "tokentree: node 1 does not take up x.toml: while nodes run, only edges may change"
-unfolding row ring digits
+unfolding digits
 spells-other = refl

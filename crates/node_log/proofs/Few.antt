@@ -1,10 +1,10 @@
 -- At most 20 lines are said in a second.
-use Rattle.std.proofs.Common.{◌≡◌, ◌≤◌, ◌+◌, ◌-◌, ℕ, Bool, true, ◌==◌, nat_lt, is_some, if◌then◌else◌, List, [], ◌∷◌, length, filter, arith, refl}
+use Rattle.std.proofs.Common.{◌≡◌, ◌≤◌, ◌+◌, ◌-◌, ℕ, true, ◌==◌, is_some, if◌then◌else◌, List, [], ◌∷◌, length, filter, arith}
 use Rattle.std.proofs.lemmas.Grind.{common_steps}
 use Rattle.std.proofs.lemmas.Bool.Decides.{nat_tests}
 use Rattle.std.specs.List.{list_all}
 use Rattle.node_log.specs.declared.rate.LineRate.{LineRate}
-use Rattle.node_log.specs.Rate.{second_of, said_in, answer_at, rate_after, answers}
+use Rattle.node_log.specs.Rate.{second_of, answer_at, rate_after, answers}
 use Rattle.node_log.specs.Laws.{is_said}
 
 -- how many lines may still be said in a second

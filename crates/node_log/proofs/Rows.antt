@@ -1,20 +1,23 @@
 -- Small examples of what a node says of itself, and ones that fail.
-use Rattle.std.proofs.Common.{◌≡◌, ◌≢◌, true, false, Some, None, [], ◌∷◌, refl, codes, arith}
+use Rattle.std.proofs.Common.{◌≡◌, ◌≢◌, ℕ, Bool, true, false, List, [], ◌∷◌, Option, Some, None, map, refl, codes, arith}
 use Rattle.std.specs.Fmt.{digits}
 use Rattle.lock_desk.specs.declared.act.DeskAct.TheVariants as act
+use Rattle.node_log.specs.declared.event.Event.{Event}
 use Rattle.node_log.specs.declared.event.Event.TheVariants as event
 use Rattle.node_log.specs.declared.event.Level.TheVariants.{Warning, Notice, Info}
 use Rattle.node_log.specs.declared.rate.LineRate.{LineRate}
 use Rattle.node_log.specs.Events.{level_of, priority_of, level_with, is_said_at}
 use Rattle.node_log.specs.Rate.{new_rate, second_of, said_in, answer_at, rate_after, answers}
 use Rattle.node_log.specs.Turns.{gave_back, by_act, changed, by_link, by_desk, full_after, by_crowd, crowded_after, next_of, admitted, rate_then}
-use Rattle.node_log.specs.declared.place.Place.TheVariants.{Right, WrongSince, Said}
+use Rattle.node_log.specs.declared.place.Place.{Place}
+use Rattle.node_log.specs.declared.place.Place.TheVariants.{Right, WrongSince}
 use Rattle.node_log.specs.Places.{by_place, place_after}
 use Rattle.node_log.specs.Line.{event_text, priority_text, left_out_text, log_line}
 use Rattle.node_log.specs.Laws.{is_said}
 
-urgent-lost : level_of (event.Lost 7) ≡ Warning
-urgent-lost = refl
+urgent : map level_of (event.Lost 7 ∷ event.Full ∷ event.Room ∷ event.Crowded ∷ event.Astray ∷ event.InPlace ∷ [])
+    ≡ Warning ∷ Warning ∷ Notice ∷ Warning ∷ Warning ∷ Notice ∷ []
+urgent = refl
 
 urgent_not-grant : level_of (event.Granted 7) ≢ Notice
 urgent_not-grant = grind arith
@@ -110,122 +113,47 @@ link_not-beyond = refl
 change-up : changed 2 true false ≡ Some (event.Up 2)
 change-up = refl
 
--- clients: a desk is full, and has room when 32 wait
-desk-full : by_desk 64 false ≡ Some event.Full
-desk-full = refl
+-- what a desk says turn after turn, by how many clients wait: further ones are refused, or may wait again
+abbrev desk_says : Bool → List ℕ → List (Option Event)
+desk_says is_full [] = []
+desk_says is_full (waiting ∷ later) = by_desk waiting is_full ∷ desk_says (full_after waiting is_full) later
 
-desk_not-full : by_desk 63 false ≡ None
-desk_not-full = refl
+-- it is full with 64 clients, says so once, and has room when 32 wait
+desk-says : desk_says false (63 ∷ 64 ∷ 64 ∷ 33 ∷ 32 ∷ 64 ∷ [])
+    ≡ None ∷ Some event.Full ∷ None ∷ None ∷ Some event.Room ∷ Some event.Full ∷ []
+desk-says = refl
 
-desk_not-again : by_desk 64 true ≡ None
-desk_not-again = refl
+-- the same of connections, by how many were closed and how many stand
+abbrev crowd_says : Bool → List (ℕ × ℕ) → List (Option Event)
+crowd_says is_crowded [] = []
+crowd_says is_crowded ((closed, connected) ∷ later) =
+    by_crowd closed connected is_crowded ∷ crowd_says (crowded_after closed connected is_crowded) later
 
-desk_not-soon : by_desk 33 true ≡ None
-desk_not-soon = refl
+-- 128 are connected, and no further one has come; then one is closed; three are; one is, in a turn in which many left later; 65 are
+-- connected; and 64, so that clients may connect again
+crowd-says : crowd_says false ((0, 128) ∷ (1, 128) ∷ (3, 128) ∷ (1, 10) ∷ (0, 65) ∷ (0, 64) ∷ (1, 128) ∷ [])
+    ≡ None ∷ Some event.Crowded ∷ None ∷ None ∷ None ∷ Some event.Seats ∷ Some event.Crowded ∷ []
+crowd-says = refl
 
-desk-room : by_desk 32 true ≡ Some event.Room
-desk-room = refl
+-- the same of its place, by whether the node is in it and when the turn ended
+abbrev place_says : Place → List (Bool × ℕ) → List (Option Event)
+place_says place [] = []
+place_says place ((in_place, now) ∷ later) = by_place in_place now place ∷ place_says (place_after in_place now place) later
 
-full-once : full_after 64 false ≡ true
-full-once = refl
+-- out of its place since second 1, which is said once after two seconds; then it is back
+place-says : place_says Right ((false, 1000000) ∷ (false, 2999999) ∷ (false, 3000000) ∷ (false, 9000000) ∷ (true, 9000000) ∷ (true, 9000000) ∷ [])
+    ≡ None ∷ None ∷ Some event.Astray ∷ None ∷ Some event.InPlace ∷ None ∷ []
+place-says = refl
 
-full_not-below : full_after 63 false ≡ false
-full_not-below = refl
-
-full-still : full_after 33 true ≡ true
-full-still = refl
-
-full_not-half : full_after 32 true ≡ false
-full_not-half = refl
-
-urgent-full : level_of event.Full ≡ Warning
-urgent-full = refl
-
-urgent-room : level_of event.Room ≡ Notice
-urgent-room = refl
-
-words-full : event_text event.Full ≡ codes "64 clients wait, and further ones are refused"
-words-full = refl
-
--- clients: one is closed, and they may connect again when 64 are connected
-crowd-closed : by_crowd 1 128 false ≡ Some event.Crowded
-crowd-closed = refl
-
--- 128 are connected, and no further one has come
-crowd_not-full : by_crowd 0 128 false ≡ None
-crowd_not-full = refl
-
-crowd_not-again : by_crowd 3 128 true ≡ None
-crowd_not-again = refl
-
-crowd_not-soon : by_crowd 0 65 true ≡ None
-crowd_not-soon = refl
-
-crowd-room : by_crowd 0 64 true ≡ Some event.Seats
-crowd-room = refl
-
--- one was closed in this turn, in which many left later
-crowd_not-left : by_crowd 1 10 true ≡ None
-crowd_not-left = refl
-
-crowded-once : crowded_after 1 128 false ≡ true
-crowded-once = refl
-
-crowded_not-full : crowded_after 0 128 false ≡ false
-crowded_not-full = refl
-
-crowded-still : crowded_after 0 65 true ≡ true
-crowded-still = refl
-
-crowded_not-half : crowded_after 0 64 true ≡ false
-crowded_not-half = refl
-
-urgent-crowded : level_of event.Crowded ≡ Warning
-urgent-crowded = refl
-
-words-crowded : event_text event.Crowded ≡ codes "128 clients are connected, and further ones are closed"
-words-crowded = refl
-
--- out of its place since second 1
-place-astray : by_place false 3000000 (WrongSince 1000000) ≡ Some event.Astray
-place-astray = refl
-
-place_not-soon : by_place false 2999999 (WrongSince 1000000) ≡ None
-place_not-soon = refl
-
-place_not-again : by_place false 9000000 Said ≡ None
-place_not-again = refl
-
-place-back : by_place true 9000000 Said ≡ Some event.InPlace
-place-back = refl
-
--- it was back before anything was said
-place_not-back : by_place true 2000000 (WrongSince 1000000) ≡ None
-place_not-back = refl
-
-place-leaves : place_after false 5 Right ≡ WrongSince 5
-place-leaves = refl
+-- it is back before anything was said
+place_not-said : place_says (WrongSince 1000000) ((true, 2000000) ∷ (false, 3000000) ∷ []) ≡ None ∷ None ∷ []
+place_not-said = refl
 
 place-since : place_after false 2999999 (WrongSince 1000000) ≡ WrongSince 1000000
 place-since = refl
 
-place-said : place_after false 3000000 (WrongSince 1000000) ≡ Said
-place-said = refl
-
 place_not-still : place_after true 3000000 (WrongSince 1000000) ≢ WrongSince 1000000
 place_not-still = grind arith
-
-place-stays : place_after false 9 Said ≡ Said
-place-stays = refl
-
-urgent-astray : level_of event.Astray ≡ Warning
-urgent-astray = refl
-
-urgent-in_place : level_of event.InPlace ≡ Notice
-urgent-in_place = refl
-
-words-astray : event_text event.Astray ≡ codes "its distance or parent has been wrong for 2 s"
-words-astray = refl
 
 next-first : next_of 3 2 ≡ 0
 next-first = refl
@@ -243,9 +171,11 @@ counts_not-info : rate_then (Some Notice) (event.Granted 1) 5 new_rate ≡ new_r
 counts_not-info = refl
 
 -- the words
-words-up : event_text (event.Up 2) ≡ codes "the link to node 2 is up"
+words : map event_text (event.Up 2 ∷ event.Full ∷ event.Crowded ∷ event.Astray ∷ [])
+    ≡ codes "the link to node 2 is up" ∷ codes "64 clients wait, and further ones are refused"
+    ∷ codes "128 clients are connected, and further ones are closed" ∷ codes "its distance or parent has been wrong for 2 s" ∷ []
 unfolding digits
-words-up = refl
+words = refl
 
 words-priority : priority_text (event.Lost 3) true ≡ codes "<4>"
 unfolding digits

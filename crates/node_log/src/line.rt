@@ -1,6 +1,6 @@
 //! The line of what is said.
 ghost use Rattle.std.specs.Prelude.{Some};
-ghost use Rattle.node_log.specs.Line.{log_line, priority_text, left_out_text, event_text};
+ghost use Rattle.node_log.specs.Line.{log_line, left_out_text, event_text};
 
 use crate::event::Event;
 use std::fmt;
@@ -22,26 +22,35 @@ impl fmt::Display for LogLine {
     ghost output = { λ line. Some (log_line line.id line.event line.left_out line.has_priority) };
 
     fn fmt<W: fmt::Write>(&self, f: &mut fmt::Formatter<W>) -> fmt::Result {
-        let (id, what) = (self.id, What(self.event));
-        let priority = Priority(self.event, self.has_priority);
-        let left_out = LeftOut(self.left_out);
-        write!(f, "{priority}tokentree: node {id}: {what}{left_out}")
+        if self.has_priority {
+            let priority = self.event.level().priority();
+            write!(f, "<{priority}>")?;
+        }
+        let (id, event, left_out) = (self.id, self.event, LeftOut(self.left_out));
+        write!(f, "tokentree: node {id}: {event}{left_out}")
     }
 }
 
-/// The priority in front of a line, if it stands there.
-#[derive(Drop)]
-struct Priority(Event, bool);
-
-impl fmt::Display for Priority {
-    ghost output = { λ line. Some (priority_text line.0 line.1) };
+impl fmt::Display for Event {
+    ghost output = { λ event. Some (event_text event) };
 
     fn fmt<W: fmt::Write>(&self, f: &mut fmt::Formatter<W>) -> fmt::Result {
-        if self.1 {
-            let priority = self.0.level().priority();
-            write!(f, "<{priority}>")
-        } else {
-            Ok(())
+        match *self {
+            Event::Begins => f.write_str("begins"),
+            Event::Ends => f.write_str("ends"),
+            Event::Up(id) => write!(f, "the link to node {id} is up"),
+            Event::Down(id) => write!(f, "the link to node {id} is down"),
+            Event::Granted(ticket) => write!(f, "ticket {ticket} is granted the lock"),
+            Event::Lost(ticket) => write!(f, "ticket {ticket} has lost the lock"),
+            Event::GivenBack(ticket) => write!(f, "ticket {ticket} has given the lock back"),
+            Event::Full => f.write_str("64 clients wait, and further ones are refused"),
+            Event::Room => f.write_str("clients may wait again"),
+            Event::Crowded => {
+                f.write_str("128 clients are connected, and further ones are closed")
+            }
+            Event::Seats => f.write_str("clients may connect again"),
+            Event::Astray => f.write_str("its distance or parent has been wrong for 2 s"),
+            Event::InPlace => f.write_str("its distance and parent are right again"),
         }
     }
 }
@@ -59,34 +68,6 @@ impl fmt::Display for LeftOut {
             write!(f, " ({count} lines were left out before)")
         } else {
             Ok(())
-        }
-    }
-}
-
-/// What is said.
-#[derive(Drop)]
-struct What(Event);
-
-impl fmt::Display for What {
-    ghost output = { λ what. Some (event_text what.0) };
-
-    fn fmt<W: fmt::Write>(&self, f: &mut fmt::Formatter<W>) -> fmt::Result {
-        match self.0 {
-            Event::Begins => f.write_str("begins"),
-            Event::Ends => f.write_str("ends"),
-            Event::Up(id) => write!(f, "the link to node {id} is up"),
-            Event::Down(id) => write!(f, "the link to node {id} is down"),
-            Event::Granted(ticket) => write!(f, "ticket {ticket} is granted the lock"),
-            Event::Lost(ticket) => write!(f, "ticket {ticket} has lost the lock"),
-            Event::GivenBack(ticket) => write!(f, "ticket {ticket} has given the lock back"),
-            Event::Full => f.write_str("64 clients wait, and further ones are refused"),
-            Event::Room => f.write_str("clients may wait again"),
-            Event::Crowded => {
-                f.write_str("128 clients are connected, and further ones are closed")
-            }
-            Event::Seats => f.write_str("clients may connect again"),
-            Event::Astray => f.write_str("its distance or parent has been wrong for 2 s"),
-            Event::InPlace => f.write_str("its distance and parent are right again"),
         }
     }
 }

@@ -1,9 +1,9 @@
 -- What is read of a line for whoever looks, and what is printed of it, by hand.
-use Rattle.std.proofs.Common.{◌≡◌, None, Some, [], ◌∷◌, codes, refl}
+use Rattle.std.proofs.Common.{◌≡◌, None, Some, [], ◌∷◌, codes, map, replicate, refl}
 use Rattle.serde_json.proofs.OnLiterals.{serde_json_on_literals}
 use Rattle.std.specs.Fmt.{digits}
 use Rattle.node_texts.specs.declared.premises.TurnsSaid.{TurnsSaid}
-use Rattle.node_texts.specs.PremisesText.{line_said, millis_text, premises_line, premises_text}
+use Rattle.node_texts.specs.PremisesText.{line_said, millis_text, premises_text}
 
 said : TurnsSaid
 said = record { count = 512; longest = 2290; lately = 2190; late = 3 }
@@ -13,35 +13,15 @@ read-turns : line_said (codes "{\"node\":1,\"turns\":{\"late\":3,\"count\":512,\
 unfolding serde_json_on_literals said
 read-turns = refl
 
--- a member that is missing, or no number, says nothing
-read-missing : line_said (codes "{\"turns\":{\"count\":512,\"longest_us\":2290,\"late\":3}}") ≡ None
+-- a member that is missing, or no number, says nothing; nor does a status line
+read-nothing : map line_said (codes "{\"turns\":{\"count\":512,\"longest_us\":2290,\"late\":3}}"
+    ∷ codes "{\"turns\":{\"count\":512,\"longest_us\":2290,\"lately_us\":\"2\",\"late\":3}}" ∷ codes "node 1 distance 1" ∷ []) ≡ replicate 3 None
 unfolding serde_json_on_literals
-read-missing = refl
+read-nothing = refl
 
-read-word : line_said (codes "{\"turns\":{\"count\":512,\"longest_us\":2290,\"lately_us\":\"2\",\"late\":3}}") ≡ None
-unfolding serde_json_on_literals
-read-word = refl
-
--- nor does a status line
-read-status : line_said (codes "node 1 distance 1") ≡ None
-unfolding serde_json_on_literals
-read-status = refl
-
-printed : premises_line 1 (Some said) ≡ codes "node 1 turns 512 longest 2.290 ms lately 2.190 ms late 3"
-unfolding said digits
-printed = refl
-
-printed-none : premises_line 12 None ≡ codes "node 12 no answer"
+millis : map millis_text (5 ∷ 1200070 ∷ []) ≡ codes "0.005" ∷ codes "1200.070" ∷ []
 unfolding digits
-printed-none = refl
-
-millis-small : millis_text 5 ≡ codes "0.005"
-unfolding digits
-millis-small = refl
-
-millis-great : millis_text 1200070 ≡ codes "1200.070"
-unfolding digits
-millis-great = refl
+millis = refl
 
 -- the lines of two nodes, in their order, and of none
 printed-two : premises_text (record { node = 1; said = Some said } ∷ record { node = 12; said = None } ∷ [])

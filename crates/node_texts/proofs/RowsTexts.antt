@@ -1,5 +1,5 @@
 -- Small examples of names, lines and reports, and some that look like them and are none.
-use Rattle.std.proofs.Common.{◌≡◌, ◌≢◌, ℕ, List, true, false, [], ◌∷◌, ◌++◌, Some, None, codes, decimal, string_bytes, refl, arith}
+use Rattle.std.proofs.Common.{◌≡◌, ◌≢◌, ℕ, List, true, false, [], ◌∷◌, ◌++◌, Some, None, codes, decimal, map, replicate, string_bytes, refl, arith}
 use Rattle.std.specs.Fmt.{digits}
 use Rattle.node_texts.specs.declared.answers.NodeAnswer.{NodeAnswer}
 use Rattle.node_texts.specs.declared.lines.End.TheVariants.{Status, Signal, Unknown, Unstarted}
@@ -47,21 +47,11 @@ module _ (paths : NodePaths) where
 
 -- ---- what processes print
 
-ends-status : end_line 1 (Status 2) ≡ codes "node 1 ended with status 2, and is started again"
+ends : map (end_line 1) (Status 2 ∷ Signal 9 ∷ Unstarted ∷ Unknown ∷ [])
+    ≡ codes "node 1 ended with status 2, and is started again" ∷ codes "node 1 was ended by signal 9, and is started again"
+    ∷ codes "node 1 cannot be started; it is tried again" ∷ codes "node 1 ended, and is started again" ∷ []
 unfolding digits
-ends-status = refl
-
-ends-signal : end_line 1 (Signal 9) ≡ codes "node 1 was ended by signal 9, and is started again"
-unfolding digits
-ends-signal = refl
-
-ends-unstarted : end_line 1 Unstarted ≡ codes "node 1 cannot be started; it is tried again"
-unfolding digits
-ends-unstarted = refl
-
-ends-unknown : end_line 1 Unknown ≡ codes "node 1 ended, and is started again"
-unfolding digits
-ends-unknown = refl
+ends = refl
 
 warns-capacity : capacity_line 2 ≡ codes "tokentree: capacity 2 is less than " ++ (decimal 64
     ++ (codes ": 36 frames may be under way on a link; give the network capacity " ++ (decimal 64 ++ codes " or more")))
@@ -89,23 +79,11 @@ spells-idle = refl
 reads-lending : line_status (codes "node 1 distance 1 parent 0 token yes lent 9 waiting 2") ≡ Some lending
 reads-lending = refl
 
-reads_not-capital : line_status (codes "node 1 distance 1 parent 0 token Yes lent 9 waiting 2") ≡ None
-reads_not-capital = refl
-
-reads_not-space : line_status (codes "node 1  distance 1 parent 0 token yes lent 9 waiting 2") ≡ None
-reads_not-space = refl
-
-reads_not-zeros : line_status (codes "node 01 distance 1 parent 0 token yes lent 9 waiting 2") ≡ None
-reads_not-zeros = refl
-
-reads_not-more : line_status (codes "node 1 distance 1 parent 0 token yes lent 9 waiting 2 ") ≡ None
-reads_not-more = refl
-
-reads_not-half : line_status (codes "node 1 distance 1 parent 0 token yes lent 9") ≡ None
-reads_not-half = refl
-
-reads_not-great : line_status (codes "node 65536 distance 1 parent 0 token yes lent 9 waiting 2") ≡ None
-reads_not-great = refl
+-- neither another letter, nor another space, nor a zero in front, nor more, nor less, nor a greater number
+reads_not : map line_status (codes "node 1 distance 1 parent 0 token Yes lent 9 waiting 2" ∷ codes "node 1  distance 1 parent 0 token yes lent 9 waiting 2"
+    ∷ codes "node 01 distance 1 parent 0 token yes lent 9 waiting 2" ∷ codes "node 1 distance 1 parent 0 token yes lent 9 waiting 2 "
+    ∷ codes "node 1 distance 1 parent 0 token yes lent 9" ∷ codes "node 65536 distance 1 parent 0 token yes lent 9 waiting 2" ∷ []) ≡ replicate 6 None
+reads_not = refl
 
 -- the longest line; one of more than 96 bytes is not looked into
 reads-longest : short_line_status (codes "node 65535 distance 65535 parent 65535 token yes lent 65535 waiting 65535")

@@ -5,4 +5,5 @@ pub mod StatusText
 pub mod StatusLaws
 pub mod Report
 pub mod LookText
+pub mod Thousandths
 pub mod PremisesText

@@ -1,10 +1,11 @@
 -- What a node's line for whoever looks says of its turns, and what is printed of it.
-use Rattle.std.specs.Prelude.{ℕ, ◌/◌, ◌%◌, List, [], ◌∷◌, ◌++◌, Option, None, Some, codes, decimal, option_and_then}
+use Rattle.std.specs.Prelude.{ℕ, List, [], ◌∷◌, ◌++◌, Option, None, Some, codes, decimal, option_and_then}
 use Rattle.serde_json.specs.Data.{Data}
 use Rattle.serde_json.specs.Find.{get, as_number, as_u64}
 use Rattle.serde_json.specs.Read.{read}
 use Rattle.node_texts.specs.declared.premises.TurnsSaid.{TurnsSaid}
 use Rattle.node_texts.specs.declared.premises.PremisesLine.{PremisesLine}
+use Rattle.node_texts.specs.Thousandths.{thousandths_text}
 
 -- the number that is the member of this name
 abbrev pub member_number : List ℕ → Data → Option ℕ
@@ -32,9 +33,7 @@ line_said line = option_and_then turns_said (read line)
 
 -- microseconds as milliseconds with three decimals
 abbrev pub millis_text : ℕ → List ℕ
-millis_text micros =
-    decimal (micros / 1000) ++ (codes "." ++ (decimal (micros / 100 % 10)
-    ++ (decimal (micros / 10 % 10) ++ decimal (micros % 10))))
+millis_text micros = thousandths_text micros
 
 -- the line of a node
 abbrev pub premises_line : ℕ → Option TurnsSaid → List ℕ

@@ -22,6 +22,7 @@ mod look_parts;
 mod paths;
 mod premises;
 mod status_line;
+mod thousandths;
 
 pub use answers::{NodeAnswer, all_answered, report};
 pub use lines::{CapacityLine, End, EndLine, SOCKET_FRAMES};
@@ -30,3 +31,4 @@ pub use look_parts::{LinkPart, LoanPart, ProcessPart, TurnPart};
 pub use paths::{LONGEST_SOCKET_NAME, NodePaths, links_name, longest_socket_name};
 pub use premises::{PremisesLine, TurnsSaid, premises_report};
 pub use status_line::{MOST_STATUS_BYTES, StatusLine, StatusReading};
+pub use thousandths::Thousandths;

@@ -2,8 +2,9 @@
 ghost use Rattle.std.specs.Prelude.{◌≡◌, ◌++◌, IfOk, OnOk, codes, string_bytes, Some};
 ghost use Rattle.serde_json.specs.View.{view};
 ghost use Rattle.node_texts.specs.PremisesText.{member_number, turns_said, line_said};
-ghost use Rattle.node_texts.specs.PremisesText.{premises_line, premises_text, millis_text};
+ghost use Rattle.node_texts.specs.PremisesText.{premises_line, premises_text};
 
+use crate::thousandths::Thousandths;
 use serde_json::Value;
 use std::alloc::{AllocError, Global};
 use std::fmt;
@@ -109,30 +110,10 @@ impl fmt::Display for PremisesLine {
             return write!(f, "node {node} no answer");
         };
         let (count, late) = (said.count, said.late);
-        let (longest, lately) = (Millis(said.longest), Millis(said.lately));
+        let (longest, lately) = (Thousandths(said.longest), Thousandths(said.lately));
         write!(
             f,
             "node {node} turns {count} longest {longest} ms lately {lately} ms late {late}"
-        )
-    }
-}
-
-/// Microseconds, printed as milliseconds with three decimals.
-#[derive(Drop)]
-struct Millis(u64);
-
-impl fmt::Display for Millis {
-    ghost output = { λ time. Some (millis_text time.0) };
-
-    fn fmt<W: fmt::Write>(&self, f: &mut fmt::Formatter<W>) -> fmt::Result {
-        let micros = self.0;
-        write!(
-            f,
-            "{}.{}{}{}",
-            micros / 1000,
-            micros / 100 % 10,
-            micros / 10 % 10,
-            micros % 10
         )
     }
 }

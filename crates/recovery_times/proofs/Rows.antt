@@ -1,5 +1,5 @@
 -- Windows, times and words, by hand.
-use Rattle.std.proofs.Common.{◌≡◌, ◌*◌, ◌++◌, Some, None, [], refl, codes, decimal}
+use Rattle.std.proofs.Common.{◌≡◌, ◌*◌, ◌++◌, Some, None, [], ◌∷◌, map, replicate, refl, codes, decimal}
 use Rattle.recovery_times.specs.Times.{usual, full_of, window_of, millis_up, tenths_up}
 use Rattle.recovery_times.specs.Text.{tenths_line, millis_line}
 use Rattle.recovery_times.specs.Reading.{micros_of}
@@ -25,18 +25,9 @@ full-usual = refl
 full-loan : full_of (record usual { loan = 1 }) ≡ 4401
 full-loan = refl
 
--- a ring of three: 51 windows are 637.5 ms
-ring-of-three : millis_up (51 * window_of usual) ≡ 638
-ring-of-three = refl
-
-square : millis_up (71 * window_of usual) ≡ 888
-square = refl
-
-line-of-eight : millis_up (155 * window_of usual) ≡ 1938
-line-of-eight = refl
-
-star : millis_up (1027 * window_of usual) ≡ 12838
-star = refl
+-- a ring of three has 51 windows, which are 637.5 ms; then a square, a line of eight, and a star
+windows : map (λ windows. millis_up (windows * window_of usual)) (51 ∷ 71 ∷ 155 ∷ 1027 ∷ []) ≡ 638 ∷ 888 ∷ 1938 ∷ 12838 ∷ []
+windows = refl
 
 -- 51 * 1004.4 ms are 51224.4 ms
 ring-of-three-loan : millis_up (51 * window_of (record usual { loan = 1000000 })) ≡ 51225
@@ -70,56 +61,11 @@ millis-rounded = refl
 
 -- ---- words
 
-with-a-point : micros_of (codes "2.2") ≡ Some 2200
-with-a-point = refl
+times : map micros_of (codes "2.2" ∷ codes "8" ∷ codes "0.125" ∷ codes "10.05" ∷ codes "0" ∷ codes "3600000.000" ∷ [])
+    ≡ map Some (2200 ∷ 8000 ∷ 125 ∷ 10050 ∷ 0 ∷ 3600000000 ∷ [])
+times = refl
 
-no-point : micros_of (codes "8") ≡ Some 8000
-no-point = refl
-
-three-decimals : micros_of (codes "0.125") ≡ Some 125
-three-decimals = refl
-
-two-decimals : micros_of (codes "10.05") ≡ Some 10050
-two-decimals = refl
-
-nothing : micros_of (codes "0") ≡ Some 0
-nothing = refl
-
-an-hour : micros_of (codes "3600000.000") ≡ Some 3600000000
-an-hour = refl
-
-not-more-than-an-hour : micros_of (codes "3600000.001") ≡ None
-not-more-than-an-hour = refl
-
-not-much-more : micros_of (codes "3600001") ≡ None
-not-much-more = refl
-
-not-four-decimals : micros_of (codes "2.2001") ≡ None
-not-four-decimals = refl
-
-not-no-decimals : micros_of (codes "2.") ≡ None
-not-no-decimals = refl
-
-not-no-whole : micros_of (codes ".5") ≡ None
-not-no-whole = refl
-
-not-two-points : micros_of (codes "2.2.2") ≡ None
-not-two-points = refl
-
-not-leading-zero : micros_of (codes "02.2") ≡ None
-not-leading-zero = refl
-
-not-negative : micros_of (codes "-1") ≡ None
-not-negative = refl
-
-not-signed : micros_of (codes "+1") ≡ None
-not-signed = refl
-
-not-a-number : micros_of (codes "ms") ≡ None
-not-a-number = refl
-
-not-a-comma : micros_of (codes "2,2") ≡ None
-not-a-comma = refl
-
-not-empty : micros_of [] ≡ None
-not-empty = refl
+-- more than an hour, too many decimals or none, no whole part, two points, a zero in front, a sign, and other words
+no-times : map micros_of (codes "3600000.001" ∷ codes "3600001" ∷ codes "2.2001" ∷ codes "2." ∷ codes ".5" ∷ codes "2.2.2" ∷ codes "02.2"
+    ∷ codes "-1" ∷ codes "+1" ∷ codes "ms" ∷ codes "2,2" ∷ [] ∷ []) ≡ replicate 12 None
+no-times = refl

@@ -1,5 +1,5 @@
 -- Premises by words, times of networks, and what is refused; by hand.
-use Rattle.std.proofs.Common.{◌≡◌, ◌∷◌, None, Some, [], Ok, Err, refl, codes}
+use Rattle.std.proofs.Common.{◌≡◌, ◌∷◌, None, Some, [], Ok, Err, map, refl, codes}
 use Rattle.std.specs.Fmt.{digits}
 use Rattle.topology.specs.Network.{Network}
 use Rattle.recovery_times.specs.declared.words.TimeFault.TheVariants.{Turn, Delay, Loan, Repeat}
@@ -47,11 +47,8 @@ after-first = refl
 after-none : after_point (codes "22") ≡ None
 after-none = refl
 
-digits-most : digits_up_to 3600000 (codes "3600000") ≡ Some 3600000
+digits-most : map (digits_up_to 3600000) (codes "3600000" ∷ codes "3600001" ∷ []) ≡ Some 3600000 ∷ None ∷ []
 digits-most = refl
-
-digits_not-more : digits_up_to 3600000 (codes "3600001") ≡ None
-digits_not-more = refl
 
 whole-zero : whole_of (codes "0") ≡ Some 0
 whole-zero = refl
@@ -59,14 +56,8 @@ whole-zero = refl
 whole_not-leading : whole_of (codes "01") ≡ None
 whole_not-leading = refl
 
-thousandths-one : thousandths_of (codes "2") ≡ Some 200
-thousandths-one = refl
-
-thousandths-zeros : thousandths_of (codes "020") ≡ Some 20
-thousandths-zeros = refl
-
-thousandths_not-four : thousandths_of (codes "0200") ≡ None
-thousandths_not-four = refl
+thousandths : map thousandths_of (codes "2" ∷ codes "020" ∷ codes "0200" ∷ []) ≡ Some 200 ∷ Some 20 ∷ None ∷ []
+thousandths = refl
 
 part-none : part_of None ≡ Some 0
 part-none = refl

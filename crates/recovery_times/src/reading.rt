@@ -1,7 +1,7 @@
 //! A time, as a word spells it.
 ghost use Rattle.std.specs.Prelude.{◌≡◌, ◌≤◌, IfSome, length, take};
 ghost use Rattle.recovery_times.specs.Reading.{point_at, whole_of, thousandths_of};
-ghost use Rattle.recovery_times.specs.Reading.{micros_of, thousandths_in};
+ghost use Rattle.recovery_times.specs.Reading.{micros_of, thousandths_in, within_an_hour};
 
 use line_words::digits_up_to;
 
@@ -20,7 +20,14 @@ pub fn micros_of(word: &[u8]) -> Option<u32>
     let point = point_at(word);
     let whole = whole_of(&word[..point])?;
     let part = thousandths_in(word.get(point + 1..))?;
-    let micros = 1_000 * whole + part;
+    within_an_hour(1_000 * whole + part)
+}
+
+/// A time that is at most an hour.
+fn within_an_hour(micros: u32) -> Option<u32>
+    ensures time { result ≡ within_an_hour micros }
+    ensures within { IfSome result (λ micros. micros ≤ 3600000000) }
+{
     if micros <= HOUR { Some(micros) } else { None }
 }
 

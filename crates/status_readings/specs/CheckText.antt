@@ -1,21 +1,16 @@
 -- The line that a check prints, in the form of monitoring plugins: the text, a bar, and the figures.
-use Rattle.std.specs.Prelude.{ℕ, Bool, false, not, List, ◌++◌, length, filter, Option, None, Some, codes, decimal}
+use Rattle.std.specs.Prelude.{ℕ, Bool, ◌&&◌, List, ◌++◌, length, filter, codes, decimal}
 use Rattle.topology.specs.Network.{Network}
-use Rattle.node_texts.specs.declared.status_line.StatusLine.{StatusLine}
 use Rattle.node_texts.specs.declared.answers.NodeAnswer.{NodeAnswer}
 use Rattle.node_texts.specs.Report.{is_privileged, lends, has_answered}
 use Rattle.status_readings.specs.declared.check_line.Figures.{Figures}
 use Rattle.status_readings.specs.declared.findings.Finding.{Finding}
 use Rattle.status_readings.specs.declared.findings.Finding.TheVariants.{AllWell, Silent, Wrong, TwoLentOnce, Nobody, TwoLend}
-use Rattle.status_readings.specs.Verdict.{is_true, severity, severity_word}
-
-abbrev pub line_is_wrong : Network → Option StatusLine → Bool
-line_is_wrong net None = false
-line_is_wrong net (Some line) = not (is_true net line)
+use Rattle.status_readings.specs.Verdict.{is_faulty, severity, severity_word}
 
 -- the node answered, with another distance or parent than the network gives
 abbrev pub is_wrong : Network → NodeAnswer → Bool
-is_wrong net answer = line_is_wrong net answer.line
+is_wrong net answer = has_answered answer && is_faulty net answer
 
 -- how many nodes were asked, and how many of them say what
 abbrev pub figures : Network → List NodeAnswer → Figures

@@ -1,8 +1,7 @@
 -- Times in seconds.
-use Rattle.std.specs.Prelude.{ℕ, ◌/◌, ◌%◌, List, ◌++◌, codes, decimal}
+use Rattle.std.specs.Prelude.{ℕ, ◌/◌, List}
+use Rattle.node_texts.specs.Thousandths.{thousandths_text}
 
 -- microseconds as seconds with three decimals
 abbrev pub seconds_text : ℕ → List ℕ
-seconds_text micros =
-    decimal (micros / 1000000) ++ (codes "." ++ (decimal (micros / 100000 % 10)
-    ++ (decimal (micros / 10000 % 10) ++ decimal (micros / 1000 % 10))))
+seconds_text micros = thousandths_text (micros / 1000)

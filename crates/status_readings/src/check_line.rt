@@ -3,8 +3,8 @@ ghost use Rattle.std.specs.Prelude.{◌≡◌, length, filter, Some};
 ghost use Rattle.status_readings.specs.CheckText.{figures, is_wrong, finding_text, figure_text};
 ghost use Rattle.status_readings.specs.CheckText.{figures_text, check_line};
 
-use crate::counts::{answering, lending, privileged};
-use crate::findings::{Finding, is_true};
+use crate::counts::{answering, has_answered, lending, privileged};
+use crate::findings::{Finding, is_faulty};
 use node_texts::NodeAnswer;
 use std::fmt;
 use topology::Net;
@@ -53,10 +53,7 @@ fn wrong(net: &Net, answers: &[NodeAnswer]) -> usize
 fn is_wrong(net: &Net, answer: &NodeAnswer) -> bool
     ensures { result ≡ is_wrong net.now answer.now }
 {
-    match answer.line {
-        Some(line) => !is_true(net, &line),
-        None => false,
-    }
+    has_answered(answer) && is_faulty(net, answer)
 }
 
 impl fmt::Display for Finding {

@@ -7,9 +7,8 @@ ghost use Rattle.status_readings.specs.Picture.{tenths_text};
 
 use crate::counts::{lending, privileged};
 use crate::minute::{NodeLoans, Rates, present_at};
-use crate::seconds::Seconds;
 use crate::tree::{Row, rows};
-use node_texts::{NodeAnswer, StatusLine};
+use node_texts::{NodeAnswer, StatusLine, Thousandths};
 use std::alloc::{AllocError, Global};
 use std::fmt;
 use std::fmt::Write;
@@ -88,7 +87,10 @@ fn push_lent(text: &mut String, lent: Option<u16>, present: Option<u64>) -> Resu
     match (lent, present) {
         (None, _) => Ok(()),
         (Some(ticket), None) => write!(text, " lent {ticket}"),
-        (Some(ticket), Some(micros)) => write!(text, " lent {ticket} for {} s", Seconds(micros)),
+        (Some(ticket), Some(micros)) => {
+            let time = Thousandths(micros / 1000);
+            write!(text, " lent {ticket} for {time} s")
+        }
     }
 }
 
@@ -127,7 +129,7 @@ fn push_rates(text: &mut String, rates: Option<Rates>) -> Result<(), AllocError>
 fn push_loans(text: &mut String, rates: Rates) -> Result<(), AllocError>
     ensures { OnOk result (string_bytes text.new ≡ string_bytes text.old ++ loans_line rates) }
 {
-    let (loans, longest) = (Tenths(rates.tenths), Seconds(rates.longest));
+    let (loans, longest) = (Tenths(rates.tenths), Thousandths(rates.longest / 1000));
     writeln!(
         text,
         "last minute: {loans} loans a second, longest {longest} s"

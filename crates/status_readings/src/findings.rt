@@ -150,7 +150,7 @@ fn first_faulty(net: &Net, answers: &[NodeAnswer]) -> Option<NodeAnswer>
 }
 
 /// Whether a node is silent or wrong.
-fn is_faulty(net: &Net, answer: &NodeAnswer) -> bool
+pub fn is_faulty(net: &Net, answer: &NodeAnswer) -> bool
     ensures { result ≡ is_faulty net.now answer.now }
 {
     match answer.line {
@@ -170,7 +170,7 @@ fn fault_of(answer: NodeAnswer) -> Finding
 }
 
 /// Whether a node is one of the network, with the distance and the parent that the network gives.
-pub fn is_true(net: &Net, line: &StatusLine) -> bool
+fn is_true(net: &Net, line: &StatusLine) -> bool
     ensures { result ≡ is_true net.now line.now }
 {
     line.node < net.nodes()

@@ -3,7 +3,7 @@ ghost use Rattle.std.specs.Prelude.{◌≡◌, ◌++◌, [], IfOk, OnOk, string_
 ghost use Rattle.serde_json.specs.Data.{array, object};
 ghost use Rattle.serde_json.specs.View.{view, items_of, items_view, members_view};
 ghost use Rattle.serde_json.specs.Written.{IsInOrder};
-ghost use Rattle.status_readings.specs.JsonData.{status_data, status_members, node_data, node_members};
+ghost use Rattle.status_readings.specs.JsonData.{status_data, node_data, node_members};
 ghost use Rattle.status_readings.specs.JsonData.{line_members, nodes_data, or_null};
 
 use crate::counts::{lending, privileged};
@@ -25,28 +25,21 @@ pub fn status_json(alloc: Global, answers: &[NodeAnswer]) -> Result<String, Allo
     value.to_string(alloc)
 }
 
-/// The same as a value.
+/// The same as a value: the nodes, and the counts.
 fn status_value(alloc: Global, answers: &[NodeAnswer]) -> Result<Value, AllocError>
     ensures { IfOk result (λ value. view value ≡ status_data answers.now) }
 {
-    let mut map = Map::new(alloc);
-    put_status(&mut map, alloc, answers)?;
-    Ok(Value::Object(map))
-}
-
-/// Adds the nodes, and the counts.
-fn put_status(
-    map: &mut Map<String, Value>,
-    alloc: Global,
-    answers: &[NodeAnswer],
-) -> Result<(), AllocError>
-    ensures { OnOk result (members_view map.new.entries
-        ≡ status_members answers.now (members_view map.old.entries)) }
-{
     let nodes = nodes_value(alloc, answers)?;
-    put(map, alloc, "nodes", nodes)?;
-    put(map, alloc, "privileged", Value::from(privileged(answers)))?;
-    put(map, alloc, "lending", Value::from(lending(answers)))
+    let mut map = Map::new(alloc);
+    put(&mut map, alloc, "nodes", nodes)?;
+    put(
+        &mut map,
+        alloc,
+        "privileged",
+        Value::from(privileged(answers)),
+    )?;
+    put(&mut map, alloc, "lending", Value::from(lending(answers)))?;
+    Ok(Value::Object(map))
 }
 
 /// What each node answered.

@@ -23,7 +23,6 @@ mod json;
 pub mod laws;
 mod looks;
 mod minute;
-mod seconds;
 mod standing;
 mod tree;
 

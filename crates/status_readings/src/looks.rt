@@ -9,7 +9,7 @@ ghost use Rattle.status_readings.specs.LookSaid.{link_said, links_in};
 ghost use Rattle.status_readings.specs.LookSaid.{links_listed, links_said, line_links};
 ghost use Rattle.status_readings.specs.LinksText.{link_line, link_lines, links_text, links_lines};
 
-use crate::seconds::Seconds;
+use node_texts::Thousandths;
 use serde_json::Value;
 use std::alloc::{AllocError, Global};
 use std::fmt;
@@ -212,7 +212,7 @@ fn push_line(text: &mut String, node: u16, link: &LinkSaid) -> Result<(), AllocE
 {
     let (neighbour, breaks) = (link.node, link.breaks);
     let up = if link.is_up { "up" } else { "down" };
-    let since = Seconds(link.since);
+    let since = Thousandths(link.since / 1000);
     writeln!(
         text,
         "node {node} link {neighbour} {up} for {since} s breaks {breaks}"

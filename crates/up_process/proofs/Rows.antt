@@ -1,29 +1,26 @@
 -- Small examples of the words that start a node, and of what is said of one that ended, and some that fail.
-use Rattle.std.proofs.Common.{◌≡◌, Some, None, [], ◌∷◌, refl, codes}
+use Rattle.std.proofs.Common.{◌≡◌, Some, None, [], ◌∷◌, refl, codes, map}
 use Rattle.std.specs.Fmt.{digits}
 use Rattle.std.specs.Process.{status_bits}
 use Rattle.std.specs.declared.process.status.ExitStatus.{ExitStatus}
 use Rattle.process_parts.specs.node_texts.declared.lines.End.TheVariants.{Unstarted, Status, Signal, Unknown}
 use Rattle.node_log.specs.declared.event.Level.TheVariants.{Notice}
 use Rattle.process_parts.specs.declared.rights.Rights.TheVariants.{Usual, GroupLocks}
+use Rattle.up_process.specs.declared.left.LastLine.TheVariants.{Left, Gone}
 use Rattle.up_process.specs.Children.{rights_options, log_options, record_options, child_options, child_words, end_of}
-use Rattle.up_process.specs.Texts.{last_end, left_line, gone_line}
+use Rattle.up_process.specs.Texts.{last_end, last_line}
 
 -- what is said
 says-left : last_end Unstarted ≡ codes "cannot be started"
 says-left = refl
 
-says-gone : gone_line 1 (Status 0) ≡ codes "node 1 has ended"
+-- asked to end, or left alone after it failed at its start three times
+says-last : map last_line (Gone 1 (Status 0) ∷ Gone 1 (Signal 9) ∷ Gone 1 (Status 1) ∷ Left 1 (Status 2) ∷ Left 1 (Signal 9) ∷ [])
+    ≡ codes "node 1 has ended" ∷ codes "node 1 was ended by signal 9" ∷ codes "node 1 ended with status 1"
+    ∷ codes "node 1 ended with status 2 for the third time at its start, and is left alone; mend what it says, and start up again"
+    ∷ codes "node 1 was ended by signal 9 for the third time at its start, and is left alone; mend what it says, and start up again" ∷ []
 unfolding digits
-says-gone = refl
-
-says-gone_killed : gone_line 1 (Signal 9) ≡ codes "node 1 was ended by signal 9"
-unfolding digits
-says-gone_killed = refl
-
-says_not-well : gone_line 1 (Status 1) ≡ codes "node 1 ended with status 1"
-unfolding digits
-says_not-well = refl
+says-last = refl
 
 -- a child gets all options; the time of a turn is in milliseconds
 names-child : child_words (record { hold = 2000; repeat = 8000 }) 2250 GroupLocks (Some Notice) (Some (record { bytes = 65536 })) (codes "ring.toml") 1 (codes "run")
@@ -46,15 +43,6 @@ gives-options : child_options (record { hold = 0; repeat = 5 }) 7 ≡ codes "nod
     ∷ codes "--turn" ∷ codes "0.007" ∷ []
 unfolding digits
 gives-options = refl
-
--- a node that failed at its start three times
-leaves-failed : left_line 1 (Status 2) ≡ codes "node 1 ended with status 2 for the third time at its start, and is left alone; mend what it says, and start up again"
-unfolding digits
-leaves-failed = refl
-
-leaves-killed : left_line 1 (Signal 9) ≡ codes "node 1 was ended by signal 9 for the third time at its start, and is left alone; mend what it says, and start up again"
-unfolding digits
-leaves-killed = refl
 
 -- POSIX's wait statuses: exit status 2, signal 9, signal 11 with a core (128 more), and a process that stopped
 module _ (s : ExitStatus) where

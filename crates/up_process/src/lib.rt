@@ -17,6 +17,6 @@ mod asks;
 mod left;
 mod up;
 
-pub use left::LeftLine;
+pub use left::LastLine;
 pub use process_parts::UpWords;
 pub use up::{NodeProgram, OwnProgram, run};

@@ -19,7 +19,7 @@ ghost use Rattle.process_parts.specs.declared.fault.NodeFault.TheVariants.{Syste
 ghost use Rattle.process_parts.specs.declared.start.Stage.TheVariants.{Begun, Checked, Entered};
 
 use crate::asks::Asks;
-use crate::left::{GoneLine, LeftLine};
+use crate::left::LastLine;
 use node_log::Level;
 use pace::Manner;
 use process_parts::{
@@ -500,12 +500,12 @@ where
         Deed::Rest => {}
         Deed::Start => try_start(rt, program, kept),
         Deed::SayAgain(end) => say(rt, kept, &EndLine { id, end }),
-        Deed::SayLeft(end) => say(rt, kept, &LeftLine { id, end }),
-        Deed::SayGone(end) => say(rt, kept, &GoneLine { id, end }),
+        Deed::SayLeft(end) => say(rt, kept, &LastLine::Left { id, end }),
+        Deed::SayGone(end) => say(rt, kept, &LastLine::Gone { id, end }),
         Deed::CloseInput => kept.close_input(),
         Deed::Kill => {
             let end = kept.kill();
-            say(rt, kept, &GoneLine { id, end });
+            say(rt, kept, &LastLine::Gone { id, end });
         }
     }
 }

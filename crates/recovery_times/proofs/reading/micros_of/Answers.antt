@@ -1,5 +1,4 @@
-use Rattle.std.proofs.Common.{◌≡◌, ◌∙◌, Some, None, take, ap, arith}
-use Rattle.std.proofs.lemmas.Bool.Decides.{nat_tests}
+use Rattle.std.proofs.Common.{◌≡◌, ◌∙◌, Some, None, take, ap}
 use Rattle.recovery_times.specs.Reading.{point_at, after_point, whole_of, part_of}
 use Rattle.recovery_times.proofs.Points.{after-first, no-part, cut-parts}
 use Rattle.recovery_times.proofs.reading.micros_of.Goals as goal
@@ -13,16 +12,7 @@ returns-in_err-part-clause-time c =
     let part : None ≡ part_of (after_point word) = c.in_err-part.ensures.part ∙ ap part_of after in
     c.from_residual-in_err-part.ensures ∙ no-part word c.in_ok-whole.whole whole part
 
-pub returns-then-micros-le-HOUR-clause-time : goal.returns-then-micros-le-HOUR-clause-time
-returns-then-micros-le-HOUR-clause-time c =
-    let at = c.point_at-point.ensures.at in
-    let sum = cut-parts c.args.word.now _ _ _ _ at c.point_at-point.ensures.within c.get.ensures.lookup c.in_ok-whole.ensures.whole c.in_ok-part.ensures.part in
-    let in_hour = c.if-micros-le-HOUR.true in
-    grind (arith, nat_tests, sum, in_hour)
-
-pub returns-else-micros-le-HOUR-clause-time : goal.returns-else-micros-le-HOUR-clause-time
-returns-else-micros-le-HOUR-clause-time c =
-    let at = c.point_at-point.ensures.at in
-    let sum = cut-parts c.args.word.now _ _ _ _ at c.point_at-point.ensures.within c.get.ensures.lookup c.in_ok-whole.ensures.whole c.in_ok-part.ensures.part in
-    let over = c.if-micros-le-HOUR.false in
-    grind (arith, nat_tests, sum, over)
+pub returns-clause-time : goal.returns-clause-time
+returns-clause-time c =
+    c.within_an_hour.ensures.time ∙ cut-parts c.args.word.now _ _ _ _ c.point_at-point.ensures.at c.point_at-point.ensures.within c.get.ensures.lookup
+    c.in_ok-whole.ensures.whole c.in_ok-part.ensures.part

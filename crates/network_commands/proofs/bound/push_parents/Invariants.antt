@@ -1,9 +1,0 @@
-use Rattle.std.proofs.Common.{◌≡◌, ◌++◌, string_bytes, map}
-use Rattle.std.specs.List.{range_with_len}
-use Rattle.network_commands.specs.Bound.{spaced, parent_word}
-use Rattle.topology.specs.Tree.{parent_of}
-use Rattle.network_commands.proofs.bound.push_parents.Given as goal
-
--- the words of the nodes so far
-abbrev pub invariant-loop-v : goal.invariant-loop-v
-invariant-loop-v l = string_bytes l.text ≡ string_bytes l.initial.text ++ spaced (map (λ v. parent_word (parent_of l.net v)) (range_with_len 0 l.v))

@@ -1,0 +1,8 @@
+-- Numbers with three decimals.
+use Rattle.std.specs.Prelude.{ℕ, ◌/◌, ◌%◌, List, ◌++◌, codes, decimal}
+
+-- so many thousandths
+abbrev pub thousandths_text : ℕ → List ℕ
+thousandths_text number =
+    decimal (number / 1000) ++ (codes "." ++ (decimal (number / 100 % 10)
+    ++ (decimal (number / 10 % 10) ++ decimal (number % 10))))
