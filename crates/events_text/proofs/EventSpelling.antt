@@ -4,7 +4,7 @@ use Rattle.std.specs.Prelude.{if◌then◌else◌}
 use Rattle.std.specs.Option.{option_and_then, option_map}
 use Rattle.std.specs.Str.{bytes_eq}
 use Rattle.std.specs.Fmt.{decimal}
-use Rattle.std.specs.List.{join_with_byte}
+use Rattle.std.specs.List.{join_with_byte, AllByRecursion}
 use Rattle.std.proofs.lemmas.Slice.Eq.{bytes_eq-Decides}
 use Rattle.topology.specs.declared.frame.Payload.{Payload}
 use Rattle.link_model.specs.declared.item.Item.TheVariants as item
@@ -15,7 +15,7 @@ use Rattle.run_model.specs.declared.event.Harm.TheVariants as harm
 use Rattle.line_words.specs.Words.{Word, words, first_word, other_words, reads, ends}
 use Rattle.line_words.specs.Numbers.{number, number_or_none, yes_or_no}
 use Rattle.line_words.specs.Laws.{NumbersHaveOneSpelling, WordsMakeTheLine}
-use Rattle.events_text.specs.EventLine.{reads_payload, payload_of, send_of, take_of, lose_of, tick_of, ask_of, leave_of, own_of, counters_of, staged_of, copy_of, value_of, desk_of, frame_of, junk_of, empty_of, join_of, part_of, line_event, event_of, damage_of, harm_of}
+use Rattle.events_text.specs.EventLine.{reads_payload, payload_of, send_of, take_of, lose_of, tick_of, ask_of, leave_of, own_of, counters_of, staged_of, copy_of, value_of, desk_of, frame_of, junk_of, empty_of, join_of, part_of, line_event, by_name, verbs, event_of, damage_of, harm_kinds, harm_of}
 use Rattle.events_text.specs.EventLaws.{word_or_none, yes_or_no_word, payload_words, harm_words, event_words}
 
 -- a word that was read is the spelling of what it says, and what it is read with goes on after it
@@ -199,19 +199,34 @@ module _ (spelled : NumbersHaveOneSpelling) where
   kind verb word ws goal_words parse others y this other =
       choose (bytes_eq verb word) (parse ws) others y (verb ∷ ws ≡ goal_words) (λ is e. ap (λ w. w ∷ ws) (is-word verb word is) ∙ this e) other
 
+  -- so it is, if each name and what it reads are words of the goal
+  by-name : {Y : Type 0} → (rows : List (Word × (List Word → Option Y))) (word : Word) (ws goal_words : List Word) (y : Y)
+      → AllByRecursion (λ row. row.1 ws ≡ Some y → row.0 ∷ ws ≡ goal_words) rows
+      → by_name rows word ws ≡ Some y → word ∷ ws ≡ goal_words
+  by-name [] word ws goal_words y all e = absurd (cc)
+  by-name (row ∷ rows) word ws goal_words y all e =
+      kind word row.0 ws goal_words row.1 (by_name rows word ws) y all.0 (by-name rows word ws goal_words y all.1) e
+
   harm-words : (part : Word) (ws : List Word) (h : Harm) → harm_of part ws ≡ Some h → part ∷ ws ≡ harm_words h
-  harm-words part ws h =
-      kind part (codes "own") ws (harm_words h) own_of _ h (own-words ws h) (
-      kind part (codes "counters") ws (harm_words h) counters_of _ h (counters-words ws h) (
-      kind part (codes "staged") ws (harm_words h) staged_of _ h (staged-words ws h) (
-      kind part (codes "copy") ws (harm_words h) copy_of _ h (copy-words ws h) (
-      kind part (codes "value") ws (harm_words h) value_of _ h (value-words ws h) (
-      kind part (codes "desk") ws (harm_words h) desk_of _ h (desk-words ws h) (
-      kind part (codes "frame") ws (harm_words h) frame_of _ h (frame-words ws h) (
-      kind part (codes "junk") ws (harm_words h) junk_of _ h (junk-words ws h) (
-      kind part (codes "empty") ws (harm_words h) empty_of _ h (empty-words ws h) (
-      kind part (codes "join") ws (harm_words h) join_of _ h (join-words_of ws h) (
-      kind part (codes "part") ws (harm_words h) part_of _ h (part-words ws h) (λ none. absurd (cc))))))))))))
+  harm-words part ws h = by-name harm_kinds part ws (harm_words h) h (
+    own-words ws h,
+    (
+      counters-words ws h,
+      (
+        staged-words ws h,
+        (
+          copy-words ws h,
+          (
+            value-words ws h,
+            (
+              desk-words ws h,
+              (frame-words ws h, (junk-words ws h, (empty-words ws h, (join-words_of ws h, (part-words ws h, tt))))),
+            ),
+          ),
+        ),
+      ),
+    ),
+  )
 
   damage-words : (ws : List Word) (e : Event) → damage_of ws ≡ Some e → codes "harm" ∷ ws ≡ event_words e
   damage-words [] e h = absurd (cc)
@@ -224,14 +239,25 @@ module _ (spelled : NumbersHaveOneSpelling) where
           let same : Damage harm ≡ e = cc in rw (← same) (ap (λ words. codes "harm" ∷ words) (harm-words part ws harm some))
 
   event-words : (verb : Word) (ws : List Word) (e : Event) → event_of verb ws ≡ Some e → verb ∷ ws ≡ event_words e
-  event-words verb ws e =
-      kind verb (codes "send") ws (event_words e) send_of _ e (send-words ws e) (
-      kind verb (codes "take") ws (event_words e) take_of _ e (take-words ws e) (
-      kind verb (codes "tick") ws (event_words e) tick_of _ e (tick-words ws e) (
-      kind verb (codes "lose") ws (event_words e) lose_of _ e (lose-words ws e) (
-      kind verb (codes "ask") ws (event_words e) ask_of _ e (ask-words ws e) (
-      kind verb (codes "leave") ws (event_words e) leave_of _ e (leave-words ws e) (
-      kind verb (codes "harm") ws (event_words e) damage_of _ e (damage-words ws e) (λ none. absurd (cc))))))))
+  event-words verb ws e = by-name verbs verb ws (event_words e) e (
+    tick-words ws e,
+    (
+      lose-words ws e,
+      (
+        damage-words ws e,
+        (
+          send-words ws e,
+          (
+            take-words ws e,
+            (
+              ask-words ws e,
+              (leave-words ws e, tt),
+            ),
+          ),
+        ),
+      ),
+    ),
+  )
 
   -- the words of a line that spells an event are those of the event
   words-of : (ws : List Word) (e : Event) → option_and_then (λ verb. event_of verb (other_words ws)) (first_word ws) ≡ Some e → ws ≡ event_words e

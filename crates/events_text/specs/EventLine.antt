@@ -1,5 +1,5 @@
 -- The lines of an events text: which event a line spells.
-use Rattle.std.specs.Prelude.{ℕ, if◌then◌else◌, List, Option, Some, None, codes}
+use Rattle.std.specs.Prelude.{ℕ, if◌then◌else◌, List, [], ◌∷◌, Option, Some, None, codes}
 use Rattle.std.specs.Option.{option_and_then, option_map}
 use Rattle.std.specs.Str.{bytes_eq}
 use Rattle.line_words.specs.Words.{Word, words, first_word, other_words, reads, ends}
@@ -10,6 +10,13 @@ use Rattle.run_model.specs.declared.event.Event.{Event}
 use Rattle.run_model.specs.declared.event.Event.TheVariants.{Send, Take, Lose, Tick, Ask, Leave, Damage}
 use Rattle.run_model.specs.declared.event.Harm.{Harm}
 use Rattle.run_model.specs.declared.event.Harm.TheVariants as harm
+
+-- two numbers, and three
+abbrev pub two_of : List Word → Option (ℕ × ℕ)
+two_of = reads number (λ m. reads number (λ n words. Some (m, n)))
+
+abbrev pub three_of : List Word → Option (ℕ × ℕ × ℕ)
+three_of = reads number (λ k. reads number (λ m. reads number (λ n words. Some (k, m, n))))
 
 -- a payload, D P X: a distance, a parent and a ring value
 abbrev pub payload_of : List Word → Option Payload
@@ -75,37 +82,33 @@ join_of = reads number (λ u. reads number (λ v. ends (harm.Join u v)))
 abbrev pub part_of : List Word → Option Harm
 part_of = reads number (λ u. reads number (λ v. ends (harm.Part u v)))
 
--- the harm that its kind and the words after it name
+-- what the first of these names that is this word reads of the words after it
+abbrev pub by_name : {Y : Type 0} → List (Word × (List Word → Option Y)) → Word → List Word → Option Y
+by_name [] word words = None
+by_name (row ∷ rows) word words = if bytes_eq word row.0 then row.1 words else by_name rows word words
+
+-- the kinds of harms, and the harm that its kind and the words after it name
+abbrev pub harm_kinds : List (Word × (List Word → Option Harm))
+harm_kinds =
+    (codes "own", own_of) ∷ (codes "counters", counters_of) ∷ (codes "staged", staged_of) ∷ (codes "copy", copy_of)
+    ∷ (codes "value", value_of) ∷ (codes "desk", desk_of) ∷ (codes "frame", frame_of) ∷ (codes "junk", junk_of)
+    ∷ (codes "empty", empty_of) ∷ (codes "join", join_of) ∷ (codes "part", part_of) ∷ []
+
 abbrev pub harm_of : Word → List Word → Option Harm
-harm_of kind words =
-    if bytes_eq kind (codes "own") then own_of words
-    else if bytes_eq kind (codes "counters") then counters_of words
-    else if bytes_eq kind (codes "staged") then staged_of words
-    else if bytes_eq kind (codes "copy") then copy_of words
-    else if bytes_eq kind (codes "value") then value_of words
-    else if bytes_eq kind (codes "desk") then desk_of words
-    else if bytes_eq kind (codes "frame") then frame_of words
-    else if bytes_eq kind (codes "junk") then junk_of words
-    else if bytes_eq kind (codes "empty") then empty_of words
-    else if bytes_eq kind (codes "join") then join_of words
-    else if bytes_eq kind (codes "part") then part_of words
-    else None
+harm_of kind words = by_name harm_kinds kind words
 
 -- the harm that the words after `harm` name
 abbrev pub damage_of : List Word → Option Event
 damage_of words = option_map (λ h. Damage h) (option_and_then (λ kind. harm_of kind (other_words words)) (first_word words))
 
--- the event that a verb and the words after it name
+-- the verbs, and the event that a verb and the words after it name
+abbrev pub verbs : List (Word × (List Word → Option Event))
+verbs =
+    (codes "tick", tick_of) ∷ (codes "lose", lose_of) ∷ (codes "harm", damage_of) ∷ (codes "send", send_of)
+    ∷ (codes "take", take_of) ∷ (codes "ask", ask_of) ∷ (codes "leave", leave_of) ∷ []
+
 abbrev pub event_of : Word → List Word → Option Event
-event_of verb words =
-    if bytes_eq verb (codes "send") then send_of words
-    else if bytes_eq verb (codes "take") then take_of words
-    else if bytes_eq verb (codes "tick") then tick_of words
-    else if bytes_eq verb (codes "lose") then lose_of words
-    else if bytes_eq verb (codes "ask") then ask_of words
-    else if bytes_eq verb (codes "leave") then leave_of words
-    else if bytes_eq verb (codes "harm") then damage_of words
-    else None
+event_of verb words = by_name verbs verb words
 
 -- the event that a line spells, if any
 abbrev pub line_event : List ℕ → Option Event

@@ -1,4 +1,10 @@
 //! Events as the lines that spell them.
+ghost use Rattle.std.specs.Prelude.{Some, ◌∷◌, []};
+ghost use Rattle.std.specs.Fmt.{decimal};
+ghost use Rattle.std.specs.List.{join_with_byte};
+ghost use Rattle.events_text.specs.EventLaws.{event_words, harm_words, payload_words, word_or_none};
+ghost use Rattle.events_text.specs.EventLaws.{yes_or_no_word};
+
 use link_model::Item;
 use run_model::{Event, Harm};
 use std::fmt;
@@ -10,10 +16,6 @@ use topology::{Frame, Payload};
 pub struct EventLine(pub Event);
 
 impl fmt::Display for EventLine {
-    ghost use Rattle.std.specs.Prelude.{Some};
-    ghost use Rattle.std.specs.List.{join_with_byte};
-    ghost use Rattle.events_text.specs.EventLaws.{event_words};
-
     ghost output = { λ line. Some (join_with_byte 32 (event_words line.0)) };
 
     fn fmt<W: fmt::Write>(&self, f: &mut fmt::Formatter<W>) -> fmt::Result {
@@ -34,10 +36,6 @@ impl fmt::Display for EventLine {
 struct TwoNumbers(&'static str, u16, u16);
 
 impl fmt::Display for TwoNumbers {
-    ghost use Rattle.std.specs.Prelude.{Some, ◌∷◌, []};
-    ghost use Rattle.std.specs.Fmt.{decimal};
-    ghost use Rattle.std.specs.List.{join_with_byte};
-
     ghost output = { λ w. Some (join_with_byte 32 (w.0.now ∷ decimal w.1 ∷ decimal w.2 ∷ [])) };
 
     fn fmt<W: fmt::Write>(&self, f: &mut fmt::Formatter<W>) -> fmt::Result {
@@ -50,10 +48,6 @@ impl fmt::Display for TwoNumbers {
 struct ThreeNumbers(&'static str, u16, u16, u16);
 
 impl fmt::Display for ThreeNumbers {
-    ghost use Rattle.std.specs.Prelude.{Some, ◌∷◌, []};
-    ghost use Rattle.std.specs.Fmt.{decimal};
-    ghost use Rattle.std.specs.List.{join_with_byte};
-
     ghost output = { λ w. Some (join_with_byte 32 (w.0.now ∷ decimal w.1 ∷ decimal w.2 ∷ decimal w.3 ∷ [])) };
 
     fn fmt<W: fmt::Write>(&self, f: &mut fmt::Formatter<W>) -> fmt::Result {
@@ -66,10 +60,6 @@ impl fmt::Display for ThreeNumbers {
 struct HarmWords(Harm);
 
 impl fmt::Display for HarmWords {
-    ghost use Rattle.std.specs.Prelude.{Some};
-    ghost use Rattle.std.specs.List.{join_with_byte};
-    ghost use Rattle.events_text.specs.EventLaws.{harm_words};
-
     ghost output = { λ harm. Some (join_with_byte 32 (harm_words harm.0)) };
 
     fn fmt<W: fmt::Write>(&self, f: &mut fmt::Formatter<W>) -> fmt::Result {
@@ -78,24 +68,13 @@ impl fmt::Display for HarmWords {
                 node,
                 distance,
                 parent,
-            } => OwnWords {
-                node,
-                distance,
-                parent,
-            }
-            .fmt(f),
+            } => write!(f, "own {node} {distance} {}", NumberOrNone(parent)),
             Harm::Counters {
                 node,
                 neighbour,
                 seq,
                 last,
-            } => CounterWords {
-                node,
-                neighbour,
-                seq,
-                last,
-            }
-            .fmt(f),
+            } => write!(f, "counters {node} {neighbour} {seq} {last}"),
             Harm::Staged {
                 node,
                 neighbour,
@@ -116,72 +95,26 @@ impl fmt::Display for HarmWords {
                 lent,
                 left,
                 served,
-            } => DeskWords {
-                node,
-                lent,
-                left,
-                served,
-            }
-            .fmt(f),
-            Harm::Item { from, to, item } => ItemWords { from, to, item }.fmt(f),
+            } => write!(
+                f,
+                "desk {node} {} {left} {}",
+                NumberOrNone(lent),
+                YesOrNo(served)
+            ),
+            Harm::Item {
+                from,
+                to,
+                item: Item::Frame(Frame { seq, ack, payload }),
+            } => write!(f, "frame {from} {to} {seq} {ack} {}", PayloadWords(payload)),
+            Harm::Item {
+                from,
+                to,
+                item: Item::Noise,
+            } => TwoNumbers("junk", from, to).fmt(f),
             Harm::Empty { from, to } => TwoNumbers("empty", from, to).fmt(f),
             Harm::Join { node, neighbour } => TwoNumbers("join", node, neighbour).fmt(f),
             Harm::Part { node, neighbour } => TwoNumbers("part", node, neighbour).fmt(f),
         }
-    }
-}
-
-/// What a node says of itself after a harm, which prints as the words after `harm`.
-#[derive(Clone, Copy)]
-struct OwnWords {
-    node: u16,
-    distance: u16,
-    parent: Option<u16>,
-}
-
-impl fmt::Display for OwnWords {
-    ghost use Rattle.std.specs.Prelude.{Some};
-    ghost use Rattle.std.specs.List.{join_with_byte};
-    ghost use Rattle.run_model.specs.declared.event.Harm.TheVariants as harm;
-    ghost use Rattle.events_text.specs.EventLaws.{harm_words};
-
-    ghost output = { λ w. Some (join_with_byte 32 (harm_words (harm.Own w.node w.distance w.parent))) };
-
-    fn fmt<W: fmt::Write>(&self, f: &mut fmt::Formatter<W>) -> fmt::Result {
-        let OwnWords {
-            node,
-            distance,
-            parent,
-        } = *self;
-        write!(f, "own {node} {distance} {}", NumberOrNone(parent))
-    }
-}
-
-/// The numbers of a port after a harm, which print as the words after `harm`.
-#[derive(Clone, Copy)]
-struct CounterWords {
-    node: u16,
-    neighbour: u16,
-    seq: u16,
-    last: u16,
-}
-
-impl fmt::Display for CounterWords {
-    ghost use Rattle.std.specs.Prelude.{Some};
-    ghost use Rattle.std.specs.List.{join_with_byte};
-    ghost use Rattle.run_model.specs.declared.event.Harm.TheVariants as harm;
-    ghost use Rattle.events_text.specs.EventLaws.{harm_words};
-
-    ghost output = { λ w. Some (join_with_byte 32 (harm_words (harm.Counters w.node w.neighbour w.seq w.last))) };
-
-    fn fmt<W: fmt::Write>(&self, f: &mut fmt::Formatter<W>) -> fmt::Result {
-        let CounterWords {
-            node,
-            neighbour,
-            seq,
-            last,
-        } = *self;
-        write!(f, "counters {node} {neighbour} {seq} {last}")
     }
 }
 
@@ -190,11 +123,6 @@ impl fmt::Display for CounterWords {
 struct PortWords(&'static str, u16, u16, Payload);
 
 impl fmt::Display for PortWords {
-    ghost use Rattle.std.specs.Prelude.{Some, ◌∷◌};
-    ghost use Rattle.std.specs.Fmt.{decimal};
-    ghost use Rattle.std.specs.List.{join_with_byte};
-    ghost use Rattle.events_text.specs.EventLaws.{payload_words};
-
     ghost output = { λ w. Some (join_with_byte 32 (w.0.now ∷ decimal w.1 ∷ decimal w.2 ∷ payload_words w.3)) };
 
     fn fmt<W: fmt::Write>(&self, f: &mut fmt::Formatter<W>) -> fmt::Result {
@@ -209,75 +137,11 @@ impl fmt::Display for PortWords {
     }
 }
 
-/// A desk after a harm, which prints as the words after `harm`.
-#[derive(Clone, Copy)]
-struct DeskWords {
-    node: u16,
-    lent: Option<u16>,
-    left: u16,
-    served: bool,
-}
-
-impl fmt::Display for DeskWords {
-    ghost use Rattle.std.specs.Prelude.{Some};
-    ghost use Rattle.std.specs.List.{join_with_byte};
-    ghost use Rattle.run_model.specs.declared.event.Harm.TheVariants as harm;
-    ghost use Rattle.events_text.specs.EventLaws.{harm_words};
-
-    ghost output = { λ w. Some (join_with_byte 32 (harm_words (harm.Desk w.node w.lent w.left w.served))) };
-
-    fn fmt<W: fmt::Write>(&self, f: &mut fmt::Formatter<W>) -> fmt::Result {
-        let DeskWords {
-            node,
-            lent,
-            left,
-            served,
-        } = *self;
-        write!(
-            f,
-            "desk {node} {} {left} {}",
-            NumberOrNone(lent),
-            YesOrNo(served)
-        )
-    }
-}
-
-/// An item that a harm puts on a link, which prints as the words after `harm`.
-#[derive(Clone, Copy)]
-struct ItemWords {
-    from: u16,
-    to: u16,
-    item: Item,
-}
-
-impl fmt::Display for ItemWords {
-    ghost use Rattle.std.specs.Prelude.{Some};
-    ghost use Rattle.std.specs.List.{join_with_byte};
-    ghost use Rattle.run_model.specs.declared.event.Harm.TheVariants as harm;
-    ghost use Rattle.events_text.specs.EventLaws.{harm_words};
-
-    ghost output = { λ w. Some (join_with_byte 32 (harm_words (harm.Item w.from w.to w.item))) };
-
-    fn fmt<W: fmt::Write>(&self, f: &mut fmt::Formatter<W>) -> fmt::Result {
-        let ItemWords { from, to, item } = *self;
-        match item {
-            Item::Frame(Frame { seq, ack, payload }) => {
-                write!(f, "frame {from} {to} {seq} {ack} {}", PayloadWords(payload))
-            }
-            Item::Noise => write!(f, "junk {from} {to}"),
-        }
-    }
-}
-
 /// A payload, which prints as its three words.
 #[derive(Clone, Copy)]
 struct PayloadWords(Payload);
 
 impl fmt::Display for PayloadWords {
-    ghost use Rattle.std.specs.Prelude.{Some};
-    ghost use Rattle.std.specs.List.{join_with_byte};
-    ghost use Rattle.events_text.specs.EventLaws.{payload_words};
-
     ghost output = { λ payload. Some (join_with_byte 32 (payload_words payload.0)) };
 
     fn fmt<W: fmt::Write>(&self, f: &mut fmt::Formatter<W>) -> fmt::Result {
@@ -295,9 +159,6 @@ impl fmt::Display for PayloadWords {
 struct NumberOrNone(Option<u16>);
 
 impl fmt::Display for NumberOrNone {
-    ghost use Rattle.std.specs.Prelude.{Some};
-    ghost use Rattle.events_text.specs.EventLaws.{word_or_none};
-
     ghost output = { λ number. Some (word_or_none number.0) };
 
     fn fmt<W: fmt::Write>(&self, f: &mut fmt::Formatter<W>) -> fmt::Result {
@@ -313,9 +174,6 @@ impl fmt::Display for NumberOrNone {
 struct YesOrNo(bool);
 
 impl fmt::Display for YesOrNo {
-    ghost use Rattle.std.specs.Prelude.{Some};
-    ghost use Rattle.events_text.specs.EventLaws.{yes_or_no_word};
-
     ghost output = { λ answer. Some (yes_or_no_word answer.0) };
 
     fn fmt<W: fmt::Write>(&self, f: &mut fmt::Formatter<W>) -> fmt::Result {

@@ -1,15 +1,16 @@
 //! A line of an events text that writes a part of the world, or changes its network by one edge.
 ghost use Rattle.std.specs.Prelude.{◌≡◌};
-ghost use Rattle.events_text.specs.EventLine.{harm_of, own_of, counters_of, staged_of, copy_of};
-ghost use Rattle.events_text.specs.EventLine.{value_of, desk_of, frame_of, junk_of, empty_of};
-ghost use Rattle.events_text.specs.EventLine.{join_of, part_of};
+ghost use Rattle.events_text.specs.EventLine.{harm_of, own_of, counters_of, value_of, desk_of};
+ghost use Rattle.events_text.specs.EventLine.{frame_of};
 
+use super::numbers::{three_numbers, two_numbers};
 use super::payload::payload;
 use line_words::Words;
 use link_model::{Frame, Item};
 use run_model::Harm;
 
-/// The harm that its kind and the words after it name.
+/// The harm that its kind and the words after it name: `staged V W D P X` and `copy V W D P X`, or
+/// `junk U V`, `empty U V`, `join U V` and `part U V`, or one of those below.
 pub fn harm(kind: &[u8], words: &mut Words) -> Option<Harm>
     ensures { result ≡ harm_of kind.now words.old }
 {
@@ -17,26 +18,43 @@ pub fn harm(kind: &[u8], words: &mut Words) -> Option<Harm>
         own(words)
     } else if kind == b"counters".as_slice() {
         counters(words)
-    } else if kind == b"staged".as_slice() {
-        staged(words)
-    } else if kind == b"copy".as_slice() {
-        copy(words)
+    } else if kind == b"staged".as_slice() || kind == b"copy".as_slice() {
+        let (node, neighbour) = two_numbers(words)?;
+        let payload = payload(words)?;
+        words.end(if kind == b"staged".as_slice() {
+            Harm::Staged {
+                node,
+                neighbour,
+                payload,
+            }
+        } else {
+            Harm::Copy {
+                node,
+                neighbour,
+                payload,
+            }
+        })
     } else if kind == b"value".as_slice() {
         value(words)
     } else if kind == b"desk".as_slice() {
         desk(words)
     } else if kind == b"frame".as_slice() {
         frame(words)
-    } else if kind == b"junk".as_slice() {
-        junk(words)
-    } else if kind == b"empty".as_slice() {
-        empty(words)
-    } else if kind == b"join".as_slice() {
-        join(words)
-    } else if kind == b"part".as_slice() {
-        part(words)
     } else {
-        None
+        let (from, to) = two_numbers(words)?;
+        let (node, neighbour) = (from, to);
+        let item = Item::Noise;
+        if kind == b"junk".as_slice() {
+            words.end(Harm::Item { from, to, item })
+        } else if kind == b"empty".as_slice() {
+            words.end(Harm::Empty { from, to })
+        } else if kind == b"join".as_slice() {
+            words.end(Harm::Join { node, neighbour })
+        } else if kind == b"part".as_slice() {
+            words.end(Harm::Part { node, neighbour })
+        } else {
+            None
+        }
     }
 }
 
@@ -44,8 +62,7 @@ pub fn harm(kind: &[u8], words: &mut Words) -> Option<Harm>
 fn own(words: &mut Words) -> Option<Harm>
     ensures { result ≡ own_of words.old }
 {
-    let node = words.number()?;
-    let distance = words.number()?;
+    let (node, distance) = two_numbers(words)?;
     let parent = words.number_or_none()?;
     words.end(Harm::Own {
         node,
@@ -58,10 +75,8 @@ fn own(words: &mut Words) -> Option<Harm>
 fn counters(words: &mut Words) -> Option<Harm>
     ensures { result ≡ counters_of words.old }
 {
-    let node = words.number()?;
-    let neighbour = words.number()?;
-    let seq = words.number()?;
-    let last = words.number()?;
+    let (node, neighbour) = two_numbers(words)?;
+    let (seq, last) = two_numbers(words)?;
     words.end(Harm::Counters {
         node,
         neighbour,
@@ -70,41 +85,11 @@ fn counters(words: &mut Words) -> Option<Harm>
     })
 }
 
-/// `harm staged V W D P X`.
-fn staged(words: &mut Words) -> Option<Harm>
-    ensures { result ≡ staged_of words.old }
-{
-    let node = words.number()?;
-    let neighbour = words.number()?;
-    let payload = payload(words)?;
-    words.end(Harm::Staged {
-        node,
-        neighbour,
-        payload,
-    })
-}
-
-/// `harm copy V W D P X`.
-fn copy(words: &mut Words) -> Option<Harm>
-    ensures { result ≡ copy_of words.old }
-{
-    let node = words.number()?;
-    let neighbour = words.number()?;
-    let payload = payload(words)?;
-    words.end(Harm::Copy {
-        node,
-        neighbour,
-        payload,
-    })
-}
-
 /// `harm value V W X`.
 fn value(words: &mut Words) -> Option<Harm>
     ensures { result ≡ value_of words.old }
 {
-    let node = words.number()?;
-    let neighbour = words.number()?;
-    let value = words.number()?;
+    let (node, neighbour, value) = three_numbers(words)?;
     words.end(Harm::Value {
         node,
         neighbour,
@@ -132,54 +117,12 @@ fn desk(words: &mut Words) -> Option<Harm>
 fn frame(words: &mut Words) -> Option<Harm>
     ensures { result ≡ frame_of words.old }
 {
-    let from = words.number()?;
-    let to = words.number()?;
-    let seq = words.number()?;
-    let ack = words.number()?;
+    let (from, to) = two_numbers(words)?;
+    let (seq, ack) = two_numbers(words)?;
     let payload = payload(words)?;
     words.end(Harm::Item {
         from,
         to,
         item: Item::Frame(Frame { seq, ack, payload }),
     })
-}
-
-/// `harm junk U V`.
-fn junk(words: &mut Words) -> Option<Harm>
-    ensures { result ≡ junk_of words.old }
-{
-    let from = words.number()?;
-    let to = words.number()?;
-    words.end(Harm::Item {
-        from,
-        to,
-        item: Item::Noise,
-    })
-}
-
-/// `harm empty U V`.
-fn empty(words: &mut Words) -> Option<Harm>
-    ensures { result ≡ empty_of words.old }
-{
-    let from = words.number()?;
-    let to = words.number()?;
-    words.end(Harm::Empty { from, to })
-}
-
-/// `harm join U V`.
-fn join(words: &mut Words) -> Option<Harm>
-    ensures { result ≡ join_of words.old }
-{
-    let node = words.number()?;
-    let neighbour = words.number()?;
-    words.end(Harm::Join { node, neighbour })
-}
-
-/// `harm part U V`.
-fn part(words: &mut Words) -> Option<Harm>
-    ensures { result ≡ part_of words.old }
-{
-    let node = words.number()?;
-    let neighbour = words.number()?;
-    words.end(Harm::Part { node, neighbour })
 }

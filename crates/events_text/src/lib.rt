@@ -29,6 +29,7 @@ mod event_line;
 mod harm;
 pub mod laws;
 mod line;
+mod numbers;
 mod payload;
 mod reader;
 mod text_line;

@@ -2,7 +2,7 @@
 use Rattle.std.proofs.Common.{◌≡◌, ◌∙◌, ap, sym, subst, ℕ, Bool, true, false, List, [], ◌∷◌, ◌++◌, None, Some, inl, inr, refl, arith}
 use Rattle.std.proofs.lemmas.List.{append-nil}
 use Rattle.film_stills.specs.declared.still.Still.{Still}
-use Rattle.film_stills.specs.Stills.{calm_folded, folded, is_weighty, IsFaithful, IsLike, joined, MayJoin, MayLast, StandFor, together, with_last}
+use Rattle.film_stills.specs.Stills.{folded, is_weighty, IsFaithful, IsLike, joined, MayJoin, MayLast, StandFor, together, with_last}
 use Rattle.film_stills.specs.Stills.StandFor.{Nothing, Further}
 use Rattle.film_stills.specs.Reels.{Shows}
 
@@ -53,11 +53,11 @@ joined-later = refl
 joined-under_way : (joined (still false 1 0 1) (record (still false 1 0 2) { under_way = 3 ∷ [] })).under_way ≡ 3 ∷ []
 joined-under_way = refl
 
-folded-pairs : folded (still false 1 0 1 ∷ still true 2 0 2 ∷ still false 1 0 3 ∷ []) ≡ still true 2 0 2 ∷ still false 1 0 3 ∷ []
+folded-pairs : folded true (still false 1 0 1 ∷ still true 2 0 2 ∷ still false 1 0 3 ∷ []) ≡ still true 2 0 2 ∷ still false 1 0 3 ∷ []
 folded-pairs = refl
 
 -- damage is not joined with what is calm
-calm-around : calm_folded (still false 1 0 1 ∷ still true 1 0 2 ∷ still false 1 0 3 ∷ still false 0 0 4 ∷ []) ≡ still false 1 0 1 ∷ still true 1 0 2 ∷ still false 1 0 4 ∷ []
+calm-around : folded false (still false 1 0 1 ∷ still true 1 0 2 ∷ still false 1 0 3 ∷ still false 0 0 4 ∷ []) ≡ still false 1 0 1 ∷ still true 1 0 2 ∷ still false 1 0 4 ∷ []
 calm-around = refl
 
 last-one : with_last (still false 0 0 1 ∷ still false 1 0 2 ∷ []) (still false 0 1 3) ≡ still false 0 0 1 ∷ still false 1 1 3 ∷ []

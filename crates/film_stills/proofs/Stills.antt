@@ -4,7 +4,7 @@ use Rattle.std.proofs.lemmas.Grind.{common_steps}
 use Rattle.std.proofs.lemmas.List.{append-nil}
 use Rattle.std.proofs.Math.Seq.{take-suc, take-length}
 use Rattle.film_stills.specs.declared.still.Still.{Still}
-use Rattle.film_stills.specs.Stills.{is_weighty, IsLike, joined, together, IsFaithful, StandFor, with_last, folded, are_calm, calm_folded, MayJoin, MayLast}
+use Rattle.film_stills.specs.Stills.{is_weighty, IsLike, joined, together, IsFaithful, StandFor, with_last, folded, are_calm, MayJoin, MayLast}
 use Rattle.film_stills.specs.Stills.StandFor.{Nothing, Further}
 use Rattle.film_stills.specs.Reels.{ReelView, Shows}
 
@@ -137,29 +137,29 @@ stands_crowded crowded moments stills (Further first later {moments = others} {s
 crowded_calm : (a b : Still) → true ≡ false → IsTrue (are_calm a b)
 crowded_calm a b is = let no : ⊥ = grind (arith, is) in elim no [ ]
 
-pub stands_folded : (crowded : Bool) (moments stills : List Still) → StandFor crowded moments stills → StandFor true moments (folded stills)
+pub stands_folded : (crowded : Bool) (moments stills : List Still) → StandFor crowded moments stills → StandFor true moments (folded true stills)
 stands_folded crowded moments stills Nothing = Nothing
 stands_folded crowded moments stills (Further first later {moments = others} {stills = after} faithful Nothing) =
     stands_crowded crowded (first ∷ (later ++ [])) (together first later ∷ []) (Further first later faithful Nothing)
 stands_folded crowded moments stills (Further first later faithful (Further next more {moments = others} {stills = after} fair rest)) =
-    merged true first later next more others (folded after) (crowded_calm (together first later) (together next more)) (stands_folded crowded others after rest)
+    merged true first later next more others (folded true after) (crowded_calm (together first later) (together next more)) (stands_folded crowded others after rest)
 
 mutual_calm : (crowded calm : Bool) (first : Still) (later : List Still) (next : Still) (more moments stills : List Still)
     → are_calm (together first later) (together next more) ≡ calm
     → (crowded ≡ false → IsFaithful (together first later) (first ∷ later))
-    → StandFor crowded moments (calm_folded stills)
-    → StandFor crowded (next ∷ (more ++ moments)) (calm_folded (together next more ∷ stills))
-    → StandFor crowded (first ∷ (later ++ next ∷ (more ++ moments))) (calm_folded (together first later ∷ together next more ∷ stills))
+    → StandFor crowded moments (folded false stills)
+    → StandFor crowded (next ∷ (more ++ moments)) (folded false (together next more ∷ stills))
+    → StandFor crowded (first ∷ (later ++ next ∷ (more ++ moments))) (folded false (together first later ∷ together next more ∷ stills))
 mutual_calm crowded true first later next more moments stills is faithful rest one =
     subst (λ b. StandFor crowded (first ∷ (later ++ next ∷ (more ++ moments)))
-    (if b then joined (together first later) (together next more) ∷ calm_folded stills else together first later ∷ calm_folded (together next more ∷ stills))) (sym is)
-    (merged crowded first later next more moments (calm_folded stills) (λ here. is) rest)
+    (if b then joined (together first later) (together next more) ∷ folded false stills else together first later ∷ folded false (together next more ∷ stills))) (sym is)
+    (merged crowded first later next more moments (folded false stills) (λ here. is) rest)
 mutual_calm crowded false first later next more moments stills is faithful rest one =
     subst (λ b. StandFor crowded (first ∷ (later ++ next ∷ (more ++ moments)))
-    (if b then joined (together first later) (together next more) ∷ calm_folded stills else together first later ∷ calm_folded (together next more ∷ stills))) (sym is)
+    (if b then joined (together first later) (together next more) ∷ folded false stills else together first later ∷ folded false (together next more ∷ stills))) (sym is)
     (Further first later faithful one)
 
-pub stands_calm : (crowded : Bool) (moments stills : List Still) → StandFor crowded moments stills → StandFor crowded moments (calm_folded stills)
+pub stands_calm : (crowded : Bool) (moments stills : List Still) → StandFor crowded moments stills → StandFor crowded moments (folded false stills)
 stands_calm crowded moments stills Nothing = Nothing
 stands_calm crowded moments stills (Further first later faithful Nothing) = Further first later faithful Nothing
 stands_calm crowded moments stills (Further first later faithful (Further next more {moments = others} {stills = after} fair rest)) =
@@ -175,17 +175,17 @@ IsFoldedSoFar fold stills written rest first now =
 
 -- ---- how many they are
 
-folded_few : (stills : List Still) → length (folded stills) ≤ length stills
+folded_few : (stills : List Still) → length (folded true stills) ≤ length stills
 folded_few [] = omega arith
 folded_few (a ∷ []) = omega arith
 folded_few (a ∷ b ∷ stills) = let fewer = folded_few stills in grind (arith, common_steps)
 
-pub folded_fewer : (stills : List Still) → 2 ≤ length stills → length (folded stills) < length stills
+pub folded_fewer : (stills : List Still) → 2 ≤ length stills → length (folded true stills) < length stills
 folded_fewer [] two = grind (arith, common_steps)
 folded_fewer (a ∷ []) two = grind (arith, common_steps)
 folded_fewer (a ∷ b ∷ stills) two = let fewer = folded_few stills in grind (arith, common_steps)
 
-pub calm_few : (stills : List Still) → length (calm_folded stills) ≤ length stills
+pub calm_few : (stills : List Still) → length (folded false stills) ≤ length stills
 calm_few [] = omega arith
 calm_few (a ∷ []) = omega arith
 calm_few (a ∷ b ∷ stills) =

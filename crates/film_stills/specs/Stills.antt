@@ -41,21 +41,16 @@ with_last [] moment = []
 with_last (a ∷ []) moment = joined a moment ∷ []
 with_last (a ∷ b ∷ stills) moment = a ∷ with_last (b ∷ stills) moment
 
--- each two stills as one; an odd one at the end stays
-abbrev pub folded : List Still → List Still
-folded [] = []
-folded (a ∷ []) = a ∷ []
-folded (a ∷ b ∷ stills) = joined a b ∷ folded stills
-
 -- two neighbouring stills may be joined, since neither is weighty
 abbrev pub are_calm : Still → Still → Bool
 are_calm a b = not (is_weighty a) && not (is_weighty b)
 
--- each two neighbouring stills that are calm as one
-abbrev pub calm_folded : List Still → List Still
-calm_folded [] = []
-calm_folded (a ∷ []) = a ∷ []
-calm_folded (a ∷ b ∷ stills) = if are_calm a b then joined a b ∷ calm_folded stills else a ∷ calm_folded (b ∷ stills)
+-- each two neighbouring stills as one: of all, or of those that are calm; the others stay, and so does an
+-- odd one at the end
+abbrev pub folded : Bool → List Still → List Still
+folded all [] = []
+folded all (a ∷ []) = a ∷ []
+folded all (a ∷ b ∷ stills) = if all || are_calm a b then joined a b ∷ folded all stills else a ∷ folded all (b ∷ stills)
 
 -- the last still, which must be there, may stand for one moment more, since it shows what is seen at
 -- it, or since neither is weighty

@@ -3,7 +3,7 @@ ghost use Rattle.std.specs.Prelude.{◌≡◌, ◌+◌, ◌<◌, ◌≤◌, List
 ghost use Rattle.std.specs.Prelude.{false, option_map};
 ghost use Rattle.std.specs.Vec.{vec_capacity};
 ghost use Rattle.film_stills.specs.declared.still.Still.{Still};
-ghost use Rattle.film_stills.specs.Stills.{folded, calm_folded, are_calm, StandFor, MayJoin, MayLast};
+ghost use Rattle.film_stills.specs.Stills.{folded, are_calm, StandFor, MayJoin, MayLast};
 ghost use Rattle.film_stills.specs.Reels.{Shows};
 
 use crate::still::{Still, join_last};
@@ -74,7 +74,7 @@ impl<A: Allocator + Copy> Reel<A> {
         self.opening.as_ref()
     }
 
-    /// The stills after the first moment, at most [`Reel::limit`].
+    /// The stills after the first moment, at most as many as the limit that [`Reel::new`] was given.
     pub fn stills(&self) -> &[Still]
         ensures stills { result.now ≡ self.now.stills }
         ensures few { length result.now ≤ self.now.limit }
@@ -87,13 +87,6 @@ impl<A: Allocator + Copy> Reel<A> {
         ensures { result ≡ self.now.crowded }
     {
         self.crowded
-    }
-
-    /// How many stills there may be after the first.
-    pub fn limit(&self) -> usize
-        ensures { result ≡ self.now.limit }
-    {
-        self.limit
     }
 
     /// One more moment.
@@ -164,7 +157,7 @@ impl<A: Allocator + Copy> Reel<A> {
         ensures limit { self.new.limit ≡ self.old.limit }
         ensures opening { self.new.opening ≡ self.old.opening }
     {
-        calm_fold_into(self.stills.as_slice(), &mut self.spare);
+        fold_into(self.stills.as_slice(), &mut self.spare, false);
         self.width = self.width.saturating_add(self.width);
         mem::swap(&mut self.stills, &mut self.spare);
         self.spare.clear();
@@ -179,7 +172,7 @@ impl<A: Allocator + Copy> Reel<A> {
         ensures opening { self.new.opening ≡ self.old.opening }
         ensures room { length self.new.stills < length self.old.stills }
     {
-        fold_into(self.stills.as_slice(), &mut self.spare);
+        fold_into(self.stills.as_slice(), &mut self.spare, true);
         self.crowded = true;
         self.weighty_width = self.weighty_width.saturating_add(self.weighty_width);
         mem::swap(&mut self.stills, &mut self.spare);
@@ -207,23 +200,6 @@ fn ends_calm(stills: &[Still], moment: &Still) -> bool
     }
 }
 
-/// Writes each two stills as one; an odd one at the end stays.
-fn fold_into<A: Allocator>(stills: &[Still], spare: &mut Vec<Still, A>)
-    requires empty { spare.old.items ≡ [] }
-    requires room { length stills.now ≤ vec_capacity spare.old }
-    ensures folded { spare.new.items ≡ folded stills.now }
-    ensures capacity { vec_capacity spare.new ≡ vec_capacity spare.old }
-{
-    let mut rest = stills;
-    while let [first, second, more @ ..] = rest {
-        spare.push_reserved(first.joined(second));
-        rest = more;
-    }
-    if let [only] = rest {
-        spare.push_reserved(*only);
-    }
-}
-
 /// Whether neither of two stills is weighty.
 fn are_calm(first: &Still, second: &Still) -> bool
     ensures { result ≡ are_calm first.now second.now }
@@ -231,11 +207,11 @@ fn are_calm(first: &Still, second: &Still) -> bool
     !first.is_weighty() & !second.is_weighty()
 }
 
-/// Writes each two neighbouring stills that are calm as one; the others stay.
-fn calm_fold_into<A: Allocator>(stills: &[Still], spare: &mut Vec<Still, A>)
+/// Writes each two neighbouring stills as one: all, or those that are calm. The others stay.
+fn fold_into<A: Allocator>(stills: &[Still], spare: &mut Vec<Still, A>, all: bool)
     requires empty { spare.old.items ≡ [] }
     requires room { length stills.now ≤ vec_capacity spare.old }
-    ensures folded { spare.new.items ≡ calm_folded stills.now }
+    ensures folded { spare.new.items ≡ folded all stills.now }
     ensures capacity { vec_capacity spare.new ≡ vec_capacity spare.old }
 {
     let mut rest = stills;
@@ -243,7 +219,7 @@ fn calm_fold_into<A: Allocator>(stills: &[Still], spare: &mut Vec<Still, A>)
         rest = more;
         let mut shown = *first;
         if let [second, others @ ..] = more {
-            if are_calm(first, second) {
+            if all || are_calm(first, second) {
                 shown = first.joined(second);
                 rest = others;
             }

@@ -1,6 +1,6 @@
 //! What a film shows at a moment.
 ghost use Rattle.std.specs.Prelude.{◌≡◌, IsTrue};
-ghost use Rattle.film_stills.specs.Stills.{is_weighty, joined, with_last, folded, calm_folded};
+ghost use Rattle.film_stills.specs.Stills.{is_weighty, joined, with_last};
 ghost use Rattle.film_stills.specs.Stills.{IsLike};
 ghost use Rattle.run_model.specs.topology.Network.{are_joined};
 

@@ -1,5 +1,5 @@
 //! Entries are read.
-ghost use Rattle.std.specs.Prelude.{◌≡◌, ◌≤◌, length, IfOk};
+ghost use Rattle.std.specs.Prelude.{◌≡◌, ◌≤◌, ℕ, length, IfOk};
 ghost use Rattle.leb128.specs.Reading.{Gives, number_at, numbers_at};
 ghost use Rattle.flight_records.specs.Reading.{count_of, entry_of};
 ghost use Rattle.flight_records.specs.Reading.{checked, entry_at, Stands};
@@ -105,8 +105,6 @@ pub struct EntryReader {
 }
 
 impl Model for EntryReader {
-    ghost use Rattle.std.specs.Prelude.{ℕ};
-
     ghost Value = { ℕ };
 
     ghost view = { λ r. r.instant };

@@ -1,5 +1,5 @@
 -- A field that is named stands otherwise, and where none is named the node stands as was noted.
-use Rattle.std.proofs.Common.{◌≡◌, ◌≢◌, ◌∙◌, sym, refl, subst, arith, ℕ, ◌<◌, ◌==◌, Bool, true, false, List, ◌∷◌, Option, None}
+use Rattle.std.proofs.Common.{◌≡◌, ◌≢◌, refl, subst, arith, ℕ, ◌<◌, ◌==◌, Bool, true, false, List, ◌∷◌, Option, None}
 use Rattle.std.proofs.lemmas.Grind.{common_steps}
 use Rattle.std.proofs.lemmas.Slice.Eq.{bytes_eq-Decides}
 use Rattle.std.specs.Str.{bytes_eq}

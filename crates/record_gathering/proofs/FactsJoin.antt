@@ -23,7 +23,7 @@ use Rattle.record_gathering.specs.declared.facts.Fact.TheVariants.{State, Writte
 use Rattle.record_gathering.specs.Accepted.{accepted}
 use Rattle.record_gathering.specs.Entries.{entry_events, item_events}
 use Rattle.record_gathering.specs.Queues.{queue_of}
-use Rattle.record_gathering.specs.Facts.{joins, parts, state_facts, link_facts, links_from, fact_events, queues_with, set_events, set_queues}
+use Rattle.record_gathering.specs.Facts.{edge_harm, lacking, state_facts, link_facts, links_from, fact_events, queues_with, set_events, set_queues}
 use Rattle.record_gathering.proofs.Accepted.{none-refused, refused-stays}
 
 -- ---- lists that are made of one list element by element
@@ -51,15 +51,11 @@ one-unless : (b : Bool) (one : Fact) (all first rest : List Fact) → all ≡ fi
 one-unless true one all first rest e = e
 one-unless false one all first rest e = ap (λ (l : List Fact). one ∷ l) e
 
-pub joins-append : (net : Network) (xs ys : List Edge) → joins net (xs ++ ys) ≡ joins net xs ++ joins net ys
-joins-append net [] ys = refl
-joins-append net (e ∷ es) ys =
-    one-unless (are_joined net.edges e.0 e.1) (Written (harm.Join e.0 e.1)) _ _ _ (joins-append net es ys)
-
-pub parts-append : (net : Network) (xs ys : List Edge) → parts net (xs ++ ys) ≡ parts net xs ++ parts net ys
-parts-append net [] ys = refl
-parts-append net (e ∷ es) ys =
-    one-unless (are_joined net.edges e.0 e.1) (Written (harm.Part e.0 e.1)) _ _ _ (parts-append net es ys)
+pub lacking-append : (joins : Bool) (net : Network) (xs ys : List Edge)
+    → lacking joins net (xs ++ ys) ≡ lacking joins net xs ++ lacking joins net ys
+lacking-append joins net [] ys = refl
+lacking-append joins net (e ∷ es) ys =
+    one-unless (are_joined net.edges e.0 e.1) (Written (edge_harm joins e)) _ _ _ (lacking-append joins net es ys)
 
 -- ---- facts in two parts
 

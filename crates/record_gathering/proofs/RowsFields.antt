@@ -1,5 +1,5 @@
 -- Fields of two nodes, of which nothing has happened.
-use Rattle.std.proofs.Common.{◌≡◌, ◌<◌, ℕ, true, [], ◌∷◌, Some, None, refl, arith}
+use Rattle.std.proofs.Common.{◌≡◌, ℕ, true, [], ◌∷◌, Some, None, refl, arith}
 use Rattle.topology.specs.Network.{Network}
 use Rattle.topology.specs.Ranges.{ranges_of}
 use Rattle.topology.specs.declared.frame.Frame.{Frame}

@@ -30,7 +30,7 @@ use Rattle.record_gathering.specs.declared.facts.Fact.{Fact}
 use Rattle.record_gathering.specs.declared.facts.Fact.TheVariants.{State, Written}
 use Rattle.record_gathering.specs.Accepted.{accepted}
 use Rattle.record_gathering.specs.Entries.{entry_events, part_events}
-use Rattle.record_gathering.specs.Facts.{joins, parts, edge_changes, edge_facts, state_facts, states_below, link_facts, links_from, links_below, fact_events, queues_with, set_events, set_queues, set_up}
+use Rattle.record_gathering.specs.Facts.{edge_harm, lacking, edge_changes, edge_facts, state_facts, states_below, link_facts, links_from, links_below, fact_events, queues_with, set_events, set_queues, set_up}
 use Rattle.record_gathering.specs.Queues.{queue_of, queues_after, queue_after_part}
 use Rattle.record_gathering.specs.States.{parts_events, state_events}
 use Rattle.record_gathering.specs.SetUps.{IsSameAs, HasEdgesOf, with_edges_of}
@@ -414,19 +414,16 @@ module _ (join : RunsJoin) (frame : FrameStays) (ranges : RangesStay) (nodes : J
   one-empty false x queues h fs empty after rest i j =
       ap (λ (z : World). z.link i j) (one-first x queues h fs) ∙ rest (step x (Damage h)) after i j
 
-  joins-empty : (net : Network) (es : List Edge) (queues : List (List ℕ)) (x : World) → IsEmpty x
-      → IsEmpty (run x (set_events x queues (joins net es)))
-  joins-empty net [] queues x empty = empty
-  joins-empty net (e ∷ es) queues x empty =
-      one-empty (are_joined net.edges e.0 e.1) x queues (harm.Join e.0 e.1) (joins net es) empty (join-empty x e.0 e.1 empty)
-      (joins-empty net es queues)
+  change-empty : (joins : Bool) (x : World) (e : Edge) → IsEmpty x → IsEmpty (step x (Damage (edge_harm joins e)))
+  change-empty true x e empty = join-empty x e.0 e.1 empty
+  change-empty false x e empty = part-empty x e.0 e.1 empty
 
-  parts-empty : (net : Network) (es : List Edge) (queues : List (List ℕ)) (x : World) → IsEmpty x
-      → IsEmpty (run x (set_events x queues (parts net es)))
-  parts-empty net [] queues x empty = empty
-  parts-empty net (e ∷ es) queues x empty =
-      one-empty (are_joined net.edges e.0 e.1) x queues (harm.Part e.0 e.1) (parts net es) empty (part-empty x e.0 e.1 empty)
-      (parts-empty net es queues)
+  lacking-empty : (joins : Bool) (net : Network) (es : List Edge) (queues : List (List ℕ)) (x : World) → IsEmpty x
+      → IsEmpty (run x (set_events x queues (lacking joins net es)))
+  lacking-empty joins net [] queues x empty = empty
+  lacking-empty joins net (e ∷ es) queues x empty =
+      one-empty (are_joined net.edges e.0 e.1) x queues (edge_harm joins e) (lacking joins net es) empty (change-empty joins x e empty)
+      (lacking-empty joins net es queues)
 
   -- facts in two parts, of which neither puts anything under way
   both-empty : (x : World) (queues : List (List ℕ)) (fs gs : List Fact) → IsEmpty (run x (set_events x queues fs))
@@ -439,8 +436,8 @@ module _ (join : RunsJoin) (frame : FrameStays) (ranges : RangesStay) (nodes : J
   changes-empty : (net other : Network) (queues : List (List ℕ)) (x : World) → IsEmpty x
       → IsEmpty (run x (set_events x queues (edge_changes net other)))
   changes-empty net other queues x empty =
-      both-empty x queues (joins net other.edges) (parts other net.edges) (joins-empty net other.edges queues x empty)
-      (parts-empty other net.edges)
+      both-empty x queues (lacking true net other.edges) (lacking false other net.edges) (lacking-empty true net other.edges queues x empty)
+      (lacking-empty false other net.edges)
 
   edges-empty : (net other : Network) (x : World) (queues : List (List ℕ)) → IsEmpty x
       → IsEmpty (run x (set_events x queues (edge_facts net other)))
@@ -494,19 +491,17 @@ in-midst (f ∷ front) e es =
     ap (λ (b : Bool). is_between e.0 e.1 f || b) (in-midst front e es) ∙ or-true (is_between e.0 e.1 f)
 
 -- a network's own edges neither join nor part
-none-changes : (net : Network) (front es : List Edge) → net.edges ≡ front ++ es → (joins net es ≡ []) × (parts net es ≡ [])
-none-changes net front [] s = (refl, refl)
-none-changes net front (e ∷ es) s =
+none-lacking : (joins : Bool) (net : Network) (front es : List Edge) → net.edges ≡ front ++ es → lacking joins net es ≡ []
+none-lacking joins net front [] s = refl
+none-lacking joins net front (e ∷ es) s =
     let there : are_joined net.edges e.0 e.1 ≡ true = ap (λ (l : List Edge). are_joined l e.0 e.1) s ∙ in-midst front e es in
-    let rest = none-changes net (front ++ e ∷ []) es (s ∙ sym (append_assoc front (e ∷ []) es)) in (
-      ap (λ (b : Bool). if b then joins net es else Written (harm.Join e.0 e.1) ∷ joins net es) there ∙ rest.0,
-      ap (λ (b : Bool). if b then parts net es else Written (harm.Part e.0 e.1) ∷ parts net es) there ∙ rest.1,
-    )
+    ap (λ (b : Bool). if b then lacking joins net es else Written (edge_harm joins e) ∷ lacking joins net es) there
+    ∙ none-lacking joins net (front ++ e ∷ []) es (s ∙ sym (append_assoc front (e ∷ []) es))
 
 no-changes : (net : Network) → edge_facts net net ≡ []
 no-changes net =
-    let own = none-changes net [] net.edges refl in
-    let none : edge_changes net net ≡ [] = ap (λ (l : List Fact). l ++ parts net net.edges) own.0 ∙ own.1 in
+    let none : edge_changes net net ≡ [] = ap (λ (l : List Fact). l ++ lacking false net net.edges) (none-lacking true net [] net.edges refl)
+    ∙ none-lacking false net [] net.edges refl in
     ap (λ (l : List Fact). l ++ edge_changes net net) none ∙ none
 
 pub edges-unchanged : (pairs : ℕ) (net : Network) (w : World) → w.net ≡ net → HasEdgesOf w (with_edges_of net pairs w)

@@ -96,17 +96,9 @@ entry_events w queue v n = if nat_lt v w.net.nodes then noted_events w queue v n
 
 -- A deed may come next: a frame that was taken is under way, and there is room for one that was sent.
 abbrev pub is_deed_ready : World → ℕ → Deed → Bool
-is_deed_ready w v deed.Ticks = true
 is_deed_ready w v (deed.Takes from frame) = not (is_of_link w from v frame) || is_under_way frame (w.link from v)
-is_deed_ready w v (deed.TakesAgain from) = true
 is_deed_ready w v (deed.Sends to frame) = not (is_of_link w v to frame) || has_room w v to
-is_deed_ready w v (deed.SendsAgain to) = true
-is_deed_ready w v (deed.Asks ticket) = true
-is_deed_ready w v (deed.Leaves ticket) = true
-is_deed_ready w v (deed.Joins neighbour) = true
-is_deed_ready w v (deed.Parts neighbour) = true
-is_deed_ready w v (deed.Connects neighbour) = true
-is_deed_ready w v (deed.Disconnects neighbour) = true
+is_deed_ready w v _ = true
 
 abbrev pub is_ready : World → ℕ → Noted → Bool
 is_ready w v (noted.State p) = true

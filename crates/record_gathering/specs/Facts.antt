@@ -1,5 +1,5 @@
 -- The facts of a world, and the events that they become in a world that begins as the network starts.
-use Rattle.std.specs.Prelude.{ℕ, zero, suc, if◌then◌else◌, List, [], ◌∷◌, ◌++◌, map, replicate}
+use Rattle.std.specs.Prelude.{ℕ, zero, suc, Bool, true, false, if◌then◌else◌, List, [], ◌∷◌, ◌++◌, map, replicate}
 use Rattle.topology.specs.Network.{Edge, Network, are_joined}
 use Rattle.flight_records.specs.declared.entry.Noted.TheVariants as noted
 use Rattle.node_follower.specs.Parts.{state_parts}
@@ -11,6 +11,7 @@ use Rattle.configuration.specs.run_model.Start.{world_with_spares}
 use Rattle.configuration.specs.run_model.Run.{run}
 use Rattle.configuration.specs.run_model.declared.event.Event.{Event}
 use Rattle.configuration.specs.run_model.declared.event.Event.TheVariants.{Damage}
+use Rattle.configuration.specs.run_model.declared.event.Harm.{Harm}
 use Rattle.configuration.specs.run_model.declared.event.Harm.TheVariants as harm
 use Rattle.record_gathering.specs.declared.facts.Fact.{Fact}
 use Rattle.record_gathering.specs.declared.facts.Fact.TheVariants.{State, Written}
@@ -20,22 +21,21 @@ use Rattle.record_gathering.specs.Queues.{queue_of, queues_after}
 
 -- ---- what a world is
 
--- the edges that a network does not have join it
-abbrev pub joins : Network → List Edge → List Fact
-joins net [] = []
-joins net (e ∷ es) =
-    if are_joined net.edges e.0 e.1 then joins net es else Written (harm.Join e.0 e.1) ∷ joins net es
+-- an edge joins, or it parts
+abbrev pub edge_harm : Bool → Edge → Harm
+edge_harm true e = harm.Join e.0 e.1
+edge_harm false e = harm.Part e.0 e.1
 
--- the edges that a network does not have part
-abbrev pub parts : Network → List Edge → List Fact
-parts net [] = []
-parts net (e ∷ es) =
-    if are_joined net.edges e.0 e.1 then parts net es else Written (harm.Part e.0 e.1) ∷ parts net es
+-- the edges that a network does not have join it, or part
+abbrev pub lacking : Bool → Network → List Edge → List Fact
+lacking joins net [] = []
+lacking joins net (e ∷ es) =
+    if are_joined net.edges e.0 e.1 then lacking joins net es else Written (edge_harm joins e) ∷ lacking joins net es
 
 -- the edges by which a network becomes another one; twice, as an edge for which no pair of links is left
 -- may join once another one has parted
 abbrev pub edge_changes : Network → Network → List Fact
-edge_changes net other = joins net other.edges ++ parts other net.edges
+edge_changes net other = lacking true net other.edges ++ lacking false other net.edges
 
 abbrev pub edge_facts : Network → Network → List Fact
 edge_facts net other = edge_changes net other ++ edge_changes net other

@@ -74,19 +74,11 @@ part_fields w queue v part.Whole = no_fields
 
 -- of what v did
 abbrev pub deed_fields : World → ℕ → Deed → List (Option Field)
-deed_fields w v deed.Ticks = no_fields
 deed_fields w v (deed.Takes from frame) =
     if is_of_link w from v frame then taken_fields w from v frame else no_fields
-deed_fields w v (deed.TakesAgain from) = no_fields
 deed_fields w v (deed.Sends to frame) =
     if is_of_link w v to frame then frame_fields to ((w.node v).port to) frame else no_fields
-deed_fields w v (deed.SendsAgain to) = no_fields
-deed_fields w v (deed.Asks ticket) = no_fields
-deed_fields w v (deed.Leaves ticket) = no_fields
-deed_fields w v (deed.Joins neighbour) = no_fields
-deed_fields w v (deed.Parts neighbour) = no_fields
-deed_fields w v (deed.Connects neighbour) = no_fields
-deed_fields w v (deed.Disconnects neighbour) = no_fields
+deed_fields w v _ = no_fields
 
 -- of an entry of v's record
 abbrev pub noted_fields : World → List ℕ → ℕ → Noted → List (Option Field)

@@ -5,7 +5,7 @@ ghost use Rattle.node_follower.specs.Parts.{port_part};
 ghost use Rattle.configuration.specs.ConfigurationView.{world_of};
 ghost use Rattle.configuration.specs.node_core.View.{site_in, state_of};
 ghost use Rattle.record_gathering.specs.declared.facts.Fact.TheVariants.{State};
-ghost use Rattle.record_gathering.specs.Facts.{joins, parts, edge_changes, edge_facts, state_facts};
+ghost use Rattle.record_gathering.specs.Facts.{lacking, edge_changes, edge_facts, state_facts};
 ghost use Rattle.record_gathering.specs.Facts.{link_facts, links_from};
 
 use configuration::{Configuration, Harm, Node};
@@ -36,60 +36,39 @@ fn add<B: Allocator>(facts: &mut Vec<Fact, B>, fact: Fact) -> Result<(), AllocEr
     Ok(())
 }
 
-/// An edge joins a network, unless it is there.
-fn add_join<N: Allocator + Copy, B: Allocator>(
+/// An edge joins, or parts, unless a network has it.
+fn add_change<N: Allocator + Copy, B: Allocator>(
     net: &Net<N>,
     edge: (u16, u16),
+    joins: bool,
     facts: &mut Vec<Fact, B>,
 ) -> Result<(), AllocError>
-    ensures { OnOk result (facts.new.items ≡ facts.old.items ++ joins net.now (edge ∷ [])) }
+    ensures { OnOk result (facts.new.items
+        ≡ facts.old.items ++ lacking joins net.now (edge ∷ [])) }
 {
     let (node, neighbour) = edge;
     if net.are_joined(node, neighbour) {
         return Ok(());
     }
-    add(facts, Fact::Written(Harm::Join { node, neighbour }))
+    if joins {
+        add(facts, Fact::Written(Harm::Join { node, neighbour }))
+    } else {
+        add(facts, Fact::Written(Harm::Part { node, neighbour }))
+    }
 }
 
-/// The edges that a network does not have join.
-fn add_joins<N: Allocator + Copy, B: Allocator>(
+/// The edges that a network does not have join, or part.
+fn add_lacking<N: Allocator + Copy, B: Allocator>(
     net: &Net<N>,
     edges: &[(u16, u16)],
+    joins: bool,
     facts: &mut Vec<Fact, B>,
 ) -> Result<(), AllocError>
-    ensures { OnOk result (facts.new.items ≡ facts.old.items ++ joins net.now edges.now) }
+    ensures { OnOk result (facts.new.items
+        ≡ facts.old.items ++ lacking joins net.now edges.now) }
 {
     for edge in edges {
-        add_join(net, *edge, facts)?;
-    }
-    Ok(())
-}
-
-/// An edge parts, unless a network has it.
-fn add_part<N: Allocator + Copy, B: Allocator>(
-    net: &Net<N>,
-    edge: (u16, u16),
-    facts: &mut Vec<Fact, B>,
-) -> Result<(), AllocError>
-    ensures { OnOk result (facts.new.items ≡ facts.old.items ++ parts net.now (edge ∷ [])) }
-{
-    let (node, neighbour) = edge;
-    if net.are_joined(node, neighbour) {
-        return Ok(());
-    }
-    add(facts, Fact::Written(Harm::Part { node, neighbour }))
-}
-
-/// The edges that a network does not have part.
-fn add_parts<N: Allocator + Copy, B: Allocator>(
-    net: &Net<N>,
-    edges: &[(u16, u16)],
-    facts: &mut Vec<Fact, B>,
-) -> Result<(), AllocError>
-    ensures { OnOk result (facts.new.items ≡ facts.old.items ++ parts net.now edges.now) }
-{
-    for edge in edges {
-        add_part(net, *edge, facts)?;
+        add_change(net, *edge, joins, facts)?;
     }
     Ok(())
 }
@@ -103,8 +82,8 @@ fn add_changes<N: Allocator + Copy, M: Allocator + Copy, B: Allocator>(
     ensures { OnOk result (facts.new.items
         ≡ facts.old.items ++ edge_changes net.now other.now) }
 {
-    add_joins(net, other.edges(), facts)?;
-    add_parts(other, net.edges(), facts)
+    add_lacking(net, other.edges(), true, facts)?;
+    add_lacking(other, net.edges(), false, facts)
 }
 
 /// The edges by which a network becomes another one, after these facts. All of it stands there twice, as

@@ -1,6 +1,0 @@
-use Rattle.std.proofs.Common.{◌≡◌, ◌++◌, take}
-use Rattle.record_gathering.specs.Facts.{joins}
-use Rattle.record_gathering.proofs.facts.add_joins.Given as goal
-
-abbrev pub invariant-loop-edge : goal.invariant-loop-edge
-invariant-loop-edge g l = l.facts.items ≡ l.fn.facts.items ++ joins l.net (take l.edge-index l.edges)

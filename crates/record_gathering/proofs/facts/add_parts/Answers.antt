@@ -1,9 +1,0 @@
-use Rattle.std.proofs.lemmas.List.{take_more}
-use Rattle.record_gathering.specs.Facts.{parts}
-use Rattle.record_gathering.proofs.FactsJoin.{parts-append, one-more}
-use Rattle.record_gathering.proofs.facts.add_parts.Goals as goal
-
-pub loop-edge-preserved : goal.loop-edge-preserved
-loop-edge-preserved g c =
-    one-more (parts c.args.net.now) (parts-append c.args.net.now) _ _ _ _ _ _ (take_more c.args.edges.now c.loop-edge.edge-index _ c.loop-edge-test.true)
-    c.loop-edge.invariant c.in_ok-add_part.ensures
