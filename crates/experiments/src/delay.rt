@@ -43,7 +43,6 @@ pub fn replay<A: Allocator + Copy, N: Allocator + Copy>(
     ensures { IfOk result (IsReplayed net.now harms.now events.now) }
 {
     run_model::laws::runs();
-    run_model::laws::start();
     run_model::laws::moments();
     run_model::laws::sweep_numbers();
     layers::laws::sharp();

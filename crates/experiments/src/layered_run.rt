@@ -3,10 +3,7 @@ ghost use Rattle.std.specs.Prelude.{IfOk};
 ghost use Rattle.experiments.specs.Layered.{IsSettlingOf};
 
 use crate::layers_seen::sweeps_after;
-use crate::measured_run::{Scheduler, give_stretches, scrambled_world};
-use crate::watch::Watch;
-use rand_core::SeedableRng;
-use rand_pcg::Lcg64Xsh32;
+use crate::measured_run::{Scheduler, watched_run};
 use std::alloc::{AllocError, Allocator};
 use topology::Net;
 
@@ -46,20 +43,10 @@ pub fn measure_layers<A: Allocator + Copy>(
     ensures { IfOk result (IsSettlingOf net.now scheduler seed) }
 {
     run_model::laws::runs();
-    run_model::laws::start();
     run_model::laws::moments();
     run_model::laws::sweep_numbers();
     layers::laws::sharp();
-    schedules::laws::scramble();
-    schedules::laws::draws();
-    schedules::laws::accepted();
-    schedules::laws::slow_rounds();
-    schedules::laws::edges();
-    let _known_nodes = net.nodes();
-    let start = scrambled_world(alloc, net, seed)?;
-    let mut watch = Watch::with_layers(start);
-    let mut generator = Lcg64Xsh32::seed_from_u64(seed);
-    give_stretches(net, scheduler, &mut generator, &mut watch);
+    let watch = watched_run(alloc, net, scheduler, seed, true)?;
     let layers = watch.layers().unwrap();
     Ok(Settling {
         seed,
