@@ -1,6 +1,6 @@
 -- Small examples of what is reported and written, with some that fail.
-use Rattle.std.proofs.Common.{◌≡◌, ◌≢◌, ℕ, true, false, List, [], ◌∷◌, ◌++◌, Option, Some, None, Ok, Err, codes, decimal, refl, inl, inr, arith}
-use Rattle.std.proofs.lemmas.Fmt.{decimal_digit}
+use Rattle.std.proofs.Common.{◌≡◌, ◌≢◌, ℕ, true, false, List, [], ◌∷◌, ◌++◌, Option, Some, None, Ok, Err, codes, refl, inl, inr, arith}
+use Rattle.std.specs.Fmt.{digits}
 use Rattle.memchr.specs.Find.{first_of, places_from}
 use Rattle.topology.specs.Network.{Network}
 use Rattle.world.specs.run_model.Start.{default_world}
@@ -15,35 +15,31 @@ use Rattle.command_parts.specs.Returns.{gave_return, has_return, return_hint}
 use Rattle.command_parts.specs.Simulated.{IsCaused, IsDone, IsFailed, IsReportedAs}
 use Rattle.command_parts.specs.SimulationFault.{fault_of}
 
-zero-is : decimal 0 ≡ codes "0"
-zero-is = decimal_digit 0 (omega arith)
-
-one-is : decimal 1 ≡ codes "1"
-one-is = decimal_digit 1 (omega arith)
-
-seven-is : decimal 7 ≡ codes "7"
-seven-is = decimal_digit 7 (omega arith)
-
 -- ---- the text of events
 
 -- a line for each, in their order
 writes : text_of (Tick 1 ∷ Leave 0 7 ∷ Damage (harm.Own 1 1 None) ∷ Damage (harm.Empty 0 1) ∷ []) ≡ codes "tick 1\nleave 0 7\nharm own 1 1 none\nharm empty 0 1\n"
-writes = rw (zero-is, one-is, seven-is)
+unfolding digits
+writes = refl
 
 writes-lose : text_of (Lose 0 1 7 ∷ []) ≡ codes "lose 0 1 7\n"
-writes-lose = rw (zero-is, one-is, seven-is)
+unfolding digits
+writes-lose = refl
 
 writes_not-turned : text_of (Tick 1 ∷ Tick 0 ∷ []) ≢ codes "tick 0\ntick 1\n"
-writes_not-turned e = grind (arith, one-is, zero-is, e)
+unfolding digits
+writes_not-turned e = grind (arith, e)
 
 writes-nothing : text_of [] ≡ []
 writes-nothing = refl
 
 grows : GrowsByText (Some (codes "tick 0\n")) (Tick 1 ∷ []) (Some (codes "tick 0\ntick 1\n"))
-grows = rw one-is
+unfolding digits
+grows = refl
 
 grows_not-silent : ¬ GrowsByText (Some []) (Tick 1 ∷ []) (Some [])
-grows_not-silent e = grind (arith, one-is, e)
+unfolding digits
+grows_not-silent e = grind (arith, e)
 
 -- ---- faults
 

@@ -14,6 +14,7 @@
 #![tactic(auto)]
 
 mod event_text;
+mod giving;
 pub mod laws;
 mod progress;
 mod returns;
@@ -24,6 +25,7 @@ pub use command_faults::{
     Fault, NetworkFault, PathFault, network_of, output_fault, printed, read_network,
 };
 pub use event_text::EventText;
+pub use giving::give_events;
 pub use line_words::decimal_number;
 pub use progress::Progress;
 pub use returns::{Returns, return_hint, say_hint};

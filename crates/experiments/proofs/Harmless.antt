@@ -9,7 +9,6 @@ use Rattle.run_model.specs.World.{World}
 use Rattle.run_model.specs.Step.{step}
 use Rattle.run_model.specs.Run.{is_damage, has_damage, run, IsUndamaged}
 use Rattle.run_model.specs.declared.event.Event.{Event}
-use Rattle.run_model.specs.declared.event.Event.TheVariants.{Send, Take, Lose, Tick, Ask, Leave, Damage}
 use Rattle.schedules.specs.damage_tool.Laws.{DrawsAreBelow}
 use Rattle.schedules.specs.Laws.{RoundIsUndamaged, SlowRoundIsUndamaged}
 use Rattle.schedules.specs.Random.{draw_step}
@@ -17,7 +16,8 @@ use Rattle.schedules.specs.Slow.{slow_link, slow_node}
 use Rattle.experiments.specs.Scheduled.{plain, plain_steps, stretch_of, lent_at, leave_of, leave_at, leaves, stretches}
 use Rattle.experiments.specs.declared.measured_run.Scheduler.{Scheduler}
 use Rattle.experiments.specs.declared.measured_run.Scheduler.TheVariants.{Rounds, Random, SlowLink, SlowNode}
-use Rattle.experiments.proofs.Steps.{IsStepOf, drawn-step}
+use Rattle.experiments.proofs.Replays.{step-harmless}
+use Rattle.experiments.proofs.Steps.{drawn-step}
 
 later-false : (p q : Bool) → (p || q) ≡ false → q ≡ false
 later-false true q h = absurd (grind arith)
@@ -33,23 +33,13 @@ undamaged-append w (x ∷ xs) ys a b =
     first-false (is_damage w x) (has_damage (step w x) xs) (has_damage (step w x) (xs ++ ys)) a
     (undamaged-append (step w x) xs ys (later-false (is_damage w x) (has_damage (step w x) xs) a) b)
 
--- a step of a node is no damage
-step-harmless : (net : Network) (e : Event) → IsStepOf net e → (w : World) → IsUndamaged w (e ∷ [])
-step-harmless net (Send u v) s w = refl
-step-harmless net (Take u v) s w = refl
-step-harmless net (Lose u v i) s w = refl
-step-harmless net (Tick v) s w = refl
-step-harmless net (Ask v t) s w = refl
-step-harmless net (Leave v t) s w = refl
-step-harmless net (Damage h) out w = absurd out
-
--- steps that are drawn are none
+-- steps that are drawn are without damage
 steps-undamaged : DrawsAreBelow → (net : Network) → IsAcceptedNetwork net → 0 < length net.edges → (n : ℕ) (g : Lcg) (w : World) → IsUndamaged w (plain_steps net n g).0
 steps-undamaged draw_below net ok some zero g w = refl
 steps-undamaged draw_below net ok some (suc n) g w =
     let before = plain_steps net n g in
     undamaged-append w before.0 ((draw_step net plain before.1).0 ∷ []) (steps-undamaged draw_below net ok some n g w)
-    (step-harmless net (draw_step net plain before.1).0 (drawn-step draw_below net ok some plain before.1))
+    (λ v. step-harmless v (draw_step net plain before.1).0 (drawn-step draw_below net ok some plain before.1).0)
 
 stretch-undamaged : DrawsAreBelow → RoundIsUndamaged → SlowRoundIsUndamaged → (net : Network) → IsAcceptedNetwork net → 0 < length net.edges → (scheduler : Scheduler)
     (n : ℕ) (g : Lcg) (w : World) → IsUndamaged w (stretch_of scheduler net n g).0

@@ -1,7 +1,6 @@
 -- What has been seen of the layers along a run, event by event.
 use Rattle.std.proofs.Common.{◌≡◌, ◌∙◌, ap, sym, subst, ℕ, ◌+◌, ◌<◌, Bool, true, false, IsTrue, List, [], ◌∷◌, ◌++◌, length, Option, Some, None, refl, arith, inl}
 use Rattle.std.specs.Prelude.{◌↔◌, ◌&&◌, ◌||◌, not}
-use Rattle.std.specs.List.{list_any}
 use Rattle.std.proofs.lemmas.List.{length-append}
 use Rattle.run_model.specs.World.{World, IsWorldInRange}
 use Rattle.run_model.specs.Run.{run, IsUndamaged}
@@ -18,7 +17,7 @@ use Rattle.judge.specs.Judging.{counted_up_to}
 use Rattle.experiments.specs.Delays.{is_harm}
 use Rattle.experiments.specs.Recovery.{AnyLayersGoOn, AreAnyLayersFirst, AreAnyLayersSeen, AreLayersNow, AreLayersSeen, IsLastNow, unseen}
 use Rattle.experiments.specs.declared.layers_seen.LayersSeen.{LayersSeen}
-use Rattle.experiments.proofs.Replays.{harmless-list}
+use Rattle.experiments.proofs.Replays.{step-harmless}
 use Rattle.experiments.proofs.Watching.{last-begins, last-goes_on, run-append}
 
 -- ---- one look
@@ -96,8 +95,7 @@ pub settled-stays : LegitimateStays → RangesStay → (start now : World) (es :
     → after.links ≡ before.links → after.tree ≡ before.tree → after.ring ≡ before.ring
     → AreLayersNow now sweeps before after
 settled-stays stays ranges start now es e sweeps before after ok same seen harmless settled links tree ring =
-    let none : list_any is_harm (e ∷ []) ≡ false = grind (arith, harmless) in
-    let calm : IsUndamaged (run start es) (e ∷ []) = harmless-list (run start es) (e ∷ []) none in
+    let calm : IsUndamaged (run start es) (e ∷ []) = step-harmless (run start es) e harmless in
     let there : IsLegitimate (run (run start es) (e ∷ [])) = stays (run start es) (e ∷ []) (ranges start es ok) calm (seen.settled settled) in
     let legitimate : IsLegitimate now = subst IsLegitimate (sym (run-append start es (e ∷ [])) ∙ sym same) there in
     record {

@@ -17,3 +17,7 @@ harmless-list w (Tick v ∷ es) none = harmless-list (step w (Tick v)) es none
 harmless-list w (Ask v t ∷ es) none = harmless-list (step w (Ask v t)) es none
 harmless-list w (Leave v t ∷ es) none = harmless-list (step w (Leave v t)) es none
 harmless-list w (Damage h ∷ es) none = absurd (grind (arith, none))
+
+-- nor is an event that is no harm
+pub step-harmless : (w : World) (e : Event) → is_harm e ≡ false → IsUndamaged w (e ∷ [])
+step-harmless w e calm = let none : list_any is_harm (e ∷ []) ≡ false = grind (arith, calm) in harmless-list w (e ∷ []) none

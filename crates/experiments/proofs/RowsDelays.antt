@@ -15,23 +15,25 @@ delay sweeps seen = record { sweeps = sweeps; seen = seen }
 
 -- two tokens at the end of a list without a sweep: it serves after one sweep at the earliest
 late-one : IsDelayOf two_tokens [] (delay 1 0)
-late-one = record {
-  undamaged = refl;
-  last = Some 0;
-  failed = last-now;
-  sweeps_are = refl;
-  count = 0;
-  counted = none-counted two_tokens (omega arith);
-  seen_are = refl;
-  within = omega (arith, sharp-two);
-}
+late-one = (
+  record {
+    undamaged = refl;
+    last = Some 0;
+    failed = last-now;
+    sweeps_are = refl;
+    count = 0;
+    counted = none-counted two_tokens (omega arith);
+    seen_are = refl;
+  },
+  omega (arith, sharp-two),
+)
 
 pub needs-some : (last : Option ℕ) → FailedLast two_tokens [] last → counted_from last ≢ 0
 needs-some None failed = absurd (two_tokens-do_not_serve failed.0)
 needs-some (Some sweeps) failed = grind (arith, common_steps)
 
 late_not-none : ¬ IsDelayOf two_tokens [] (delay 0 0)
-late_not-none is = needs-some is.last is.failed (grind (arith, is.sweeps_are))
+late_not-none is = needs-some is.0.last is.0.failed (grind (arith, is.0.sweeps_are))
 
 -- there is no delay if an event is a harm, and only then
 replayed-harm : IsReplayed two_nodes [] (Tick 0 ∷ Damage (Empty 0 1) ∷ []) None

@@ -193,17 +193,17 @@ abbrev recovery : ℕ → ℕ → Recovery
 recovery sweeps seen = record { seed = 4; sweeps = sweeps; seen = seen }
 
 -- a run without events that serves has shown no sweep, and needed none
-shows : IsShown calm [] (recovery 0 0)
+shows : IsShown calm [] 0 0
 shows = record { undamaged = refl; last = None; failed = last-never; sweeps_are = refl; count = 0; counted = none-counted calm (omega arith); seen_are = refl }
 
-shows_not-seen : ¬ IsShown calm [] (recovery 0 5)
+shows_not-seen : ¬ IsShown calm [] 0 5
 shows_not-seen s = grind (arith, common_steps, s.seen_are, counted-none calm s.count (omega arith) s.counted)
 
 needed-none : (last : Option ℕ) → FailedLast calm [] last → counted_from last ≡ 0
 needed-none None failed = refl
 needed-none (Some sweeps) failed = absurd (last_not-now sweeps failed)
 
-shows_not-sweeps : ¬ IsShown calm [] (recovery 7 0)
+shows_not-sweeps : ¬ IsShown calm [] 7 0
 shows_not-sweeps s = grind (arith, s.sweeps_are, needed-none s.last s.failed)
 
 -- two nodes need 35 sweeps by the sharper bound; a run is over after them, or after 35,000 stretches

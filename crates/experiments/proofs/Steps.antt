@@ -11,39 +11,20 @@ use Rattle.run_model.specs.Step.{refusal, step}
 use Rattle.run_model.specs.Laws.{NetworkStays}
 use Rattle.run_model.specs.declared.event.Event.{Event}
 use Rattle.run_model.specs.declared.event.EventFault.{EventFault}
-use Rattle.run_model.specs.declared.event.Event.TheVariants.{Send, Take, Lose, Tick, Ask, Leave, Damage}
+use Rattle.run_model.specs.declared.event.Event.TheVariants.{Send, Take, Lose, Tick, Ask, Leave}
 use Rattle.schedules.specs.damage_tool.Draws.{draw}
 use Rattle.schedules.specs.damage_tool.Laws.{AreAccepted, DrawsAreBelow}
 use Rattle.schedules.specs.Random.{draw_link, draw_arrival, draw_client, draw_step, node_at, admitted, random_steps}
 use Rattle.schedules.specs.declared.random.Chances.{Chances}
+use Rattle.experiments.specs.Delays.{is_harm}
+use Rattle.experiments.proofs.Replays.{step-harmless}
 
--- the event is no damage, and its node is one of the network's
+-- the event is no harm, and its node is one of the network's
 abbrev pub IsStepOf : Network → Event → Type 0
-IsStepOf net (Send u v) = v < net.nodes
-IsStepOf net (Take u v) = v < net.nodes
-IsStepOf net (Lose u v i) = v < net.nodes
-IsStepOf net (Tick v) = v < net.nodes
-IsStepOf net (Ask v t) = v < net.nodes
-IsStepOf net (Leave v t) = v < net.nodes
-IsStepOf net (Damage h) = ⊥
-
-node-below : (net : Network) (e : Event) → IsStepOf net e → node_at e < net.nodes
-node-below net (Send u v) h = h
-node-below net (Take u v) h = h
-node-below net (Lose u v i) h = h
-node-below net (Tick v) h = h
-node-below net (Ask v t) h = h
-node-below net (Leave v t) h = h
-node-below net (Damage h) out = absurd out
+IsStepOf net e = (is_harm e ≡ false) × (node_at e < net.nodes)
 
 pub net-stays : NetworkStays → (w : World) (e : Event) → IsStepOf w.net e → (step w e).net ≡ w.net
-net-stays network w (Send u v) h = network w (Send u v ∷ []) refl
-net-stays network w (Take u v) h = network w (Take u v ∷ []) refl
-net-stays network w (Lose u v i) h = network w (Lose u v i ∷ []) refl
-net-stays network w (Tick v) h = network w (Tick v ∷ []) refl
-net-stays network w (Ask v t) h = network w (Ask v t ∷ []) refl
-net-stays network w (Leave v t) h = network w (Leave v t ∷ []) refl
-net-stays network w (Damage h) out = absurd out
+net-stays network w e s = network w (e ∷ []) (step-harmless w e s.0)
 
 tick-accepted : (w : World) (v : ℕ) → v < w.net.nodes → refusal w (Tick v) ≡ None
 tick-accepted w v below = grind (arith, common_steps, nat_tests)
@@ -57,7 +38,7 @@ admitted-accepted w e s =
     elim (none-or-some (refusal w e)) [
       | inl ok ↦ ap (λ r. refusal w (if is_some r then Tick (node_at e) else e)) ok ∙ ok
       | inr bad ↦
-          ap (λ r. refusal w (if is_some r then Tick (node_at e) else e)) bad.1 ∙ tick-accepted w (node_at e) (node-below w.net e s)
+          ap (λ r. refusal w (if is_some r then Tick (node_at e) else e)) bad.1 ∙ tick-accepted w (node_at e) s.1
     ]
 
 either : (P : Event → Type 0) (b : Bool) (x y : Event) → P x → P y → P (if b then x else y)
@@ -69,7 +50,7 @@ either-drawn P true x y a c = a
 either-drawn P false x y a c = c
 
 pub admitted-step : (w : World) (e : Event) → IsStepOf w.net e → IsStepOf w.net (admitted w e)
-admitted-step w e s = either (IsStepOf w.net) (is_some (refusal w e)) (Tick (node_at e)) e (node-below w.net e s) s
+admitted-step w e s = either (IsStepOf w.net) (is_some (refusal w e)) (Tick (node_at e)) e (refl, s.1) s
 
 -- ---- what is drawn is a step
 
@@ -91,7 +72,7 @@ module _ (draw_below : DrawsAreBelow) (net : Network) (ok : IsAcceptedNetwork ne
       let link = draw_link net g in
       let percent = draw 100 link.1 in
       let below : link.0.1 < net.nodes = link-below draw_below net ok some g in
-      either (IsStepOf net) (nat_lt percent.0 loss) (Lose link.0.0 link.0.1 0) (Take link.0.0 link.0.1) below below
+      either (IsStepOf net) (nat_lt percent.0 loss) (Lose link.0.0 link.0.1 0) (Take link.0.0 link.0.1) (refl, below) (refl, below)
 
   client-step : (g : Lcg) → IsStepOf net (draw_client net g).0
   client-step g =
@@ -99,7 +80,7 @@ module _ (draw_below : DrawsAreBelow) (net : Network) (ok : IsAcceptedNetwork ne
       let ticket = draw 16 node.1 in
       let way = draw 2 ticket.1 in
       let below : node.0 < net.nodes = draw_below net.nodes g (omega (arith, ok.limits.two)) in
-      either (IsStepOf net) (way.0 == 0) (Ask node.0 ticket.0) (Leave node.0 ticket.0) below below
+      either (IsStepOf net) (way.0 == 0) (Ask node.0 ticket.0) (Leave node.0 ticket.0) (refl, below) (refl, below)
 
   pub drawn-step : (c : Chances) (g : Lcg) → IsStepOf net (draw_step net c g).0
   drawn-step c g =
@@ -109,9 +90,9 @@ module _ (draw_below : DrawsAreBelow) (net : Network) (ok : IsAcceptedNetwork ne
       let below : node.0 < net.nodes = draw_below net.nodes kind.1 (omega (arith, ok.limits.two)) in
       either-drawn (IsStepOf net) (kind.0 == 0) (Tick node.0, node.1)
       (if kind.0 == 1 then (Send link.0.0 link.0.1, link.1) else if kind.0 == 2 then draw_arrival net c.loss kind.1 else draw_client net kind.1)
-      below
+      (refl, below)
       (either-drawn (IsStepOf net) (kind.0 == 1) (Send link.0.0 link.0.1, link.1)
-      (if kind.0 == 2 then draw_arrival net c.loss kind.1 else draw_client net kind.1) (link-below draw_below net ok some kind.1)
+      (if kind.0 == 2 then draw_arrival net c.loss kind.1 else draw_client net kind.1) (refl, link-below draw_below net ok some kind.1)
       (either-drawn (IsStepOf net) (kind.0 == 2) (draw_arrival net c.loss kind.1) (draw_client net kind.1) (arrival-step c.loss kind.1) (client-step kind.1)))
 
   pub random-accepted : NetworkStays → (c : Chances) (n : ℕ) (w : World) (g : Lcg) → w.net ≡ net → AreAccepted w (random_steps w c n g)

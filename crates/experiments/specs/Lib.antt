@@ -6,6 +6,7 @@ pub mod Layered
 pub mod Moves
 pub mod Plan
 pub mod Recovery
+pub mod Runs
 pub mod Scheduled
 pub mod Shown
 pub mod Summary

@@ -23,14 +23,14 @@ scrambled net g = run (default_world net) (draw_world net g).0
 
 -- These events, without damage, have happened from the start on: the run had as many sweeps as were
 -- seen, and when it last failed to serve it had had one fewer than those after which it served.
-pub record IsShown (start : World) (events : List Event) (r : Recovery) : Type 0 where
+pub record IsShown (start : World) (events : List Event) (sweeps seen : ℕ) : Type 0 where
   pub undamaged : IsUndamaged start events
   pub last : Option ℕ
   pub failed : FailedLast start events last
-  pub sweeps_are : r.sweeps ≡ counted_from last
+  pub sweeps_are : sweeps ≡ counted_from last
   pub count : ℕ
   pub counted : IsSweepCount start events count
-  pub seen_are : r.seen ≡ counted_up_to count
+  pub seen_are : seen ≡ counted_up_to count
 
 -- the generator of a seed
 abbrev pub seeded : ℕ → Lcg
@@ -43,5 +43,5 @@ pub record IsRunOf (net : Network) (scheduler : Scheduler) (seed : ℕ) (r : Rec
   pub seed_is : r.seed ≡ seed
   pub count : ℕ
   pub enough : HasEnough net r.seen count
-  pub shown : IsShown (scrambled net (seeded seed)) (stretches scheduler net (scrambled net (seeded seed)) (seeded seed) count).0 r
+  pub shown : IsShown (scrambled net (seeded seed)) (stretches scheduler net (scrambled net (seeded seed)) (seeded seed) count).0 r.sweeps r.seen
   pub within : r.sweeps ≤ sharp_of net

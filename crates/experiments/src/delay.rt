@@ -43,7 +43,6 @@ pub fn replay<A: Allocator + Copy, N: Allocator + Copy>(
     ensures { IfOk result (IsReplayed net.now harms.now events.now) }
 {
     run_model_laws::runs();
-    run_model_laws::start();
     run_model_laws::moments();
     run_model_laws::sweep_numbers();
     layers::laws::sharp();

@@ -3,12 +3,8 @@ ghost use Rattle.std.specs.Prelude.{IfOk};
 ghost use Rattle.experiments.specs.Layered.{IsSettlingOf};
 
 use crate::layers_seen::sweeps_after;
-use crate::measured_run::{Scheduler, give_stretches, scrambled_world};
-use crate::watch::Watch;
-use rand_core::SeedableRng;
-use rand_pcg::Lcg64Xsh32;
+use crate::measured_run::{Scheduler, watched_run};
 use run_model::laws as run_model_laws;
-use schedules::laws as schedules_laws;
 use std::alloc::{AllocError, Allocator};
 use topology::Net;
 
@@ -48,20 +44,10 @@ pub fn measure_layers<A: Allocator + Copy>(
     ensures { IfOk result (IsSettlingOf net.now scheduler seed) }
 {
     run_model_laws::runs();
-    run_model_laws::start();
     run_model_laws::moments();
     run_model_laws::sweep_numbers();
     layers::laws::sharp();
-    schedules_laws::scramble();
-    schedules_laws::draws();
-    schedules_laws::accepted();
-    schedules_laws::slow_rounds();
-    schedules_laws::edges();
-    let _known_nodes = net.nodes();
-    let start = scrambled_world(alloc, net, seed)?;
-    let mut watch = Watch::with_layers(start);
-    let mut generator = Lcg64Xsh32::seed_from_u64(seed);
-    give_stretches(net, scheduler, &mut generator, &mut watch);
+    let watch = watched_run(alloc, net, scheduler, seed, true)?;
     let layers = watch.layers().unwrap();
     Ok(Settling {
         seed,

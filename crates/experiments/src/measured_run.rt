@@ -7,6 +7,7 @@ ghost use Rattle.schedules.specs.Rounds.{round};
 ghost use Rattle.schedules.specs.Slow.{slow_round};
 ghost use Rattle.experiments.specs.Scheduled.{plain_steps, stretch_of, lent_at, leave_at, leaves};
 ghost use Rattle.experiments.specs.Watched.{GoesOn, GoesOnBy, GoesOnScheduled};
+ghost use Rattle.experiments.specs.Runs.{IsRunWatched};
 
 use crate::watch::Watch;
 use judge::{Configuration, World};
@@ -72,6 +73,25 @@ pub fn measure_run<A: Allocator + Copy>(
     // the seed scrambles; and no run serves later than the theorem says.
     ensures { IfOk result (IsRunOf net.now scheduler seed) }
 {
+    let watch = watched_run(alloc, net, scheduler, seed, false)?;
+    Ok(Recovery {
+        seed,
+        sweeps: watch.served_after(),
+        seen: watch.sweeps(),
+    })
+}
+
+/// The run of a seed on a network under a scheduler, as a watch has seen it, which looks at the layers of
+/// the proof or does not.
+pub(crate) fn watched_run<A: Allocator + Copy>(
+    alloc: A,
+    net: &Net<A>,
+    scheduler: Scheduler,
+    seed: u64,
+    layered: bool,
+) -> Result<Watch<A>, AllocError>
+    ensures { IfOk result (λ watch. IsRunWatched net.now scheduler seed layered watch.judge watch.last) }
+{
     run_model_laws::runs();
     run_model_laws::start();
     run_model_laws::moments();
@@ -84,18 +104,14 @@ pub fn measure_run<A: Allocator + Copy>(
     schedules_laws::edges();
     let _known_nodes = net.nodes();
     let start = scrambled_world(alloc, net, seed)?;
-    let mut watch = Watch::new(start);
+    let mut watch = Watch::begin(start, layered);
     let mut generator = Lcg64Xsh32::seed_from_u64(seed);
     give_stretches(net, scheduler, &mut generator, &mut watch);
-    Ok(Recovery {
-        seed,
-        sweeps: watch.served_after(),
-        seen: watch.sweeps(),
-    })
+    Ok(watch)
 }
 
 /// The default world with the harms that a scramble draws from a seed.
-pub(crate) fn scrambled_world<A: Allocator + Copy>(
+fn scrambled_world<A: Allocator + Copy>(
     alloc: A,
     net: &Net<A>,
     seed: u64,
@@ -121,7 +137,7 @@ pub(crate) fn happen<A: Allocator + Copy>(world: &mut World<A>, harms: &[Event])
 
 /// Gives the watch stretches, until it has seen as many sweeps as the sharper bound says, or had
 /// 1000 stretches for each of them.
-pub(crate) fn give_stretches<A: Allocator + Copy>(
+fn give_stretches<A: Allocator + Copy>(
     net: &Net<A>,
     scheduler: Scheduler,
     generator: &mut Lcg64Xsh32,

@@ -4,6 +4,7 @@ ghost use Rattle.byte_streams.specs.Streams.{CountsFailures};
 ghost use Rattle.judge.specs.configuration.ConfigurationView.{world_of};
 ghost use Rattle.run_model.specs.Run.{run};
 ghost use Rattle.experiments.specs.Plan.{harms_of, ordered, planned, turns, CountsSinkFailures};
+ghost use Rattle.experiments.specs.declared.plan.PlanFault.TheVariants.{Memory, Sink};
 
 use crate::giving_back::{Lending, give_order_back};
 use byte_streams::Failed;
@@ -39,9 +40,6 @@ pub enum PlanFault {
 }
 
 impl From<AllocError> for PlanFault {
-    ghost use Rattle.std.specs.Prelude.{◌≡◌};
-    ghost use Rattle.experiments.specs.declared.plan.PlanFault.TheVariants.{Memory};
-
     ghost from_gives = { λ _ fault. fault ≡ Memory };
 
     fn from(_error: AllocError) -> PlanFault {
@@ -50,9 +48,6 @@ impl From<AllocError> for PlanFault {
 }
 
 impl From<Failed> for PlanFault {
-    ghost use Rattle.std.specs.Prelude.{◌≡◌};
-    ghost use Rattle.experiments.specs.declared.plan.PlanFault.TheVariants.{Sink};
-
     ghost from_gives = { λ _ fault. fault ≡ Sink };
 
     fn from(_error: Failed) -> PlanFault {

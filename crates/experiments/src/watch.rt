@@ -1,5 +1,5 @@
 //! A run under way, and since when it serves.
-ghost use Rattle.std.specs.Prelude.{◌≡◌, ◌∷◌, [], true, false, IsOk, if◌then◌else◌, Some};
+ghost use Rattle.std.specs.Prelude.{◌≡◌, ◌∷◌, [], false, IsOk, if◌then◌else◌, Some};
 ghost use Rattle.judge.specs.configuration.ConfigurationView.{world_of};
 ghost use Rattle.judge.specs.JudgeView.{AreSweepsSeen};
 ghost use Rattle.experiments.specs.Recovery.{beginning, counted_from, AnyLayersGoOn, AreAnyLayersFirst};
@@ -56,17 +56,9 @@ impl<A: Allocator + Copy> Watch<A> {
         Watch::begin(world, false)
     }
 
-    /// The same, which also looks at the layers after each event until all of them stand. They stand
-    /// then until something is damaged, so it looks again only after a harm.
-    pub fn with_layers(world: World<A>) -> Watch<A>
-        ensures { IsWatched (beginning (world_of world) true) [] result.judge
-            result.last }
-    {
-        Watch::begin(world, true)
-    }
-
-    /// A watch that looks at the layers, or does not.
-    fn begin(world: World<A>, layered: bool) -> Watch<A>
+    /// A watch that also looks at the layers, or does not. It looks at them after each event until all of
+    /// them stand. They stand then until something is damaged, so it looks again only after a harm.
+    pub(crate) fn begin(world: World<A>, layered: bool) -> Watch<A>
         ensures { IsWatched (beginning (world_of world) layered) [] result.judge
             result.last }
     {

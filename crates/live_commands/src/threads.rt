@@ -2,7 +2,7 @@
 //! this leads to.
 ghost use Rattle.std.specs.Prelude.{◌≡◌, [], IfOk, IfErr, OnOk};
 ghost use Rattle.std.specs.Io.Buffered.{writer_buffer, writer_contents};
-ghost use Rattle.byte_streams.specs.Streams.{CountsFailures, Rose};
+ghost use Rattle.byte_streams.specs.Streams.{Rose};
 ghost use Rattle.command_parts.specs.world.run_model.Start.{default_world};
 ghost use Rattle.command_parts.specs.world.judge.configuration.ConfigurationView.{world_of};
 ghost use Rattle.command_parts.specs.EventText.{GrowsByText};
@@ -14,9 +14,8 @@ ghost use Rattle.command_parts.specs.command_faults.declared.fault.Fault.TheVari
 mod progress;
 mod together;
 
-use byte_streams::Failed;
 use command_parts::{
-    Event, EventSink, EventText, Fault, Flush, World, WriteSink, judge, read_network, state_text,
+    Event, EventText, Fault, Flush, World, WriteSink, give_events, judge, read_network, state_text,
 };
 use progress::Watch;
 use std::alloc::Global;
@@ -156,18 +155,6 @@ fn write_events<W: Write + Drop>(events: &[Event], text: &mut EventText<W>) -> R
         Ok(()) => Ok(()),
         Err(_) => Err(Fault::EventsUnwritable),
     }
-}
-
-/// Gives events to a sink, one after the other.
-fn give_events<S: EventSink>(events: &[Event], sink: &mut S) -> Result<(), Failed>
-    ensures taken { OnOk result (S.takes sink.old events.now sink.new) }
-    ensures cause { CountsFailures result (S.failures sink.old) (S.failures sink.new) }
-{
-    command_parts::laws::taking::<S>();
-    for event in events {
-        sink.take(event)?;
-    }
-    Ok(())
 }
 
 /// Prints the state that the nodes have led to from a start.

@@ -1,5 +1,5 @@
 -- What is due when, and how long to rest: small examples, with some that fail.
-use Rattle.std.proofs.Common.{◌≡◌, true, false, Some, None, refl, arith, inr}
+use Rattle.std.proofs.Common.{◌≡◌, true, false, [], ◌∷◌, Some, None, map, refl, arith, inr}
 use Rattle.lock_client.specs.declared.client.Deed.TheVariants as deed
 use Rattle.lock_command.specs.declared.course.Course.{Course}
 use Rattle.lock_command.specs.Course.{later, new_course, asked_course, timed, closed, connected, started, given_back, asked_to_end, is_past, without_due, killed_again, lacks_room, age_of, left_of, IsCourseAfter}
@@ -129,14 +129,8 @@ deed-connects = inr (1200, refl)
 -- ---- rests
 
 -- a sixteenth of 0.16 seconds; at least 1 millisecond, at most 25
-rests-sixteenth : child_rest 160 ≡ 10
-rests-sixteenth = refl
-
-rests_not-less : child_rest 0 ≡ 1
-rests_not-less = refl
-
-rests_not-more : child_rest 800 ≡ 25
-rests_not-more = refl
+rests : map child_rest (160 ∷ 0 ∷ 800 ∷ []) ≡ 10 ∷ 1 ∷ 25 ∷ []
+rests = refl
 
 longest-command : longest_of (Some 160) true ≡ 10
 longest-command = refl

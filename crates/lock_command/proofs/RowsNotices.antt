@@ -1,6 +1,6 @@
 -- Lines on standard error and when they are reported: small examples, written by hand, with some
 -- that fail.
-use Rattle.std.proofs.Common.{◌≡◌, ◌≢◌, ℕ, List, true, false, Some, None, codes, refl, arith, inl, inr}
+use Rattle.std.proofs.Common.{◌≡◌, ◌≢◌, ℕ, List, [], ◌∷◌, true, false, Some, None, codes, map, refl, arith, inl, inr}
 use Rattle.std.specs.Borrow.{Bor}
 use Rattle.std.specs.Fmt.{digits}
 use Rattle.std.specs.declared.io.ErrorKind.TheVariants as kind
@@ -20,21 +20,9 @@ use Rattle.lock_command.specs.Seconds.{decimals_text, seconds_text}
 
 -- ---- seconds
 
-seconds-half : seconds_text 1500 ≡ codes "1.5"
+seconds : map seconds_text (1500 ∷ 2000 ∷ 10050 ∷ 1 ∷ []) ≡ codes "1.5" ∷ codes "2" ∷ codes "10.05" ∷ codes "0.001" ∷ []
 unfolding digits
-seconds-half = refl
-
-seconds-whole : seconds_text 2000 ≡ codes "2"
-unfolding digits
-seconds-whole = refl
-
-seconds-hundredths : seconds_text 10050 ≡ codes "10.05"
-unfolding digits
-seconds-hundredths = refl
-
-seconds-thousandth : seconds_text 1 ≡ codes "0.001"
-unfolding digits
-seconds-thousandth = refl
+seconds = refl
 
 -- no zero stands at the end
 decimals_not-zeros : decimals_text 120 ≡ codes ".12"

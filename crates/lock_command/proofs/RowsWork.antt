@@ -1,6 +1,6 @@
 -- Small examples of what is done under the lock, how standard input is watched and which status
 -- follows, with some that fail.
-use Rattle.std.proofs.Common.{◌≡◌, ◌≢◌, [], ◌∷◌, Ok, Err, Some, None, true, false, codes, refl, arith, inl, inr}
+use Rattle.std.proofs.Common.{◌≡◌, ◌≢◌, [], ◌∷◌, map, Ok, Err, Some, None, true, false, codes, refl, arith, inl, inr}
 use Rattle.std.specs.Prelude.{is_some}
 use Rattle.std.specs.Fmt.{digits}
 use Rattle.std.specs.declared.io.ErrorKind.TheVariants.{Interrupted, BrokenPipe}
@@ -89,11 +89,8 @@ closed-mark = (codes "12.34", refl)
 
 -- ---- reading
 
-later-interrupted : is_for_later Interrupted ≡ true
-later-interrupted = refl
-
-later_not-broken : is_for_later BrokenPipe ≡ false
-later_not-broken = refl
+later : map is_for_later (Interrupted ∷ BrokenPipe ∷ []) ≡ true ∷ false ∷ []
+later = refl
 
 -- ---- watching
 

@@ -98,11 +98,7 @@ impl Waiter {
     pub fn watch_input(&mut self)
         ensures { IsWatched self.new.input }
     {
-        let registered = self
-            .poll
-            .registry()
-            .register(&mut SourceFd(&INPUT), STANDARD_INPUT, Interest::READABLE);
-        self.input = Watch::after(registered.is_ok());
+        self.ask_for_input(true);
     }
 
     /// Whether standard input has something to read, or has ended. The caller reads it once.
@@ -114,21 +110,24 @@ impl Waiter {
             Watch::Not | Watch::Waiting => false,
             Watch::Always => true,
             Watch::Ready => {
-                self.watch_again();
+                self.ask_for_input(false);
                 true
             }
         }
     }
 
-    /// Asks the system again to say when standard input has something to read: at once, if
-    /// something is left.
-    fn watch_again(&mut self)
+    /// Asks the system, for the first time or again, to say when standard input has something to read: at
+    /// once, if something is there.
+    fn ask_for_input(&mut self, is_first: bool)
         ensures { IsWatched self.new.input }
     {
-        let registered = self
-            .poll
-            .registry()
-            .reregister(&mut SourceFd(&INPUT), STANDARD_INPUT, Interest::READABLE);
+        let registry = self.poll.registry();
+        let mut input = SourceFd(&INPUT);
+        let registered = if is_first {
+            registry.register(&mut input, STANDARD_INPUT, Interest::READABLE)
+        } else {
+            registry.reregister(&mut input, STANDARD_INPUT, Interest::READABLE)
+        };
         self.input = Watch::after(registered.is_ok());
     }
 

@@ -1,5 +1,5 @@
 -- Files and objects that commands print, written out by hand, and some that are none.
-use Rattle.std.proofs.Common.{◌≡◌, ◌≢◌, ◌++◌, ℕ, zero, suc, Bool, true, false, List, [], ◌∷◌, Some, None, codes, length, take, drop, ap, refl, arith}
+use Rattle.std.proofs.Common.{◌≡◌, ◌≢◌, ◌++◌, ℕ, zero, suc, Bool, true, false, List, [], ◌∷◌, Some, None, codes, length, replicate, take, drop, ap, refl, arith}
 use Rattle.std.specs.Fmt.{digits}
 use Rattle.std.specs.Ordering.{nat_cmp}
 use Rattle.std.specs.List.Sorted.{IsSorted}
@@ -16,8 +16,8 @@ use Rattle.subcommands.specs.declared.measure.Plan.{Plan}
 use Rattle.network_commands.specs.BoundData.{count}
 use Rattle.subcommands.specs.Damaged.{junk_text, scrambled_file, seeded}
 use Rattle.subcommands.specs.Hints.{loan_hint}
-use Rattle.subcommands.specs.Measured.{HaveServed, IsMeasured, IsPlanMeasured}
-use Rattle.subcommands.specs.MeasuredData.{IsMeasuredJson, measured_data}
+use Rattle.subcommands.specs.Measured.{HaveServed, IsMeasured}
+use Rattle.subcommands.specs.MeasuredData.{IsMeasuredJson, measured_data, IsPlanMeasured}
 use Rattle.subcommands.proofs.RowsTexts.{two_nodes}
 
 -- ---- `scramble` and `junk`
@@ -128,7 +128,7 @@ no_runs = record { runs = 0; seed = 4; scheduler = scheduler.Rounds; table = fal
 none-served : HaveServed [] 35
 none-served k d h = absurd (omega (arith, h))
 
-plan-measured : IsPlanMeasured two_nodes no_runs (codes "runs 0\nsweeps least none median none most none\nsharp 35\nsweeps-bound 69\n") true
+plan-measured : IsPlanMeasured false two_nodes no_runs (codes "runs 0\nsweeps least none median none most none\nsharp 35\nsweeps-bound 69\n") true
 unfolding digits
 plan-measured = record {
   runs = [];
@@ -138,8 +138,8 @@ plan-measured = record {
 }
 
 -- a run more than the plan has is none of it
-plan_not-more : (served : Bool) (text : List ℕ) (m : IsPlanMeasured two_nodes no_runs text served) → m.runs ≢ run ∷ []
-plan_not-more served text m one = let lengths : 1 ≡ 0 = rw one at m.are_runs.all in omega (arith, lengths)
+plan_not-more : (is_json served : Bool) (text : List ℕ) (m : IsPlanMeasured is_json two_nodes no_runs text served) → m.runs ≢ run ∷ []
+plan_not-more is_json served text m one = let lengths : 1 ≡ 0 = rw one at m.are_runs.all in omega (arith, lengths)
 
 -- ---- what `simulate` says of a loan
 
@@ -149,11 +149,6 @@ seen sweeps lending = record { refused = 0; sweeps = sweeps; lending = lending }
 hints-loan : loan_hint 0 69 (seen 3 1) ≡ Some (codes "a node lends the lock without a lease: no sweep ends until its ticket leaves")
 hints-loan = refl
 
-hints_not-lease : loan_hint 5 69 (seen 3 1) ≡ None
-hints_not-lease = refl
-
-hints_not-free : loan_hint 0 69 (seen 3 0) ≡ None
-hints_not-free = refl
-
-hints_not-served : loan_hint 0 69 (seen 69 1) ≡ None
-hints_not-served = refl
+-- neither with a lease, nor if no node lends, nor if the network served
+hints_not : loan_hint 5 69 (seen 3 1) ∷ loan_hint 0 69 (seen 3 0) ∷ loan_hint 0 69 (seen 69 1) ∷ [] ≡ replicate 3 None
+hints_not = refl

@@ -1,6 +1,6 @@
 -- Small examples of the texts of `measure` and of cut files, with some that fail.
-use Rattle.std.proofs.Common.{◌≡◌, ◌≢◌, ◌∙◌, sym, ℕ, ◌++◌, true, false, IsTrue, [], ◌∷◌, Some, None, codes, decimal, refl, arith}
-use Rattle.std.proofs.lemmas.Fmt.{decimal_digit}
+use Rattle.std.proofs.Common.{◌≡◌, ◌≢◌, ◌∙◌, sym, ℕ, true, false, IsTrue, [], ◌∷◌, Some, None, codes, refl, arith}
+use Rattle.std.specs.Fmt.{digits}
 use Rattle.std.proofs.lemmas.List.Elements.{All-head, All-tail}
 use Rattle.rand_pcg.specs.Lcg.{Lcg}
 use Rattle.topology.specs.Network.{Network}
@@ -23,27 +23,6 @@ use Rattle.subcommands.specs.Turns.{order_of}
 abbrev pub two_nodes : Network
 two_nodes = record { nodes = 2; root = 0; capacity = 1; lease = 0; edges = (0, 1) ∷ [] }
 
-zero-is : decimal 0 ≡ codes "0"
-zero-is = decimal_digit 0 (omega arith)
-
-one-is : decimal 1 ≡ codes "1"
-one-is = decimal_digit 1 (omega arith)
-
-two-is : decimal 2 ≡ codes "2"
-two-is = decimal_digit 2 (omega arith)
-
-four-is : decimal 4 ≡ codes "4"
-four-is = decimal_digit 4 (omega arith)
-
-five-is : decimal 5 ≡ codes "5"
-five-is = decimal_digit 5 (omega arith)
-
-seven-is : decimal 7 ≡ codes "7"
-seven-is = decimal_digit 7 (omega arith)
-
-eight-is : decimal 8 ≡ codes "8"
-eight-is = decimal_digit 8 (omega arith)
-
 -- ---- `measure`
 
 abbrev recovery : ℕ → ℕ → ℕ → Recovery
@@ -60,23 +39,28 @@ served_not-late : has_served (recovery 4 9 9) 8 ≡ false
 served_not-late = refl
 
 prints-run : run_line 8 (recovery 4 5 8) ≡ codes "seed 4 sweeps 5\n"
-prints-run = rw (four-is, five-is)
+unfolding digits
+prints-run = refl
 
 prints-unserved : run_line 8 (recovery 4 5 7) ≡ codes "seed 4 sweeps none\n"
-prints-unserved = rw four-is
+unfolding digits
+prints-unserved = refl
 
 -- in a table each run has a line; without one, only runs that have not served
 prints-table : run_lines 8 true (recovery 4 5 8 ∷ recovery 5 2 7 ∷ []) ≡ codes "seed 4 sweeps 5\nseed 5 sweeps none\n"
-prints-table = rw (four-is, five-is)
+unfolding digits
+prints-table = refl
 
 prints-unserved_alone : run_lines 8 false (recovery 4 5 8 ∷ recovery 5 2 7 ∷ []) ≡ codes "seed 5 sweeps none\n"
-prints-unserved_alone = rw five-is
+unfolding digits
+prints-unserved_alone = refl
 
 sums-served : served_sweeps (recovery 4 5 8 ∷ recovery 5 2 7 ∷ recovery 6 1 8 ∷ []) 8 ≡ 5 ∷ 1 ∷ []
 sums-served = refl
 
 prints-summary : summary_line (Some (record { least = 1; median = 2; most = 8 })) ≡ codes "sweeps least 1 median 2 most 8\n"
-prints-summary = rw (one-is, two-is, eight-is)
+unfolding digits
+prints-summary = refl
 
 prints-no_summary : summary_line None ≡ codes "sweeps least none median none most none\n"
 prints-no_summary = refl
@@ -106,11 +90,13 @@ abbrev settling : ℕ → Settling
 settling seen = record { seed = 7; events = 5; links = 2; tree = 4; ring = 5; served = 5; seen = seen }
 
 rows-served : csv_row 8 (settling 8) ≡ codes "7,5,2,4,5,5\n"
-rows-served = rw (seven-is, five-is, two-is, four-is) refl
+unfolding digits
+rows-served = refl
 
 -- with fewer sweeps than the bound its four last cells are empty
 rows-short : csv_row 8 (settling 7) ≡ codes "7,5,,,,\n"
-rows-short = rw (seven-is, five-is) refl
+unfolding digits
+rows-short = refl
 
 rows_not-short : csv_row 8 (settling 7) ≢ codes "7,5,2,4,5,5\n"
 rows_not-short same = grind (arith, sym rows-short ∙ same)

@@ -1,10 +1,9 @@
 -- The text of measured runs.
-use Rattle.std.specs.Prelude.{◌≡◌, ℕ, Bool, ◌||◌, ◌&&◌, not, nat_le, if◌then◌else◌, List, [], ◌∷◌, ◌++◌, ◌+◌, length, All, IsTrue, ◌↔◌, Option, Some, None, codes, decimal}
+use Rattle.std.specs.Prelude.{◌≡◌, ℕ, Bool, ◌||◌, ◌&&◌, not, nat_le, if◌then◌else◌, List, [], ◌∷◌, ◌++◌, ◌+◌, length, All, IsTrue, Option, Some, None, codes, decimal}
 use Rattle.topology.specs.Network.{Network, bound_of}
 use Rattle.topology.specs.Eccentricity.{sharp_of}
 use Rattle.experiments.specs.declared.measured_run.Recovery.{Recovery}
 use Rattle.experiments.specs.declared.summary.Summary.{Summary}
-use Rattle.experiments.specs.Shown.{IsRunOf}
 use Rattle.experiments.specs.Summary.{IsSummaryOf}
 use Rattle.network_commands.specs.Bound.{number_line}
 use Rattle.subcommands.specs.declared.measure.Plan.{Plan}
@@ -66,10 +65,3 @@ pub record AreRunsOf {R : Type 0} (IsRun : ℕ → R → Type 0) (plan : Plan) (
 -- each run has served
 abbrev pub HaveServed : List Recovery → ℕ → Type 0
 HaveServed runs bound = All (λ r. IsTrue (has_served r bound)) runs
-
--- the text is that of the runs of a plan on a network, and the flag says whether each has served
-pub record IsPlanMeasured (net : Network) (plan : Plan) (text : List ℕ) (served : Bool) : Type 0 where
-  pub runs : List Recovery
-  pub are_runs : AreRunsOf (IsRunOf net plan.scheduler) plan runs
-  pub measured : IsMeasured net runs plan.table text
-  pub served_is : IsTrue served ↔ HaveServed runs (sharp_of net)

@@ -1,5 +1,5 @@
 -- What `measure --json` prints, as data. An object's members stand in the order of their names.
-use Rattle.std.specs.Prelude.{◌↔◌, IsTrue, ℕ, Bool, ◌||◌, not, if◌then◌else◌, List, [], ◌∷◌, length, Option, codes}
+use Rattle.std.specs.Prelude.{◌↔◌, IsTrue, ℕ, Bool, true, false, ◌||◌, not, if◌then◌else◌, List, [], ◌∷◌, length, Option, codes}
 use Rattle.std.specs.Option.{option_map}
 use Rattle.serde_json.specs.Data.{Data, Members, null, array, object, no_members, put}
 use Rattle.serde_json.specs.View.{items_of}
@@ -11,7 +11,7 @@ use Rattle.experiments.specs.declared.summary.Summary.{Summary}
 use Rattle.experiments.specs.Shown.{IsRunOf}
 use Rattle.experiments.specs.Summary.{IsSummaryOf}
 use Rattle.network_commands.specs.BoundData.{count, or_null}
-use Rattle.subcommands.specs.Measured.{AreRunsOf, has_served, HaveServed, served_sweeps}
+use Rattle.subcommands.specs.Measured.{AreRunsOf, has_served, HaveServed, IsMeasured, served_sweeps}
 use Rattle.subcommands.specs.declared.measure.Plan.{Plan}
 
 -- after how many sweeps a run served, or null
@@ -54,9 +54,14 @@ pub record IsMeasuredJson (net : Network) (runs : List Recovery) (table : Bool) 
   pub sums_up : IsSummaryOf (served_sweeps runs (sharp_of net)) summary
   pub in_order : IsInOrder text (measured_data net runs table summary)
 
--- the text is the object of the runs of a plan on a network, and the flag says whether each has served
-pub record IsPlanMeasuredJson (net : Network) (plan : Plan) (text : List ℕ) (served : Bool) : Type 0 where
+-- the text of the runs on a network, as an object or as lines
+abbrev pub IsTextOrJson : Bool → Network → List Recovery → Bool → List ℕ → Type 0
+IsTextOrJson true net runs table text = IsMeasuredJson net runs table text
+IsTextOrJson false net runs table text = IsMeasured net runs table text
+
+-- the text is that of the runs of a plan on a network, and the flag says whether each has served
+pub record IsPlanMeasured (is_json : Bool) (net : Network) (plan : Plan) (text : List ℕ) (served : Bool) : Type 0 where
   pub runs : List Recovery
   pub are_runs : AreRunsOf (IsRunOf net plan.scheduler) plan runs
-  pub measured : IsMeasuredJson net runs plan.table text
+  pub measured : IsTextOrJson is_json net runs plan.table text
   pub served_is : IsTrue served ↔ HaveServed runs (sharp_of net)

@@ -5,12 +5,13 @@ ghost use Rattle.std.specs.Process.{exit_status};
 ghost use Rattle.command_parts.specs.command_faults.Ends.{DoneMeansZeroOr};
 ghost use Rattle.subcommands.specs.Measured.{has_served, run_line, served_sweeps, summary_line};
 ghost use Rattle.subcommands.specs.Measured.{shown_line, run_lines, totals, IsMeasured};
-ghost use Rattle.subcommands.specs.Measured.{IsPlanMeasured, HaveServed};
+ghost use Rattle.subcommands.specs.Measured.{HaveServed};
+ghost use Rattle.subcommands.specs.MeasuredData.{IsPlanMeasured, IsTextOrJson};
 ghost use Rattle.command_parts.specs.command_faults.Output.{IsUntaken};
 ghost use Rattle.network_commands.specs.Faults.{IsUnprinted};
 
 use crate::measure_csv::plan_csv;
-use crate::measure_json::plan_json;
+use crate::measure_json::measured_json;
 use crate::side_by_side::measured;
 use command_parts::{Fault, printed, read_network};
 use experiments::{Recovery, Scheduler, Summary, summary_of};
@@ -65,9 +66,9 @@ pub fn run<R: Files + Print + Eprint + Clock + AllocGlobal + Threads + Sync>(
 {
     let net = read_network(rt, network)?;
     let shown = match form {
-        Form::Lines => plan_text(rt, rt.alloc(), &net, plan),
+        Form::Lines => plan_text(rt, rt.alloc(), &net, plan, false),
         Form::Rows => plan_csv(rt, rt.alloc(), &net, plan),
-        Form::Json => plan_json(rt, rt.alloc(), &net, plan),
+        Form::Json => plan_text(rt, rt.alloc(), &net, plan, true),
     };
     match shown {
         Ok((text, all_served)) => ending(print_as(rt, form, text.as_str()), all_served),
@@ -86,19 +87,37 @@ fn print_as<R: Print + Eprint>(rt: &R, form: Form, text: &str) -> Result<(), Fau
     printed(rt, done)
 }
 
-/// Makes the runs of a plan. Returns their text, and whether each has served.
+/// Makes the runs of a plan. Returns their lines or their object, and whether each has served.
 fn plan_text<R: Eprint + Clock + Threads + Sync>(
     rt: &R,
     alloc: Global,
     net: &Net,
     plan: Plan,
+    is_json: bool,
 ) -> Result<(String, bool), AllocError>
-    ensures { IfOk result (λ said. IsPlanMeasured net.now plan (string_bytes said.0) said.1) }
+    ensures { IfOk result (λ said. IsPlanMeasured is_json net.now plan (string_bytes said.0) said.1) }
 {
     let runs: Vec<Recovery> = measured(rt, alloc, net, plan)?;
-    let text = measured_text(alloc, net, runs.as_slice(), plan.table)?;
+    let text = text_or_json(alloc, net, runs.as_slice(), plan.table, is_json)?;
     let served = have_served(runs.as_slice(), net.sharp_bound());
     Ok((text, served))
+}
+
+/// The object of runs, or their lines.
+fn text_or_json(
+    alloc: Global,
+    net: &Net,
+    runs: &[Recovery],
+    table: bool,
+    is_json: bool,
+) -> Result<String, AllocError>
+    ensures { IfOk result (λ text. IsTextOrJson is_json net.now runs.now table (string_bytes text)) }
+{
+    if is_json {
+        measured_json(alloc, net, runs, table)
+    } else {
+        measured_text(alloc, net, runs, table)
+    }
 }
 
 /// How the command ends after all its runs, by the result of printing their text.

@@ -5,31 +5,12 @@ ghost use Rattle.serde_json.specs.View.{view, items_of, members_view};
 ghost use Rattle.subcommands.specs.MeasuredData.{run_data, runs_data, summary_members, measured_members};
 ghost use Rattle.network_commands.specs.BoundData.{or_null};
 ghost use Rattle.subcommands.specs.MeasuredData.{sweeps_data, measured_data, IsMeasuredJson};
-ghost use Rattle.subcommands.specs.MeasuredData.{IsPlanMeasuredJson};
 
-use crate::measure::{Plan, has_served, have_served, served_sweeps};
-use crate::side_by_side::measured;
+use crate::measure::{has_served, served_sweeps};
 use experiments::{Recovery, Summary, summary_of};
 use serde_json::{Map, Value, push, put};
 use std::alloc::{AllocError, Global};
-use std::thread::Threads;
-use std::time::Clock;
 use topology::Net;
-
-/// Makes the runs of a plan. Returns their object, and whether each has served.
-pub(crate) fn plan_json<R: Eprint + Clock + Threads + Sync>(
-    rt: &R,
-    alloc: Global,
-    net: &Net,
-    plan: Plan,
-) -> Result<(String, bool), AllocError>
-    ensures { IfOk result (λ said. IsPlanMeasuredJson net.now plan (string_bytes said.0) said.1) }
-{
-    let runs: Vec<Recovery> = measured(rt, alloc, net, plan)?;
-    let text = measured_json(alloc, net, runs.as_slice(), plan.table)?;
-    let served = have_served(runs.as_slice(), net.sharp_bound());
-    Ok((text, served))
-}
 
 /// The object of runs. It has the runs that have a line in the text: all with a table, else those
 /// that have not served.

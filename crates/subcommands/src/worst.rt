@@ -11,11 +11,10 @@ ghost use Rattle.subcommands.specs.declared.worst.Extent.TheVariants.{Minutes};
 ghost use Rattle.subcommands.specs.Worst.{worst_text, AreAsMany, IsJudged};
 
 use byte_streams::Failed;
-use command_parts::{EventText, Fault, Progress, printed, read_network};
-use experiments::{EventSink, Search, SlowRun, climb};
+use command_parts::{EventText, Fault, Progress, give_events, printed, read_network};
+use experiments::{Search, SlowRun, climb};
 use network_commands::bound::{done, push_number};
 use rayon::prelude::*;
-use run_model::Event;
 use std::alloc::{AllocError, Global};
 use std::fmt::Write as _;
 use std::fs;
@@ -322,19 +321,7 @@ pub fn write_run<W: Write + Drop>(run: &SlowRun, text: &mut EventText<W>) -> Res
     // It fails only if the writer did.
     ensures cause { CountsFailures result text.old.failures text.new.failures }
 {
-    give_all(run.harms.as_slice(), text)?;
-    give_all(run.events.as_slice(), text)?;
+    give_events(run.harms.as_slice(), text)?;
+    give_events(run.events.as_slice(), text)?;
     text.flush()
-}
-
-/// Gives the sink all events.
-fn give_all<S: EventSink>(events: &[Event], sink: &mut S) -> Result<(), Failed>
-    ensures taken { OnOk result (S.takes sink.old events.now sink.new) }
-    ensures cause { CountsFailures result (S.failures sink.old) (S.failures sink.new) }
-{
-    experiments::laws::taking::<S>();
-    for event in events {
-        sink.take(event)?;
-    }
-    Ok(())
 }

@@ -18,16 +18,17 @@ returns g c =
     let w : IsWatched (beginning start false) es now.judge now.last =
     c.watch_all.ensures (beginning start false) [] (subst (λ (w : World). IsWatched (beginning w false) [] c.new-watch.result.judge c.new-watch.result.last) begins c.new-watch.ensures) in
     let harmless = harmless-list start es (sym c.has_harm.ensures ∙ c.if-has_harm.false) in
-    let count = c.sweeps.ensures.sweeps start es w.seen in
-    record {
-      undamaged = harmless;
-      last = now.last.serving;
-      failed = w.failed;
-      sweeps_are = c.served_after.ensures;
-      count = count.0;
-      counted = count.1;
-      seen_are = count.2;
-      within = rw c.served_after.ensures
+    let count = c.sweeps.ensures.sweeps start es w.seen in (
+      record {
+        undamaged = harmless;
+        last = now.last.serving;
+        failed = w.failed;
+        sweeps_are = c.served_after.ensures;
+        count = count.0;
+        counted = count.1;
+        seen_are = count.2;
+      },
+      rw c.served_after.ensures
           (recovers-within c.runs.ensures.network c.runs.ensures.undamaged_splits c.moments.ensures.leads c.sweep_numbers.ensures.fewer c.sharp.ensures.headline
-          start w.seen.judging.in_range es now.last.serving harmless w.failed);
-    }
+          start w.seen.judging.in_range es now.last.serving harmless w.failed),
+    )
