@@ -1,7 +1,7 @@
 use Rattle.std.proofs.Common.{Ok, Err, []}
 use Rattle.world.specs.SimulatedText.{simulated_start}
 use Rattle.world.specs.UnderWay.{IsUnderWay}
-use Rattle.world.proofs.SimulatedEnd.{fault_is, not_read, all_was_read, has_cause, higher_then}
+use Rattle.world.proofs.SimulatedEnd.{fault_is, not_read, all_was_read}
 use Rattle.world.proofs.simulation.simulate_to.Given as given
 use Rattle.world.proofs.simulation.simulate_to.Goals.{After-new-simulation}
 use Rattle.world.proofs.simulation.simulate_to.Goals as goal
