@@ -1,7 +1,6 @@
 -- What an account leads to, note by note.
-use Rattle.std.proofs.Common.{◌≡◌, ℕ, List, ◌∷◌, Contains, IsTrue, ap, subst}
+use Rattle.std.proofs.Common.{◌≡◌, ℕ, List, ◌∷◌, Contains, IsTrue, ap}
 use Rattle.topology.specs.Network.{Network, are_joined}
-use Rattle.topology.specs.declared.frame.Frame.{Frame as FrameType}
 use Rattle.link_model.specs.declared.item.Item.{Item}
 use Rattle.link_model.specs.declared.item.Item.TheVariants.{Noise, Frame}
 use Rattle.run_model.specs.data_link.Port.{frame_of}

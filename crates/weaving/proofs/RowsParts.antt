@@ -1,5 +1,5 @@
 -- The parts of an account and of matching links: entries, deeds, stamps, and what is no link.
-use Rattle.std.proofs.Common.{◌≡◌, ◌≢◌, ℕ, ◌<◌, zero, suc, List, [], ◌∷◌, Option, Some, None, refl, arith}
+use Rattle.std.proofs.Common.{◌≡◌, ◌≢◌, ℕ, zero, suc, List, [], ◌∷◌, Some, None, refl, arith}
 use Rattle.std.proofs.lemmas.Bool.{false≢true}
 use Rattle.topology.specs.declared.frame.Frame.{Frame as FrameType}
 use Rattle.link_model.specs.declared.item.Item.TheVariants.{Noise, Frame}

@@ -3,7 +3,13 @@ use Rattle.std.proofs.lemmas.Grind.{common_steps}
 use Rattle.std.proofs.Math.Seq.{take-length}
 use Rattle.world.specs.Simulating.{longest_text}
 use Rattle.world.proofs.SimulatedPieces.{beginning_of_text}
+use Rattle.world.proofs.simulation.under_way.Simulation.read_all.Given as given
+use Rattle.world.proofs.simulation.under_way.Simulation.read_all.Goals.{After-min}
 use Rattle.world.proofs.simulation.under_way.Simulation.read_all.Goals as goal
+
+-- what may be taken of a piece
+taken-few : (g : given.Over) (c : After-min g) → c.min.result ≤ c.in-Ok.count
+taken-few g c = grind (arith, common_steps)
 
 pub returns-in_default-clause-text : goal.returns-in_default-clause-text
 returns-in_default-clause-text g c =
@@ -35,13 +41,12 @@ returns-in_default-take-clause-text g c =
     let so_far = c.loop-count.invariant.5 start bytes before said h in
     let n = longest_text - c.loop-count.left in
     let count = c.in-Ok.count in
-    let gives = c.in-Ok.ensures.reads.1 in
-    let few : c.min.result ≤ count = grind (arith, common_steps) in
+    let few = taken-few g (goal.at.returns-in_default-take-clause-text g c).After-min in
     let fewer : n + c.min.result ≤ n + count = omega (arith, few) in
-    let bytes_are = c.reading_in_pieces.ensures.next bytes n count c.min.result _ _ c.read.new.buffer (so_far.0, so_far.1) gives few in
+    let bytes_are = c.reading_in_pieces.ensures.next bytes n count c.min.result _ _ c.read.new.buffer (so_far.0, so_far.1) c.in-Ok.ensures.reads.1 few in
     record {
       count = n + count;
-      read = c.reading_in_pieces.ensures.more bytes n count _ _ c.read.new.buffer (so_far.0, so_far.1) gives;
+      read = c.reading_in_pieces.ensures.more bytes n count _ _ c.read.new.buffer (so_far.0, so_far.1) c.in-Ok.ensures.reads.1;
       written = beginning_of_text c.any_cutting.ensures start bytes (n + c.min.result) (n + count) before _ fewer
           (rw bytes_are at (c.in_default-take.ensures.text start (take n bytes) before so_far.2));
     }
@@ -52,13 +57,12 @@ returns-then-count-left-clause-text g c =
     let so_far = c.loop-count.invariant.5 start bytes before said h in
     let n = longest_text - c.loop-count.left in
     let count = c.in-Ok.count in
-    let gives = c.in-Ok.ensures.reads.1 in
-    let few : c.min.result ≤ count = grind (arith, common_steps) in
+    let few = taken-few g (goal.at.returns-then-count-left-clause-text g c).After-min in
     let all : n + c.min.result ≡ longest_text = grind (arith, common_steps) in
-    let bytes_are = c.reading_in_pieces.ensures.next bytes n count c.min.result _ _ c.read.new.buffer (so_far.0, so_far.1) gives few ∙ ap (λ k. take k bytes) all in
+    let bytes_are = c.reading_in_pieces.ensures.next bytes n count c.min.result _ _ c.read.new.buffer (so_far.0, so_far.1) c.in-Ok.ensures.reads.1 few ∙ ap (λ k. take k bytes) all in
     record {
       count = n + count;
-      read = c.reading_in_pieces.ensures.more bytes n count _ _ c.read.new.buffer (so_far.0, so_far.1) gives;
+      read = c.reading_in_pieces.ensures.more bytes n count _ _ c.read.new.buffer (so_far.0, so_far.1) c.in-Ok.ensures.reads.1;
       long = grind (arith, common_steps);
       written = rw bytes_are at (c.in-Ok-take.ensures.text start (take n bytes) before so_far.2).has_run.written;
     }
@@ -67,7 +71,7 @@ pub loop-count-preserved : goal.loop-count-preserved
 loop-count-preserved g c =
     let n = longest_text - c.loop-count.left in
     let count = c.in-Ok.count in
-    let few : c.min.result ≤ count = grind (arith, common_steps) in
+    let few = taken-few g (goal.at.loop-count-preserved g c).After-min in
     let all : n + c.min.result ≡ longest_text - (c.loop-count.left - count) = grind (arith, common_steps) in
     let next : n + count ≡ longest_text - (c.loop-count.left - count) = grind (arith, common_steps) in (
       grind (arith, common_steps),
