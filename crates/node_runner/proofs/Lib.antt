@@ -1,6 +1,7 @@
 pub use Rattle.run_model.proofs.RowsTwo
 pub use Rattle.weaving.proofs.RowsRun
 pub mod Stamps
+pub mod Receiving
 pub mod Spends
 pub mod Accounts
 pub mod AccountEvents

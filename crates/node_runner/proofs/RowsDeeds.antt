@@ -1,6 +1,6 @@
 -- Rows: whose deed an event is, what one send or take is, and which worlds stay within their
 -- capacity.
-use Rattle.std.proofs.Common.{◌≡◌, ℕ, ◌+◌, ◌≤◌, true, false, List, [], ◌∷◌, Some, None, length, inl, inr, refl, arith}
+use Rattle.std.proofs.Common.{◌≡◌, ℕ, ◌+◌, ◌≤◌, true, false, [], ◌∷◌, map, Some, None, length, inl, inr, refl, arith}
 use Rattle.link_model.specs.declared.item.Item.TheVariants.{Noise}
 use Rattle.run_model.specs.World.{World}
 use Rattle.run_model.specs.Start.{default_world}
@@ -19,34 +19,21 @@ noise t = record { stamp = t; item = Noise }
 
 -- ---- whose deed an event is
 
--- a take from 1 by 0 is the deed of 0
-takes-itself : is_deed_of 0 (Take 1 0) ≡ true
+-- a take from 1 by 0 is the deed of 0; what a client does is no node's deed
+takes-itself : map (λ v. is_deed_of v (Take 1 0)) (0 ∷ 1 ∷ []) ≡ true ∷ false ∷ []
 takes-itself = refl
 
-takes_not-other : is_deed_of 1 (Take 1 0) ≡ false
-takes_not-other = refl
-
--- what a client does is not a node's deed
 asks-nobody : is_deed_of 0 (Ask 0 5) ≡ false
 asks-nobody = refl
 
-ticks : is_tick (Tick 3) ≡ true
+ticks : map is_tick (Tick 3 ∷ Send 0 1 ∷ []) ≡ true ∷ false ∷ []
 ticks = refl
 
-ticks_not-send : is_tick (Send 0 1) ≡ false
-ticks_not-send = refl
-
-sends-on : is_send_on 0 1 (Send 0 1) ≡ true
+sends-on : map (is_send_on 0 1) (Send 0 1 ∷ Send 1 0 ∷ []) ≡ true ∷ false ∷ []
 sends-on = refl
 
-sends_not-back : is_send_on 0 1 (Send 1 0) ≡ false
-sends_not-back = refl
-
-takes-on : is_take_on 0 1 (Take 0 1) ≡ true
+takes-on : map (is_take_on 0 1) (Take 0 1 ∷ Send 0 1 ∷ []) ≡ true ∷ false ∷ []
 takes-on = refl
-
-takes_not-sent : is_take_on 0 1 (Send 0 1) ≡ false
-takes_not-sent = refl
 
 says-events : events_of 0 (Ticked 1 ∷ Sent 1 (noise 2) ∷ Took 1 (noise 3) ∷ []) ≡ Tick 0 ∷ Send 0 1 ∷ Take 1 0 ∷ []
 says-events = refl
@@ -83,17 +70,11 @@ opens = refl
 stamps-item : stamped 4 Noise ≡ noise 4
 stamps-item = refl
 
-sends-more : with_sent (noise 1 ∷ []) Noise (Some 4) ≡ noise 1 ∷ noise 4 ∷ []
+sends-more : map (with_sent (noise 1 ∷ []) Noise) (Some 4 ∷ None ∷ []) ≡ (noise 1 ∷ noise 4 ∷ []) ∷ (noise 1 ∷ []) ∷ []
 sends-more = refl
 
-sends-none : with_sent (noise 1 ∷ []) Noise None ≡ noise 1 ∷ []
-sends-none = refl
-
-takes-more : with_taken (noise 1 ∷ []) (Some (noise 4)) ≡ noise 1 ∷ noise 4 ∷ []
+takes-more : map (with_taken (noise 1 ∷ [])) (Some (noise 4) ∷ None ∷ []) ≡ (noise 1 ∷ noise 4 ∷ []) ∷ (noise 1 ∷ []) ∷ []
 takes-more = refl
-
-takes-none : with_taken [] None ≡ []
-takes-none = refl
 
 -- the last place is well below the last stamp
 last : last_stamp ≡ last_place + last_place

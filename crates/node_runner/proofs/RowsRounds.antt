@@ -1,13 +1,10 @@
 -- Rows: what a node does in a round, and what is not a round.
-use Rattle.std.proofs.Common.{◌≡◌, ℕ, List, [], ◌∷◌, ◌++◌, Option, Some, None, length, inl, inr, ap, refl, ◌∙◌, arith, length-append}
+use Rattle.std.proofs.Common.{◌≡◌, ℕ, List, [], ◌∷◌, ◌++◌, Some, None, length, inl, inr, ap, refl, ◌∙◌, arith, length-append}
 use Rattle.link_model.specs.declared.item.Item.TheVariants.{Noise}
 use Rattle.weaving.specs.declared.journal.Stamped.{Stamped}
-use Rattle.weaving.specs.Account.{Note, Ticked, Sent, Took, sent_to, taken_from}
+use Rattle.weaving.specs.Account.{Note, Ticked, Sent, Took, sent_to}
 use Rattle.node_runner.specs.Stamps.{stamp_after, given_back, IsTakeOf}
-use Rattle.node_runner.specs.Runner.{IsOneSend, IsOneTake}
 use Rattle.node_runner.specs.Rounds.{AreSendsTo, AreTakesFrom, IsRound, AreRounds}
-use Rattle.node_runner.specs.FirstTurn.{count_of, is_tick_of}
-use Rattle.node_runner.specs.Due.{events_of}
 use Rattle.node_runner.proofs.Accounts.{sent-on}
 use Rattle.node_runner.proofs.AccountEvents.{rounds-ticks}
 use Rattle.node_runner.proofs.Rounds.{one-send-length, one-take-length}

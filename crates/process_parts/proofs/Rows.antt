@@ -1,5 +1,5 @@
 -- Small examples of how a start goes, of rights, and of what is said if a process does not run, and some that fail.
-use Rattle.std.proofs.Common.{◌≡◌, ◌≢◌, true, false, Some, None, refl, codes, arith}
+use Rattle.std.proofs.Common.{◌≡◌, ◌≢◌, true, false, [], ◌∷◌, map, Some, None, refl, codes, arith}
 use Rattle.std.specs.Fmt.{digits}
 use Rattle.process_parts.specs.declared.fault.NodeFault.TheVariants.{NoNode, LongName, Folder, Running, UpRunning, Links, Looks, System, Memory}
 use Rattle.process_parts.specs.declared.start.Stage.TheVariants.{Begun, Checked, Entered, Held, Listening}
@@ -11,27 +11,18 @@ use Rattle.process_parts.specs.Said.{said_text}
 use Rattle.process_parts.specs.Texts.{refusal_text}
 
 -- a wrong id ends a start before the folder is made, and not after
-ends-wrong_id : may_end Begun (NoNode 3) ≡ true
+ends-wrong_id : map (λ stage. may_end stage (NoNode 3)) (Begun ∷ Entered ∷ []) ≡ true ∷ false ∷ []
 ends-wrong_id = refl
 
-ends_not-wrong_id : may_end Entered (NoNode 3) ≡ false
-ends_not-wrong_id = refl
-
 -- a place that another process holds ends it before a socket is made
-ends-running : may_end Entered Running ≡ true
+ends-running : map (λ stage. may_end stage Running) (Entered ∷ Held ∷ []) ≡ true ∷ false ∷ []
 ends-running = refl
 
-ends_not-running : may_end Held Running ≡ false
-ends_not-running = refl
-
-ends-links : may_end Held Links ≡ true
+ends-links : map (λ stage. may_end stage Links) (Held ∷ Checked ∷ []) ≡ true ∷ false ∷ []
 ends-links = refl
 
 ends-looks : may_end Held Looks ≡ true
 ends-looks = refl
-
-ends_not-links : may_end Checked Links ≡ false
-ends_not-links = refl
 
 ends-memory : may_end Listening Memory ≡ true
 ends-memory = refl

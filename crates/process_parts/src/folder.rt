@@ -276,24 +276,10 @@ fn push_addresses(
     ensures err { IfErr result (λ fault. (fault ≡ LongName) ⊎ (fault ≡ Memory)) }
 {
     for id in 0..nodes {
-        push_address(addresses, alloc, dir, id)?;
+        let address = address_of(alloc, dir, id)?;
+        addresses.push(address).map_err(|_| NodeFault::Memory)?;
     }
     Ok(())
-}
-
-/// Adds the address of node `id`.
-fn push_address(
-    addresses: &mut Vec<SocketAddr>,
-    alloc: Global,
-    dir: &str,
-    id: u16,
-) -> Result<(), NodeFault>
-    ensures count { IfOk result (λ _. length addresses.new.items
-        ≡ length addresses.old.items + 1) }
-    ensures err { IfErr result (λ fault. (fault ≡ LongName) ⊎ (fault ≡ Memory)) }
-{
-    let address = address_of(alloc, dir, id)?;
-    addresses.push(address).map_err(|_| NodeFault::Memory)
 }
 
 /// The address of node `id`.

@@ -1,4 +1,4 @@
-use Rattle.std.proofs.Common.{rules, arith, ◌≡◌, ◌<◌, ◌≤◌, length, subst, take}
+use Rattle.std.proofs.Common.{rules, arith, ◌≡◌, ◌<◌, length, subst, take}
 use Rattle.std.proofs.lemmas.List.{take_all}
 use Rattle.node_runner.specs.Runner.{port_ids}
 use Rattle.node_runner.specs.Rounds.{AreSendsTo}
