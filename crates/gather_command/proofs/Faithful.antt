@@ -2,9 +2,8 @@
 use Rattle.std.proofs.Common.{◌≡◌, ◌≢◌, ◌∙◌, ap, sym, refl, subst, arith, ℕ, zero, suc, ◌<◌, ◌==◌, List, [], ◌∷◌, ◌++◌, Some, None, Bool, true, false, drop}
 use Rattle.std.proofs.lemmas.Grind.{common_steps}
 use Rattle.std.proofs.lemmas.List.{append-nil}
-use Rattle.std.specs.Prelude.{if◌then◌else◌, is_some, slice_index_or, slice_set}
+use Rattle.std.specs.Prelude.{if◌then◌else◌, slice_index_or, slice_set}
 use Rattle.record_gathering.specs.configuration.run_model.World.{World}
-use Rattle.record_gathering.specs.configuration.run_model.Step.{refusal, step}
 use Rattle.record_gathering.specs.configuration.run_model.Run.{run}
 use Rattle.record_gathering.specs.configuration.run_model.Laws.{RunsJoin, FrameStays}
 use Rattle.record_gathering.specs.configuration.run_model.declared.event.Event.{Event}
@@ -14,25 +13,11 @@ use Rattle.record_gathering.specs.Laws.{AcceptedIsEnough}
 use Rattle.record_gathering.specs.Entries.{entry_events}
 use Rattle.record_gathering.specs.Order.{head_of}
 use Rattle.record_gathering.specs.Queues.{queue_of, queues_after}
+use Rattle.record_gathering.proofs.FactsJoin.{accepted-append}
 use Rattle.gather_command.specs.Weave.{Moment, moment_at, events_at, world_after, events_of, next_of, heads_of, without_next, IsWoven, NoneLeft, Next}
 use Rattle.gather_command.specs.Laws.{entries_of}
 
 -- ---- no event is refused
-
-refused-stays : (w : World) (e : Event) → is_some (refusal w e) ≡ true → step w e ≡ w
-refused-stays w e r = grind (arith, common_steps)
-
-pub accepted-append : (w : World) (xs ys : List Event) → accepted w (xs ++ ys) ≡ accepted w xs ++ accepted (run w xs) ys
-accepted-append w [] ys = refl
-accepted-append w (x ∷ xs) ys =
-    let by : (b : Bool) → is_some (refusal w x) ≡ b
-    → (if b then accepted w (xs ++ ys) else x ∷ accepted (step w x) (xs ++ ys))
-    ≡ (if b then accepted w xs else x ∷ accepted (step w x) xs) ++ accepted (run (step w x) xs) ys =
-    elim [
-      | true ↦ λ r. accepted-append w xs ys ∙ ap (λ (v : World). accepted w xs ++ accepted (run v xs) ys) (sym (refused-stays w x r))
-      | false ↦ λ r. ap (λ (es : List Event). x ∷ es) (accepted-append (step w x) xs ys)
-    ] in
-    by (is_some (refusal w x)) refl
 
 pub none-refused : AcceptedIsEnough → (w : World) (queues : List (List ℕ)) (records : List (List Entry)) (ms : List Moment)
     → IsWoven w queues records ms → accepted w (events_of ms) ≡ events_of ms

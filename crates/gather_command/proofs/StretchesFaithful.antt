@@ -15,10 +15,11 @@ use Rattle.record_gathering.specs.Facts.{facts_of}
 use Rattle.record_gathering.specs.Laws.{AcceptedIsEnough, FactsJoin}
 use Rattle.record_gathering.specs.Queues.{queues_after}
 use Rattle.record_gathering.specs.SetUps.{IsSameAs, HasEdgesOf, with_edges_of, SetUpsAreReached}
+use Rattle.record_gathering.proofs.FactsJoin.{accepted-append}
 use Rattle.gather_command.specs.Weave.{Moment, events_at, world_after, events_of, without_next, IsLed, Stays, Leads, IsWoven}
 use Rattle.gather_command.specs.Scene.{events_to}
 use Rattle.gather_command.specs.Laws.{entries_of}
-use Rattle.gather_command.proofs.Faithful.{accepted-append, none-refused, complete, same-node, same, others, other-place}
+use Rattle.gather_command.proofs.Faithful.{none-refused, complete, same-node, same, others, other-place}
 
 pub list-refused : AcceptedIsEnough → FactsJoin → (net : Network) (w : World) (queues : List (List ℕ)) (left : List (List Entry))
     (back : List Moment) → IsWoven (run (world_with_spares net 8) (events_to net w)) queues left back

@@ -2,6 +2,7 @@
 ghost use Rattle.std.specs.Prelude.{◌≡◌, ◌≤◌, ◌++◌, ◌∷◌, [], Some, IfOk, IfErr, OnOk, length};
 ghost use Rattle.record_pages.specs.byte_streams.Streams.{CountsFailures};
 ghost use Rattle.node_recorder.specs.Turns.{network_mark};
+ghost use Rattle.gather_command.specs.declared.fault.GatherFault.TheVariants.{Memory, Output};
 ghost use Rattle.gather_command.specs.Reading.{MayFail, Reads, Begins, OpensNoMore};
 ghost use Rattle.gather_command.specs.Records.{IsFault};
 ghost use Rattle.gather_command.specs.Weave.{moment_at};
@@ -35,9 +36,6 @@ pub struct Gathered {
 }
 
 impl From<AllocError> for GatherFault {
-    ghost use Rattle.std.specs.Prelude.{◌≡◌};
-    ghost use Rattle.gather_command.specs.declared.fault.GatherFault.TheVariants.{Memory};
-
     ghost from_gives = { λ _ fault. fault ≡ Memory };
 
     fn from(_refused: AllocError) -> GatherFault {
@@ -46,9 +44,6 @@ impl From<AllocError> for GatherFault {
 }
 
 impl From<Failed> for GatherFault {
-    ghost use Rattle.std.specs.Prelude.{◌≡◌};
-    ghost use Rattle.gather_command.specs.declared.fault.GatherFault.TheVariants.{Output};
-
     ghost from_gives = { λ _ fault. fault ≡ Output };
 
     fn from(_failed: Failed) -> GatherFault {

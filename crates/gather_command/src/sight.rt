@@ -139,6 +139,7 @@ impl Sight {
     pub fn numbers(&self, nodes: u16) -> Summary
         ensures { result ≡ numbers_of nodes self.now }
     {
+        let (loans, longest_loan) = self.watch.loans();
         Summary {
             nodes,
             stretch: length_of(self.span),
@@ -146,8 +147,8 @@ impl Sight {
             differences: self.damage.count(),
             longest_turn: self.watch.longest_turn(),
             longest_delay: self.delays.longest(),
-            loans: self.watch.loans(),
-            longest_loan: self.watch.longest_loan(),
+            loans,
+            longest_loan,
         }
     }
 }

@@ -218,18 +218,11 @@ impl Watch {
         self.longest_turn
     }
 
-    /// How many loans began.
-    pub fn loans(&self) -> u64
-        ensures { result ≡ self.now.loans }
+    /// How many loans began, and the longest one that ended, if one did.
+    pub fn loans(&self) -> (u64, Option<Lasted>)
+        ensures { result ≡ (self.now.loans, self.now.longest_loan) }
     {
-        self.loans
-    }
-
-    /// The longest loan that ended, if one did.
-    pub fn longest_loan(&self) -> Option<Lasted>
-        ensures { result ≡ self.now.longest_loan }
-    {
-        self.longest_loan
+        (self.loans, self.longest_loan)
     }
 }
 

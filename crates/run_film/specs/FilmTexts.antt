@@ -33,25 +33,24 @@ film_at reel pace opening = record { opening = opening; later = reel.stills; pac
 abbrev pub IsEachShown : ReelView → Pace → Type 0
 IsEachShown reel pace = (opening : Still) (place : ℕ) → place ≤ length reel.stills → 1 ≤ beats_at (film_at reel pace opening) place
 
--- A text is a film of a run: it spells, with tags that nest, what shows a reel of the run; if the
--- window holds no moment, no still.
-pub record IsFilm (net : Network) (window : Window) (es : List Event) (text : List ℕ) : Type 0 where
+-- A text shows a run: it spells, with tags that nest, what shows a reel of the run; if the window holds
+-- no moment, no still. `Shows` says when it shows a film, `spelling` how it is spelled, and `Nests` when
+-- its tags nest.
+pub record IsShowing {M : Type 0} (Shows : M → Film → Network → Type 0) (spelling : M → List ℕ) (Nests : List ℕ → Type 0)
+    (net : Network) (window : Window) (es : List Event) (text : List ℕ) : Type 0 where
   pub reel : ReelView
   pub of_run : IsReelOf net window es reel
   pub pace : Pace
   pub each : IsEachShown reel pace
-  pub scene : Scene
-  pub plays : (opening : Still) → reel.opening ≡ Some opening → ShowsFilm (scene_shown scene) (film_at reel pace opening) net
-  pub spelled : text ≡ scene_text scene
-  pub nests : IsContent text
+  pub made : M
+  pub plays : (opening : Still) → reel.opening ≡ Some opening → Shows made (film_at reel pace opening) net
+  pub spelled : text ≡ spelling made
+  pub nests : Nests text
 
--- A text is a page with a film of a run.
-pub record IsPage (net : Network) (window : Window) (es : List Event) (text : List ℕ) : Type 0 where
-  pub reel : ReelView
-  pub of_run : IsReelOf net window es reel
-  pub pace : Pace
-  pub each : IsEachShown reel pace
-  pub page : Document
-  pub plays : (opening : Still) → reel.opening ≡ Some opening → ShowsPage page (film_at reel pace opening) net
-  pub spelled : text ≡ document_text page
-  pub nests : IsDocument text
+-- a text is a film of a run
+abbrev pub IsFilm : Network → Window → List Event → List ℕ → Type 0
+IsFilm net window es text = IsShowing (λ (scene : Scene). ShowsFilm (scene_shown scene)) scene_text IsContent net window es text
+
+-- a text is a page with a film of a run
+abbrev pub IsPage : Network → Window → List Event → List ℕ → Type 0
+IsPage net window es text = IsShowing ShowsPage document_text IsDocument net window es text

@@ -137,24 +137,6 @@ fn chart_of(stage: &Stage, shown: Shown<'_>) -> Chart {
     }
 }
 
-/// The steps of a curve: each still as high as its count is, and as wide as it has beats.
-fn curve_steps(
-    alloc: Global,
-    chart: Chart,
-    shown: Shown<'_>,
-    curve: Curve,
-) -> Result<String, AllocError> {
-    let mut done = shown.beats_at(0);
-    let start = (chart.ground - chart.node * curve.counted(shown.opening())).0;
-    let mut text = format!(in alloc; "M{} {start}H{}", LEFT.0, curve_x_at(chart, shown, done))?;
-    for (place, still) in shown.later().iter().enumerate() {
-        done = done.saturating_add(shown.beats_at(place.saturating_add(1)));
-        let y = (chart.ground - chart.node * curve.counted(still)).0;
-        write!(text, "V{y}H{}", curve_x_at(chart, shown, done))?;
-    }
-    Ok(text)
-}
-
 /// Where as many beats are over.
 fn curve_x_at(chart: Chart, shown: Shown<'_>, beats: usize) -> u32 {
     let wide = u64::from(chart.width.0).saturating_mul(beats as u64);
@@ -163,14 +145,21 @@ fn curve_x_at(chart: Chart, shown: Shown<'_>, beats: usize) -> u32 {
     (LEFT + Px(x.min(100_000) as u32)).0
 }
 
-/// A curve.
+/// A curve: each still as high as its count is, and as wide as it has beats.
 fn curve_line(
     alloc: Global,
     chart: Chart,
     shown: Shown<'_>,
     curve: Curve,
 ) -> Result<Group, AllocError> {
-    let steps = curve_steps(alloc, chart, shown, curve)?;
+    let mut done = shown.beats_at(0);
+    let start = (chart.ground - chart.node * curve.counted(shown.opening())).0;
+    let mut steps = format!(in alloc; "M{} {start}H{}", LEFT.0, curve_x_at(chart, shown, done))?;
+    for (place, still) in shown.later().iter().enumerate() {
+        done = done.saturating_add(shown.beats_at(place.saturating_add(1)));
+        let y = (chart.ground - chart.node * curve.counted(still)).0;
+        write!(steps, "V{y}H{}", curve_x_at(chart, shown, done))?;
+    }
     let line = Element::new(alloc, "path")
         .with(alloc, "d", steps.as_str())?
         .with_all(alloc, curve.looks())?;

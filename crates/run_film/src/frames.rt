@@ -1,7 +1,6 @@
 //! The frames: each is a dot that travels along the half of its edge on which an event shows it, and rests in the
 //! middle while it is under way.
 ghost use Rattle.std.specs.Prelude.{◌≡◌, IfOk, OnOk, IsTrue, codes};
-ghost use Rattle.std.specs.List.{list_any};
 ghost use Rattle.svg_drawing.specs.Grouped.{grouped_of};
 ghost use Rattle.run_film.specs.Beats.{film_of};
 ghost use Rattle.run_film.specs.Films.{drawn, Keeps};
@@ -102,14 +101,11 @@ fn is_done(deed: Deed, event: Option<Event>, u: u16, v: u16) -> bool
 fn is_done_in(shown: Shown<'_>, deed: Deed, u: u16, v: u16) -> bool
     ensures { result ≡ done_in (film_of shown.entry) deed u v }
 {
-    is_done(deed, shown.opening().event, u, v) || any_does(shown.later(), deed, u, v)
-}
-
-/// Whether the last event of some of these stills does it.
-fn any_does(stills: &[Still], deed: Deed, u: u16, v: u16) -> bool
-    ensures { result ≡ list_any (λ still. is_done deed still.event u v) stills.now }
-{
-    stills.iter().any(|still| is_done(deed, still.event, u, v))
+    is_done(deed, shown.opening().event, u, v)
+        || shown
+            .later()
+            .iter()
+            .any(|still| is_done(deed, still.event, u, v))
 }
 
 /// The symbol of what is done with a frame from a node to another.
@@ -127,16 +123,15 @@ fn frame_symbol(material: Material<'_>, deed: Deed, from: u16, to: u16) -> Resul
 fn sent_frame(material: Material<'_>, from: u16, to: u16) -> Result<Group, AllocError>
     ensures { IfOk result (λ group. (grouped_of group).element ≡ symbol_shown (pair_code (codes "o") from to)) }
 {
-    let travel = Travel {
-        deed: Deed::Sent,
-        from,
-        to,
-        start: material.stage.at(from),
-        between: between_of(material.stage, from, to),
-        end: middle_of(material.stage, from, to),
-    };
-    let name = format!(in material.alloc; "o{from}-{to}")?;
-    let steps = first_quarter(material.alloc, material.stage, from, to)?;
+    let (alloc, stage) = (material.alloc, material.stage);
+    let way = [
+        stage.at(from),
+        between_of(stage, from, to),
+        middle_of(stage, from, to),
+    ];
+    let travel = Travel::new(Deed::Sent, from, to, way);
+    let name = format!(in alloc; "o{from}-{to}")?;
+    let steps = first_quarter(alloc, stage, from, to)?;
     frame(material, travel, name.as_str(), steps.as_str())
 }
 
@@ -144,16 +139,15 @@ fn sent_frame(material: Material<'_>, from: u16, to: u16) -> Result<Group, Alloc
 fn taken_frame(material: Material<'_>, from: u16, to: u16) -> Result<Group, AllocError>
     ensures { IfOk result (λ group. (grouped_of group).element ≡ symbol_shown (pair_code (codes "i") from to)) }
 {
-    let travel = Travel {
-        deed: Deed::Taken,
-        from,
-        to,
-        start: middle_of(material.stage, from, to),
-        between: between_of(material.stage, to, from),
-        end: material.stage.at(to),
-    };
-    let name = format!(in material.alloc; "i{from}-{to}")?;
-    let steps = last_quarter(material.alloc, material.stage, from, to)?;
+    let (alloc, stage) = (material.alloc, material.stage);
+    let way = [
+        middle_of(stage, from, to),
+        between_of(stage, to, from),
+        stage.at(to),
+    ];
+    let travel = Travel::new(Deed::Taken, from, to, way);
+    let name = format!(in alloc; "i{from}-{to}")?;
+    let steps = last_quarter(alloc, stage, from, to)?;
     frame(material, travel, name.as_str(), steps.as_str())
 }
 
@@ -196,6 +190,19 @@ struct Travel {
 }
 
 impl Travel {
+    /// A frame that travels from the first of these places to the last.
+    fn new(deed: Deed, from: u16, to: u16, way: [Point; 3]) -> Travel {
+        let [start, between, end] = way;
+        Travel {
+            deed,
+            from,
+            to,
+            start,
+            between,
+            end,
+        }
+    }
+
     /// The animation of the way that a dot has come, which has this id.
     fn animation(self, alloc: Global, shown: Shown<'_>, id: &str) -> Result<Element, AllocError> {
         let way = format!(in alloc; "#{id}")?;

@@ -41,24 +41,17 @@ fn possible_places(stage: &Stage, half: Px, v: u16) -> [Point; 5] {
     let level = at.y + Px(7);
     let (wide, near) = (half + Px(24), half + Px(6));
     [
-        Point {
-            x: at.x + wide,
-            y: level,
-        },
-        Point {
-            x: at.x - wide,
-            y: level,
-        },
-        Point { x: at.x, y: low },
-        Point {
-            x: at.x + near,
-            y: low,
-        },
-        Point {
-            x: at.x - near,
-            y: low,
-        },
+        point(at.x + wide, level),
+        point(at.x - wide, level),
+        point(at.x, low),
+        point(at.x + near, low),
+        point(at.x - near, low),
     ]
+}
+
+/// The place that is so far from the left and from the upper end.
+fn point(x: Px, y: Px) -> Point {
+    Point { x, y }
 }
 
 /// The place below a node, and below its number if that stands there.

@@ -68,13 +68,6 @@ impl<A: Allocator + Copy> Lanes<A> {
         self.states.as_slice()
     }
 
-    /// How many moments each column shows; the last may show fewer.
-    pub fn width(&self) -> u64
-        ensures { result ≡ self.now.width }
-    {
-        self.width
-    }
-
     /// How many moments there were after those of full columns.
     pub fn left(&self) -> u64
         ensures { result ≡ self.now.left }

@@ -8,8 +8,7 @@ pub returns-clause-stands : goal.returns-clause-stands
 returns-clause-stands c =
     λ bytes stands.
     let (line, is, one, said) = c.in_ok-event.ensures in
-    let stood = rw (← c.self.view_is) at stands in
-    let none : half_line bytes ≡ [] = (c.if-not-is_empty.ensures.half (half_line bytes) stood).0 refl in
+    let none : half_line bytes ≡ [] = (c.if-not-is_empty.ensures.half (half_line bytes) (rw (← c.self.view_is) at stands)).0 refl in
     let empty = c.if-not-is_empty.ensures.kept.0 refl in
     rw (← c.self.view_is, in_front line c.in_ok-event.rest.now c.args.piece.now is) (stands_after c.any_cutting.ensures c.lines_grow.ensures bytes line none one _ empty)
 
@@ -17,7 +16,6 @@ pub returns-clause-line : goal.returns-clause-line
 returns-clause-line c =
     λ bytes stands.
     let (line, is, one, said) = c.in_ok-event.ensures in
-    let stood = rw (← c.self.view_is) at stands in
-    let none : half_line bytes ≡ [] = (c.if-not-is_empty.ensures.half (half_line bytes) stood).0 refl in
+    let none : half_line bytes ≡ [] = (c.if-not-is_empty.ensures.half (half_line bytes) (rw (← c.self.view_is) at stands)).0 refl in
     rw (in_front line c.in_ok-event.rest.now c.args.piece.now is)
     (line_said c.any_cutting.ensures c.lines_grow.ensures bytes line none one ∙ ap (λ x. ended_lines bytes ++ x ∷ []) said)
