@@ -1,5 +1,5 @@
 -- What a node says to whoever looks: one line, a JSON object (RFC 8259) without spaces.
-use Rattle.std.specs.Prelude.{ℕ, ◌-◌, Bool, true, false, List, [], ◌∷◌, ◌++◌, Option, None, Some, codes, decimal}
+use Rattle.std.specs.Prelude.{ℕ, ◌-◌, Bool, true, false, List, [], ◌∷◌, ◌++◌, Option, codes, decimal}
 use Rattle.std.specs.Option.{option_map}
 use Rattle.turn_watch.specs.declared.links.LinkTimes.{LinkTimes}
 use Rattle.turn_watch.specs.declared.loans.LoanTimes.{LoanTimes}
@@ -7,6 +7,7 @@ use Rattle.turn_watch.specs.declared.turns.TurnTimes.{TurnTimes}
 use Rattle.turn_watch.specs.Links.{break_count, link_of}
 use Rattle.turn_watch.specs.Loans.{loan_length}
 use Rattle.turn_watch.specs.Turns.{longest_lately}
+use Rattle.node_texts.specs.StatusText.{or_word}
 use Rattle.node_texts.specs.declared.status_line.StatusLine.{StatusLine}
 use Rattle.node_texts.specs.declared.look_parts.LinkPart.{LinkPart}
 use Rattle.node_texts.specs.declared.look_parts.LoanPart.{LoanPart}
@@ -45,8 +46,7 @@ turn_part t limit now = record {
 }
 
 abbrev pub or_null_text : Option ℕ → List ℕ
-or_null_text None = codes "null"
-or_null_text (Some number) = decimal number
+or_null_text number = or_word (codes "null") number
 
 abbrev pub truth_text : Bool → List ℕ
 truth_text true = codes "true"

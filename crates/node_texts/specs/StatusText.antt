@@ -7,10 +7,14 @@ use Rattle.line_words.specs.Words.{Word, words, first_word, other_words, ends}
 use Rattle.line_words.specs.Numbers.{number, number_or_none, yes_or_no}
 use Rattle.node_texts.specs.declared.status_line.StatusLine.{StatusLine}
 
--- an id or a ticket in decimal, or `none`
+-- a number in decimal, or a word if there is none
+abbrev pub or_word : List ℕ → Option ℕ → List ℕ
+or_word word None = word
+or_word word (Some number) = decimal number
+
+-- an id or a ticket, or `none`
 abbrev pub or_none_text : Option ℕ → List ℕ
-or_none_text None = codes "none"
-or_none_text (Some number) = decimal number
+or_none_text number = or_word (codes "none") number
 
 abbrev pub yes_or_no_text : Bool → List ℕ
 yes_or_no_text true = codes "yes"

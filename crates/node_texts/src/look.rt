@@ -4,7 +4,8 @@ ghost use Rattle.node_texts.specs.LookText.{look_text, status_part, links_text, 
 ghost use Rattle.node_texts.specs.LookText.{link_text, rest_text, rounds_text, link_parts};
 
 use crate::StatusLine;
-use crate::look_parts::{LinkPart, LoanPart, OrNull, ProcessPart, TurnPart};
+use crate::look_parts::{LinkPart, LoanPart, ProcessPart, TurnPart};
+use crate::status_line::OrWord;
 use std::alloc::{AllocError, Global};
 use std::fmt;
 use std::fmt::Write;
@@ -112,7 +113,10 @@ fn push_rest(text: &mut String, look: &Look<'_>) -> Result<(), AllocError>
         look.now.version.now) }
 {
     let (loans, turns, version) = (look.loans, look.turns, look.version);
-    let (process, start) = (OrNull(look.process.id), OrNull(look.process.start));
+    let (process, start) = (
+        OrWord(look.process.id, "null"),
+        OrWord(look.process.start, "null"),
+    );
     write!(
         text,
         ",\"loans\":{loans},\"turns\":{turns},\"process\":{process},\"version\":\"{version}\",\"start_ms\":{start}"
@@ -140,9 +144,9 @@ impl fmt::Display for StatusPart {
             "\"node\":{},\"distance\":{},\"parent\":{},\"token\":{},\"lent\":{},\"waiting\":{}",
             self.0.node,
             self.0.distance,
-            OrNull(self.0.parent.map(u64::from)),
+            OrWord(self.0.parent.map(u64::from), "null"),
             self.0.token,
-            OrNull(self.0.lent.map(u64::from)),
+            OrWord(self.0.lent.map(u64::from), "null"),
             self.0.waiting
         )
     }

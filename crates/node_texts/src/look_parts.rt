@@ -4,9 +4,9 @@ ghost use Rattle.std.specs.Option.{option_map};
 ghost use Rattle.turn_watch.specs.Links.{break_count};
 ghost use Rattle.turn_watch.specs.Loans.{loan_length};
 ghost use Rattle.turn_watch.specs.Turns.{longest_lately};
-ghost use Rattle.node_texts.specs.LookText.{link_part, loan_part, turn_part, link_text, loan_text};
-ghost use Rattle.node_texts.specs.LookText.{turn_text, or_null_text};
+ghost use Rattle.node_texts.specs.LookText.{link_part, loan_part, turn_part, link_text, loan_text, turn_text};
 
+use crate::status_line::OrWord;
 use std::fmt;
 use turn_watch::{LinkTimes, LoanTimes, TurnTimes};
 
@@ -85,7 +85,7 @@ impl fmt::Display for LoanPart {
             "{{\"count\":{},\"longest_us\":{},\"present_us\":{},\"lately_us\":{}}}",
             self.count,
             self.longest,
-            OrNull(self.present),
+            OrWord(self.present, "null"),
             self.lately
         )
     }
@@ -141,19 +141,4 @@ pub struct ProcessPart {
     pub id: Option<u64>,
     /// When it started, in milliseconds since the start of 1970, UTC, if the system says it.
     pub start: Option<u64>,
-}
-
-/// A number, or `null`.
-#[derive(Drop)]
-pub(crate) struct OrNull(pub Option<u64>);
-
-impl fmt::Display for OrNull {
-    ghost output = { λ number. Some (or_null_text number.0) };
-
-    fn fmt<W: fmt::Write>(&self, f: &mut fmt::Formatter<W>) -> fmt::Result {
-        match self.0 {
-            Some(number) => write!(f, "{number}"),
-            None => f.write_str("null"),
-        }
-    }
 }

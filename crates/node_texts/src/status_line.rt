@@ -3,7 +3,7 @@ ghost use Rattle.std.specs.Prelude.{◌≡◌, is_some, OnSome, Some};
 ghost use Rattle.line_words.specs.Numbers.{number, number_or_none, yes_or_no};
 ghost use Rattle.line_words.specs.Words.{other_words};
 ghost use Rattle.node_texts.specs.StatusText.{line_status, first_is, value_after, short_line_status};
-ghost use Rattle.node_texts.specs.StatusText.{or_none_text, status_text};
+ghost use Rattle.node_texts.specs.StatusText.{or_word, status_text};
 
 use byte_lines::LineReading;
 use line_words::Words;
@@ -110,17 +110,17 @@ impl LineReading<MOST_STATUS_BYTES> for StatusReading {
     }
 }
 
-/// A number, or `none`.
+/// A number, or this word if there is none.
 #[derive(Drop)]
-struct OrNone(Option<u16>);
+pub(crate) struct OrWord(pub Option<u64>, pub &'static str);
 
-impl fmt::Display for OrNone {
-    ghost output = { λ number. Some (or_none_text number.0) };
+impl fmt::Display for OrWord {
+    ghost output = { λ number. Some (or_word number.1.now number.0) };
 
     fn fmt<W: fmt::Write>(&self, f: &mut fmt::Formatter<W>) -> fmt::Result {
         match self.0 {
             Some(number) => write!(f, "{number}"),
-            None => f.write_str("none"),
+            None => f.write_str(self.1),
         }
     }
 }
@@ -135,8 +135,8 @@ impl fmt::Display for StatusLine {
             "node {} distance {} parent {} token {token} lent {} waiting {}",
             self.node,
             self.distance,
-            OrNone(self.parent),
-            OrNone(self.lent),
+            OrWord(self.parent.map(u64::from), "none"),
+            OrWord(self.lent.map(u64::from), "none"),
             self.waiting
         )
     }
