@@ -1,7 +1,7 @@
 //! The words of `junk`.
 ghost use Rattle.network_words.specs.command_faults.Ends.{DoneMeansZero};
 
-use crate::seeds::{SEED_PLACE, PLACED_SEED};
+use crate::seeds::{PLACED_SEED, SEED_PLACE};
 use clap::ArgMatches;
 use command_grammar::{FREE, Grammar, Number, Parameter, given_number};
 use network_words::refusal::Refusal;

@@ -28,5 +28,5 @@ mod threads;
 mod worst;
 
 pub use commands::run_words;
-pub use network_words::program::Runtime;
 pub use network_words::begin;
+pub use network_words::program::Runtime;

@@ -1,5 +1,5 @@
 //! The words of `scramble`.
-use crate::seeds::{SEED_PLACE, PLACED_SEED};
+use crate::seeds::{PLACED_SEED, SEED_PLACE};
 use clap::ArgMatches;
 use client_words::stop::warn_of_runner;
 use command_grammar::{FREE, Grammar, Parameter, given_number, word};

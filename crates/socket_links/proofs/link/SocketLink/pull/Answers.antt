@@ -37,8 +37,8 @@ returns-in-Some-look-clause-pulled g c =
     let was : l.pipe ≡ Some c.in-Some-pipe.pipe = sym c.look.ensures.pipe ∙ c.in-Some-pipe.is in
     let flows =
     flows_got (ranges_of c.args.net.now) g.P.Pipe.gave g.P.Pipe.took g.P.Pipe.counts l c.look-in-Got.new.self c.in-Some-pipe.pipe c.try_read.new.self was c.look-in-Got.ensures.pipe c.look.new.self.reader
-        (waiting c.look.new.self) (take c.in-Got.count c.try_read.new.buffer) (c.in-Some-look.frame ∷ []) c.in-Got.ensures.reads.2 c.in_default.ensures.looked c.in_default.ensures.all
-        c.in-Some-look.ensures.looked c.try_read.ensures.took (c.look-in-Got.ensures.unsent ∙ c.in_default.ensures.unsent) in
+    (waiting c.look.new.self) (take c.in-Got.count c.try_read.new.buffer) (c.in-Some-look.frame ∷ []) c.in-Got.ensures.reads.2 c.in_default.ensures.looked c.in_default.ensures.all
+    c.in-Some-look.ensures.looked c.try_read.ensures.took (c.look-in-Got.ensures.unsent ∙ c.in_default.ensures.unsent) in
     (flows.0, flows.1, rw c.look-in-Got.ensures.pipe refl)
 
 pub returns-in-None-clause-pulled : goal.returns-in-None-clause-pulled
@@ -54,8 +54,8 @@ returns-in-None-clause-pulled g c =
     let some : 0 < length bytes = omega (arith, len, reads.0) in
     let flows =
     flows_got r g.P.Pipe.gave g.P.Pipe.took g.P.Pipe.counts l new c.in-Some-pipe.pipe q was c.look-in-Got.ensures.pipe c.look.new.self.reader
-        (waiting c.look.new.self) bytes [] reads.2 c.in_default.ensures.looked c.in_default.ensures.all c.in-None.ensures.looked
-        c.try_read.ensures.took (c.look-in-Got.ensures.unsent ∙ c.in_default.ensures.unsent) in (
+    (waiting c.look.new.self) bytes [] reads.2 c.in_default.ensures.looked c.in_default.ensures.all c.in-None.ensures.looked
+    c.try_read.ensures.took (c.look-in-Got.ensures.unsent ∙ c.in_default.ensures.unsent) in (
       flows.0,
       flows.1,
       c.in-None.ensures.all,
