@@ -1,6 +1,7 @@
 //! The frames: each is a dot that travels along the half of its edge on which an event shows it, and rests in the
 //! middle while it is under way.
 ghost use Rattle.std.specs.Prelude.{◌≡◌, IfOk, OnOk, IsTrue, codes};
+ghost use Rattle.std.specs.List.{list_any};
 ghost use Rattle.svg_drawing.specs.Grouped.{grouped_of};
 ghost use Rattle.run_film.specs.Beats.{film_of};
 ghost use Rattle.run_film.specs.Films.{drawn, Keeps};
@@ -101,11 +102,14 @@ fn is_done(deed: Deed, event: Option<Event>, u: u16, v: u16) -> bool
 fn is_done_in(shown: Shown<'_>, deed: Deed, u: u16, v: u16) -> bool
     ensures { result ≡ done_in (film_of shown.entry) deed u v }
 {
-    is_done(deed, shown.opening().event, u, v)
-        || shown
-            .later()
-            .iter()
-            .any(|still| is_done(deed, still.event, u, v))
+    is_done(deed, shown.opening().event, u, v) || any_does(shown.later(), deed, u, v)
+}
+
+/// Whether the last event of some of these stills does it.
+fn any_does(stills: &[Still], deed: Deed, u: u16, v: u16) -> bool
+    ensures { result ≡ list_any (λ still. is_done deed still.event u v) stills.now }
+{
+    stills.iter().any(|still| is_done(deed, still.event, u, v))
 }
 
 /// The symbol of what is done with a frame from a node to another.

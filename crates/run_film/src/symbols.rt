@@ -1,6 +1,7 @@
 //! The symbols of which a film is made: each has a short name, and is drawn where a part shows it.
 ghost use Rattle.std.specs.Prelude.{◌≡◌, ◌++◌, ℕ, IfOk, OnOk, codes};
 ghost use Rattle.std.specs.Prelude.{List, decimal};
+ghost use Rattle.std.specs.List.{list_any};
 ghost use Rattle.svg_drawing.specs.Grouped.{grouped_of};
 ghost use Rattle.run_film.specs.Beats.{film_of};
 ghost use Rattle.run_film.specs.Films.{drawn, Keeps};
@@ -170,11 +171,14 @@ fn distance_text(alloc: Global, distance: u16) -> Result<Group, AllocError>
 pub fn is_parent(shown: Shown<'_>, v: u16, parent: u16) -> bool
     ensures { result ≡ parents_in (film_of shown.entry) v parent }
 {
-    has_parent(shown.opening(), v, parent)
-        || shown
-            .later()
-            .iter()
-            .any(|still| has_parent(still, v, parent))
+    has_parent(shown.opening(), v, parent) || any_has_parent(shown.later(), v, parent)
+}
+
+/// Whether a node has another for its parent in some of these stills.
+fn any_has_parent(stills: &[Still], v: u16, parent: u16) -> bool
+    ensures { result ≡ list_any (λ still. has_parent still v parent) stills.now }
+{
+    stills.iter().any(|still| has_parent(still, v, parent))
 }
 
 /// Whether a node has another for its parent in a still.

@@ -1,5 +1,6 @@
 //! Frames that wait: they are under way, and the last event did not just send them.
 ghost use Rattle.std.specs.Prelude.{◌≡◌, IfOk, OnOk, IsTrue, codes};
+ghost use Rattle.std.specs.List.{list_any};
 ghost use Rattle.svg_drawing.specs.Grouped.{grouped_of};
 ghost use Rattle.run_film.specs.Beats.{film_of};
 ghost use Rattle.run_film.specs.Films.{drawn, Keeps};
@@ -47,7 +48,14 @@ fn sends(event: Option<Event>, u: u16, v: u16) -> bool
 pub fn waits_in(shown: Shown<'_>, u: u16, v: u16) -> bool
     ensures { result ≡ waits_in (film_of shown.entry) u v }
 {
-    is_waiting(shown.opening(), u, v) || shown.later().iter().any(|still| is_waiting(still, u, v))
+    is_waiting(shown.opening(), u, v) || any_waits(shown.later(), u, v)
+}
+
+/// Whether one waits in some of these stills.
+fn any_waits(stills: &[Still], u: u16, v: u16) -> bool
+    ensures { result ≡ list_any (λ still. is_waiting still u v) stills.now }
+{
+    stills.iter().any(|still| is_waiting(still, u, v))
 }
 
 /// The symbol of a frame that waits between two nodes, if one does in some still.
