@@ -9,8 +9,8 @@ use Rattle.command_grammar.specs.declared.words.WordFault.TheVariants.{NoNumber}
 use Rattle.command_faults.specs.declared.fault.Fault.TheVariants.{Memory}
 use Rattle.lock_words.specs.Words.{texts}
 use Rattle.client_words.specs.Interval.{interval}
-use Rattle.network_words.specs.declared.refusal.Refusal.{Refusal}
-use Rattle.network_words.specs.declared.refusal.Refusal.TheVariants.{Word, Fault}
+use Rattle.command_words.specs.declared.refusal.Refusal.{Refusal}
+use Rattle.command_words.specs.declared.refusal.Refusal.TheVariants.{Word, Fault}
 use Rattle.client_words.specs.declared.status.Shown.{Shown}
 use Rattle.client_words.specs.declared.status.Shown.TheVariants as shown
 use Rattle.status_command.specs.declared.Form.{Form}

@@ -6,7 +6,7 @@
 //! let status = run_words(rt, &["tokentree", "lock"]);          // TOKENTREE_DIR may stand in for a folder
 //! ```
 //!
-//! The work of a command is in `lock_command`, `status_command` or `node_stopping`; `network_words`
+//! The work of a command is in `lock_command`, `status_command` or `node_stopping`; `command_words`
 //! has what the lines of all commands share.
 //!
 //! The trap: the parser decides which words a command takes, and no contract covers it; tests try

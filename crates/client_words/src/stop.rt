@@ -2,8 +2,8 @@
 use crate::status::{IDS, ids};
 use clap::ArgMatches;
 use command_grammar::{FREE, Grammar, Number, Parameter, given_number, word};
-use network_words::program::{DIR, Runtime};
-use network_words::refusal::Refusal;
+use command_words::program::{DIR, Runtime};
+use command_words::refusal::Refusal;
 pub use node_stopping::warn_of_runner;
 use std::process::ExitCode;
 

@@ -4,8 +4,8 @@ use Rattle.clap.specs.declared.parser.matches.Found.{Found}
 use Rattle.command_grammar.specs.Given.{IsGiven, IsFlag, IsRefused}
 use Rattle.subcommands.specs.declared.measure.Plan.{Plan}
 use Rattle.command_line.specs.Scheduling.{IsSchedulerOf, IsSchedulerRefused}
-use Rattle.network_words.specs.declared.refusal.Refusal.{Refusal}
-use Rattle.network_words.specs.declared.refusal.Refusal.TheVariants.{Word}
+use Rattle.command_words.specs.declared.refusal.Refusal.{Refusal}
+use Rattle.command_words.specs.declared.refusal.Refusal.TheVariants.{Word}
 
 -- the numbers of `--runs` and `--seed`, or their defaults; the order of the events; a table with
 -- `--table`

@@ -7,9 +7,9 @@ use Rattle.command_grammar.specs.Given.{IsGiven, IsFlag, IsUnread}
 use Rattle.command_grammar.specs.declared.words.WordFault.TheVariants.{NoNumber, Absent}
 use Rattle.subcommands.specs.experiments.declared.measured_run.Scheduler.{Scheduler}
 use Rattle.subcommands.specs.experiments.declared.measured_run.Scheduler.TheVariants.{Rounds, Random, SlowLink, SlowNode}
-use Rattle.network_words.specs.declared.refusal.Refusal.{Refusal}
-use Rattle.network_words.specs.declared.refusal.Refusal.TheVariants.{Word, Schedule}
-use Rattle.network_words.specs.declared.refusal.ScheduleFault.TheVariants.{Unknown, SlowAlone}
+use Rattle.command_words.specs.declared.refusal.Refusal.{Refusal}
+use Rattle.command_words.specs.declared.refusal.Refusal.TheVariants.{Word, Schedule}
+use Rattle.command_words.specs.declared.refusal.ScheduleFault.TheVariants.{Unknown, SlowAlone}
 
 -- the order with a name, and with this share if something is slow in it
 abbrev pub scheduler_named : List ℕ → ℕ → Option Scheduler

@@ -6,9 +6,10 @@ use crate::{cut, draw, gather, junk, measure, schedule, scramble, simulate, thre
 use clap::ArgMatches;
 use client_words::{lock, status, stop};
 use command_grammar::Grammar;
-use network_words::program::Runtime;
-use network_words::refusal::Refusal;
-use network_words::{bound, ends, is_of_service, matches_of, network};
+use command_words::program::Runtime;
+use command_words::refusal::Refusal;
+use command_words::{ends, is_of_service, matches_of};
+use network_words::{bound, network};
 use process_line::{node, up};
 use std::convert::AsStr;
 use std::process::ExitCode;

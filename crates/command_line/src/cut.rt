@@ -2,8 +2,8 @@
 use clap::ArgMatches;
 use client_words::stop::warn_of_runner;
 use command_grammar::{FREE, Grammar, Number, Parameter, given_number, word};
-use network_words::program::Runtime;
-use network_words::refusal::{Refusal, ended};
+use command_words::program::Runtime;
+use command_words::refusal::{Refusal, ended};
 use std::process::ExitCode;
 use subcommands::cut;
 

@@ -1,13 +1,13 @@
 //! The words of `gather`.
 ghost use Rattle.std.specs.Prelude.{IfErr, IfOk};
-ghost use Rattle.network_words.specs.command_faults.Ends.{DoneMeansZeroOr};
+ghost use Rattle.command_words.specs.command_faults.Ends.{DoneMeansZeroOr};
 ghost use Rattle.clap.specs.Matches.{found_of};
 ghost use Rattle.command_line.specs.Gather.{IsStretchOf, IsStretchRefused};
 
 use clap::ArgMatches;
 use command_grammar::{FREE, Grammar, Number, Parameter, WordFault, number_if_given, word};
+use command_words::refusal::Refusal;
 use gather_command::{Stretch, command};
-use network_words::refusal::Refusal;
 use std::process::ExitCode;
 use std::rt::Files;
 

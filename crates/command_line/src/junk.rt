@@ -1,10 +1,10 @@
 //! The words of `junk`.
-ghost use Rattle.network_words.specs.command_faults.Ends.{DoneMeansZero};
+ghost use Rattle.command_words.specs.command_faults.Ends.{DoneMeansZero};
 
 use crate::seeds::{PLACED_SEED, SEED_PLACE};
 use clap::ArgMatches;
 use command_grammar::{FREE, Grammar, Number, Parameter, given_number};
-use network_words::refusal::Refusal;
+use command_words::refusal::Refusal;
 use std::process::ExitCode;
 use subcommands::junk;
 

@@ -27,6 +27,6 @@ mod simulate;
 mod threads;
 mod worst;
 
+pub use command_words::begin;
+pub use command_words::program::Runtime;
 pub use commands::run_words;
-pub use network_words::begin;
-pub use network_words::program::Runtime;

@@ -1,6 +1,6 @@
 //! The words of `measure`.
 ghost use Rattle.std.specs.Prelude.{◌≡◌, Some, None, IfOk, IfErr, if◌then◌else◌, codes};
-ghost use Rattle.network_words.specs.command_faults.Ends.{DoneMeansZeroOr};
+ghost use Rattle.command_words.specs.command_faults.Ends.{DoneMeansZeroOr};
 ghost use Rattle.clap.specs.Matches.{found_of, one_text};
 ghost use Rattle.command_line.specs.Plan.{IsPlanOf, IsPlanRefused};
 ghost use Rattle.command_line.specs.Scheduling.{IsNamedRefused, IsNamedScheduler, IsSchedulerOf};
@@ -10,8 +10,8 @@ ghost use Rattle.subcommands.specs.experiments.declared.measured_run.Scheduler.T
 
 use clap::ArgMatches;
 use command_grammar::{FREE, Grammar, Number, Parameter, given_number, number_if_given, word};
-use network_words::program::{FILE, SEED};
-use network_words::refusal::{Refusal, ScheduleFault, ended};
+use command_words::program::{FILE, SEED};
+use command_words::refusal::{Refusal, ScheduleFault, ended};
 use std::process::ExitCode;
 use std::rt::Files;
 use std::thread::Threads;

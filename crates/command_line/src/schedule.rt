@@ -1,6 +1,6 @@
 //! The words of `schedule`.
 ghost use Rattle.std.specs.Prelude.{IfOk, IfErr, codes};
-ghost use Rattle.network_words.specs.command_faults.Ends.{DoneMeansZero};
+ghost use Rattle.command_words.specs.command_faults.Ends.{DoneMeansZero};
 ghost use Rattle.clap.specs.Matches.{found_of};
 ghost use Rattle.command_grammar.specs.Given.{IsGiven, IsRefused};
 ghost use Rattle.command_line.specs.Turns.{AreTurnsOf, AreTurnsRefused};
@@ -9,8 +9,8 @@ use clap::ArgMatches;
 use command_grammar::{
     Choice, FREE, Grammar, Number, Parameter, WordFault, given_number, number_if_given, word,
 };
-use network_words::program::{FILE, SEED};
-use network_words::refusal::Refusal;
+use command_words::program::{FILE, SEED};
+use command_words::refusal::Refusal;
 use std::process::ExitCode;
 use std::rt::Files;
 use subcommands::schedule::Turns;

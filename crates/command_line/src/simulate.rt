@@ -1,10 +1,10 @@
 //! The words of `simulate`.
-ghost use Rattle.network_words.specs.command_faults.Ends.{DoneMeansZeroOr};
+ghost use Rattle.command_words.specs.command_faults.Ends.{DoneMeansZeroOr};
 
 use clap::ArgMatches;
 use command_grammar::{FREE, Grammar, Parameter, word};
-use network_words::program::{EVENTS, FILE};
-use network_words::refusal::Refusal;
+use command_words::program::{EVENTS, FILE};
+use command_words::refusal::Refusal;
 use std::io::Input;
 use std::process::ExitCode;
 use std::rt::Files;

@@ -1,11 +1,11 @@
 //! The words of `threads`.
-ghost use Rattle.network_words.specs.command_faults.Ends.{DoneMeansZero};
+ghost use Rattle.command_words.specs.command_faults.Ends.{DoneMeansZero};
 
 use clap::ArgMatches;
 use command_grammar::{FREE, Grammar, Number, Parameter, given_number, word};
+use command_words::program::{FILE, Runtime};
+use command_words::refusal::Refusal;
 use live_commands::threads;
-use network_words::program::{FILE, Runtime};
-use network_words::refusal::Refusal;
 use std::process::ExitCode;
 
 /// What `threads` takes.

@@ -1,6 +1,6 @@
 //! The words of `worst`.
 ghost use Rattle.std.specs.Prelude.{IfOk, IfErr};
-ghost use Rattle.network_words.specs.command_faults.Ends.{DoneMeansZero};
+ghost use Rattle.command_words.specs.command_faults.Ends.{DoneMeansZero};
 ghost use Rattle.clap.specs.Matches.{found_of};
 ghost use Rattle.command_line.specs.Worst.{IsExtentOf, IsExtentRefused, IsSearchOf, IsSearchRefused};
 
@@ -8,8 +8,8 @@ use clap::ArgMatches;
 use command_grammar::{
     FREE, Grammar, Number, Parameter, WordFault, given_number, number_if_given, word,
 };
-use network_words::program::{FILE, Runtime, SEED};
-use network_words::refusal::Refusal;
+use command_words::program::{FILE, Runtime, SEED};
+use command_words::refusal::Refusal;
 use std::process::ExitCode;
 use subcommands::worst::{self, Extent, Plan};
 

@@ -1,11 +1,12 @@
-//! The window into a node: who is shown how it stands, and what they are shown.
+//! The window into a node: what it notes of itself, who is shown how it stands, and what they are shown.
 //!
 //! Whoever connects to a node's socket for lookers gets one line, a JSON object, and is closed. Nothing is
 //! read from them.
 //!
 //! ```
-//! notes.note_machine(counted_machine(node));                  // after each turn
-//! let line = line_of_node(alloc, node, &notes, &process, now)?;    // the node's own line, as it stands now
+//! let mut window = Window::open(rt, USUAL_LIMIT, "0.1.0", now);
+//! window.turn_ended(&node, ports, net.nodes(), has_granted, now);  // after each turn
+//! let line = window.line(alloc, &node, now)?;                      // the node's own line, as it stands now
 //! for place in 0..COMERS {
 //!     let Some(mut looker) = doors.looker() else { break };
 //!     if is_let_in(place) {
@@ -25,7 +26,10 @@ mod counted;
 pub mod laws;
 mod line;
 mod lookers;
+mod window;
 
 pub use counted::counted_machine;
 pub use line::{ProcessSaid, line_of_node};
 pub use lookers::{COMERS, LOOKERS, is_let_in, show};
+pub use turn_watch::USUAL_LIMIT;
+pub use window::Window;

@@ -1,10 +1,10 @@
 //! The words of `bound`.
-ghost use Rattle.command_faults.specs.Ends.{DoneMeansZero};
+ghost use Rattle.command_words.specs.command_faults.Ends.{DoneMeansZero};
 
-use crate::program::FILE;
-use crate::refusal::Refusal;
 use clap::ArgMatches;
 use command_grammar::{FREE, Grammar, Parameter, word};
+use command_words::program::FILE;
+use command_words::refusal::Refusal;
 use network_commands::{bound, bound_json};
 use recovery_times::{PremiseWords, Premises, TimeFault};
 use std::process::ExitCode;

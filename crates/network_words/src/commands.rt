@@ -1,10 +1,10 @@
 //! What the lines of `bound` and `network` do.
-use crate::line::{asks_for_version, ends, matches_of, say_version};
-use crate::program::Runtime;
-use crate::refusal::Refusal;
 use crate::{bound, network};
 use clap::ArgMatches;
 use command_grammar::Grammar;
+use command_words::program::Runtime;
+use command_words::refusal::Refusal;
+use command_words::{asks_for_version, ends, matches_of, say_version};
 use std::convert::AsStr;
 use std::process::ExitCode;
 

@@ -1,14 +1,14 @@
 //! The words of `network`.
 ghost use Rattle.std.specs.Prelude.{◌≡◌};
-ghost use Rattle.command_faults.specs.Ends.{DoneMeansZero};
+ghost use Rattle.command_words.specs.command_faults.Ends.{DoneMeansZero};
 ghost use Rattle.network_words.specs.Named.{kind_named, most_edges, usual_edges};
 
-use crate::program::SEED;
-use crate::refusal::{KindFault, Refusal};
 use clap::ArgMatches;
 use command_grammar::{
     FREE, Grammar, Number, Parameter, WordFault, given_number, number_if_given, word,
 };
+use command_words::program::SEED;
+use command_words::refusal::{KindFault, Refusal};
 use network_commands::network;
 use network_commands::network::Wanted;
 use network_kinds::{Kind, least_nodes, most_nodes};

@@ -1,9 +1,10 @@
 //! One neighbour of a node that runs: the frames to it and from it, and the hello before them.
 ghost use Rattle.std.specs.Prelude.{◌≡◌, ◌&&◌, not, true, false, None, Some, is_none, is_some};
-ghost use Rattle.std.specs.Prelude.{IfSome, if◌then◌else◌, [], ◌∷◌, ◌++◌};
+ghost use Rattle.std.specs.Prelude.{IfSome, if◌then◌else◌, [], ◌∷◌, ◌++◌, slice_get};
 ghost use Rattle.byte_lines.specs.Lines.{newline};
 ghost use Rattle.frame_codec.specs.Spelling.{spelling};
 ghost use Rattle.topology.specs.Ranges.{ranges_of};
+ghost use Rattle.node_connections.specs.LinkSights.{link_at};
 
 use crate::greeting::{Greeted, Greeting};
 use socket_links::{Flow, Offer, Pipe, Pull, SocketLink};
@@ -179,4 +180,12 @@ impl<P: Pipe> NodePort<P> {
         self.push_out();
         is_offered && self.offer(frame)
     }
+}
+
+/// What is seen of the link to a node, by these ports; none if the node has no port there.
+pub fn link_at<P: Pipe>(ports: &[NodePort<P>], id: u16) -> Option<LinkSight>
+    ensures { result ≡ link_at (slice_get ports.now id) }
+{
+    let port = ports.get(usize::from(id))?;
+    Some(port.sight())
 }

@@ -3,12 +3,11 @@
 //! What runs a node is generic in its doors: a proof over sockets takes three times as long.
 
 use crate::names::Whom;
-use node_connections::Doors;
 use process_parts::{FileId, Listener};
 use std::io;
 use std::io::Input;
 use std::net::Net;
-use unix_doors::{ClientSight, UnixDoors};
+use unix_doors::{ClientSight, Doors, UnixDoors};
 
 /// The doors of a node's process.
 pub trait ProcessDoors: Doors {

@@ -1,4 +1,5 @@
 pub use Rattle.node_connections.specs as node_connections
+pub use Rattle.node_core.specs as node_core
 pub mod Deeds
 pub mod Answers
 pub mod Clients

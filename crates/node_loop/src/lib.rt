@@ -42,6 +42,7 @@ mod sight;
 mod turned;
 
 pub use node_connections::{Door, Doors};
+pub use node_core::Node;
 pub use notes::Notes;
 pub use run::{NodeRun, Unmade};
 pub use turned::Turned;

@@ -232,6 +232,13 @@ impl<D: Doors, S: Store + Drop, A: Allocator + Copy> NodeRun<D, S, A> {
         &self.node
     }
 
+    /// The ports, one for each node of the network, by id. Only those of neighbours have connections.
+    pub fn ports(&self) -> &[NodePort<D::P>]
+        ensures { result.now ≡ self.now.ports.items }
+    {
+        &self.ports
+    }
+
     /// The store.
     pub fn store(&self) -> &S
         ensures { result.now ≡ self.now.store }

@@ -1,4 +1,3 @@
 pub use Rattle.record_files.specs.process_parts as process_parts
 pub mod Ends
 pub mod Places
-pub mod Noted

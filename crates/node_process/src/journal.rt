@@ -1,12 +1,11 @@
 //! What a node says of itself on standard error while it runs.
 ghost use Rattle.std.specs.Prelude.{◌≡◌, None};
-ghost use Rattle.node_core.specs.View.{site_in, state_of};
+ghost use Rattle.node_loop.specs.node_core.View.{site_in, state_of};
 ghost use Rattle.node_process.specs.Places.{is_in_place};
 
-use node_core::Node;
 use node_folder::ClientSight;
 use node_log::{Event, LogLine, NodeLog, TurnSight};
-use node_loop::{Doors, NodeRun, Turned};
+use node_loop::{Doors, Node, NodeRun, Turned};
 use node_state_file::Store;
 use record_files::process_parts::NodeWords;
 use std::env;

@@ -13,11 +13,11 @@
 //! has other neighbours, under the name `record.toml.U` first.
 //!
 //! The crate `node_loop` has the turn of a node, over doors; `node_folder` has the node's place, its
-//! sockets and its doors, `record_files` the files of a record, and `node_texts` the names of files and
+//! sockets and its doors, `record_files` its record, and `node_texts` the names of files and
 //! the lines that are printed. `node_keeping` decides what a node
 //! does after each 256th turn; `look_window` decides what lookers are shown. Contracts know nothing of
 //! the system's answers, so the functions that call it promise little: in which order a start goes,
-//! which fault ends it, and what a node notes of a turn.
+//! which fault ends it, and what watches a turn.
 //!
 //! The trap: whoever can open the sockets can take the lock. The folder is made so that only its
 //! owner can enter it.
@@ -27,10 +27,8 @@ mod journal;
 pub mod node;
 mod observer;
 mod start;
-mod tape;
-mod window;
 
+pub use look_window::USUAL_LIMIT;
 pub use record_files::process_parts::{
     NodeFault, NodeWords, RecordSize, Refusal, Rights, USUAL_SIZE,
 };
-pub use turn_watch::USUAL_LIMIT;

@@ -214,7 +214,10 @@ fn show_all<R, D: ProcessDoors, S: Store + Drop>(
 where
     R: Files<File = File> + Clock + Eprint + AllocGlobal,
 {
-    if let Ok(line) = observer.window.line(alloc, run, observer.watch.last()) {
+    if let Ok(line) = observer
+        .window
+        .line(alloc, run.node(), observer.watch.last())
+    {
         show_line(run.doors(), line.as_bytes());
     }
 }

@@ -1,13 +1,16 @@
 //! What watches a node while it runs.
-ghost use Rattle.std.specs.Prelude.{◌≡◌, ◌↔◌, None, IfOk, IsSome};
+ghost use Rattle.std.specs.Prelude.{◌≡◌, ◌↔◌, ◌||◌, ◌+◌, None, IfOk, IfSome, IsSome, false, not, is_some, length, min};
+ghost use Rattle.std.specs.Prelude.{slice_index_or};
+ghost use Rattle.record_files.specs.node_recorder.Quiet.{is_quiet};
+ghost use Rattle.record_files.specs.Noted.{is_linked, link_changes, RecordsTurn};
 
 use crate::journal::Journal;
-use crate::tape::Tape;
-use crate::window::Window;
+use look_window::Window;
 use node_folder::{ClientSight, Stopwatch};
 use node_log::Event;
 use node_loop::{Doors, NodeRun, Notes, Turned};
 use node_state_file::Store;
+use record_files::Tape;
 use record_files::process_parts::{NodeFault, NodeWords};
 use std::fs::File;
 use std::rt::{Clock, Env, Files};
@@ -87,7 +90,13 @@ impl<'a, 'w, R: Files<File = File> + Clock + Eprint + AllocGlobal> Observer<'a, 
     {
         let turned = run.turn(now, &mut self.notes);
         let ended = self.watch.now();
-        self.window.turn_ended(run, &turned, ended);
+        self.window.turn_ended(
+            run.node(),
+            run.ports(),
+            run.net().nodes(),
+            turned.has_granted(),
+            ended,
+        );
         turned
     }
 
@@ -101,6 +110,13 @@ impl<'a, 'w, R: Files<File = File> + Clock + Eprint + AllocGlobal> Observer<'a, 
         now: u64,
     )
         ensures off { self.old.tape ≡ None → self.new.tape ≡ None }
+        // A record that has not stopped has the turn.
+        ensures recorded { IfSome self.old.tape (λ old. old.recorder.pages.is_stopped ≡ false
+            → IfSome self.new.tape (λ new. RecordsTurn (min (old.start + now) 18446744073709551615)
+            self.old.notes.deeds (not self.old.notes.is_torn)
+            (not (is_quiet self.old.notes.deeds || is_some turned.now.saved)) run.now.node
+            (link_changes (λ id. slice_index_or old.linked id false) (is_linked run.now.ports.items)
+            (min (length run.now.ports.items) 64)) old.recorder new.recorder)) }
         ensures others { (self.new.window ≡ self.old.window) × (self.new.watch ≡ self.old.watch)
             × (self.new.notes ≡ self.old.notes) }
     {
@@ -115,7 +131,7 @@ impl<'a, 'w, R: Files<File = File> + Clock + Eprint + AllocGlobal> Observer<'a, 
         ensures off { self.old.tape ≡ None → self.new.tape ≡ None }
     {
         let ended = self.watch.now();
-        self.window.attended(run, ended);
+        self.window.attended(run.node(), ended);
         self.record(run, false, now);
     }
 
@@ -129,11 +145,19 @@ impl<'a, 'w, R: Files<File = File> + Clock + Eprint + AllocGlobal> Observer<'a, 
         now: u64,
     )
         ensures off { self.old.tape ≡ None → self.new ≡ self.old }
+        // A record that has not stopped has the turn.
+        ensures recorded { IfSome self.old.tape (λ old. old.recorder.pages.is_stopped ≡ false
+            → IfSome self.new.tape (λ new. RecordsTurn (min (old.start + now) 18446744073709551615)
+            self.old.notes.deeds (not self.old.notes.is_torn)
+            (not (is_quiet self.old.notes.deeds || must_settle)) run.now.node
+            (link_changes (λ id. slice_index_or old.linked id false) (is_linked run.now.ports.items)
+            (min (length run.now.ports.items) 64)) old.recorder new.recorder)) }
         ensures others { (self.new.journal ≡ self.old.journal) × (self.new.window ≡ self.old.window)
             × (self.new.watch ≡ self.old.watch) × (self.new.notes ≡ self.old.notes) }
     {
         if let Some(tape) = &mut self.tape {
-            tape.turn_ended(run, &self.notes, must_settle, now);
+            let (deeds, has_all) = (self.notes.deeds(), self.notes.has_all());
+            tape.turn_ended(run.node(), run.ports(), deeds, has_all, must_settle, now);
         }
     }
 
@@ -142,7 +166,7 @@ impl<'a, 'w, R: Files<File = File> + Clock + Eprint + AllocGlobal> Observer<'a, 
         ensures off { self.old.tape ≡ None → self.new ≡ self.old }
     {
         if let Some(tape) = &mut self.tape {
-            tape.rewired(words, run);
+            tape.rewired(words, run.net(), run.node());
         }
     }
 
@@ -173,7 +197,7 @@ fn recording<'a, R: Files<File = File> + Clock + Eprint + AllocGlobal, D: Doors,
     let Some(size) = words.record_size else {
         return Ok((Notes::none(), None));
     };
-    let tape = Tape::open(rt, words, size, run, now)?;
+    let tape = Tape::open(rt, words, size, run.net(), run.node(), now)?;
     match Notes::with_room(rt.alloc()) {
         Ok(notes) => Ok((notes, Some(tape))),
         Err(_) => {

@@ -1,14 +1,13 @@
 //! How a node that has its place starts: its state is loaded, and its doors are opened.
 ghost use Rattle.std.specs.Prelude.{◌≡◌, ◌<◌, true, IfOk, IfErr};
-ghost use Rattle.node_core.specs.Site.{site_of};
-ghost use Rattle.node_core.specs.View.{site_in};
+ghost use Rattle.node_loop.specs.node_core.Site.{site_of};
+ghost use Rattle.node_loop.specs.node_core.View.{site_in};
 ghost use Rattle.record_files.specs.process_parts.Start.{may_end};
 ghost use Rattle.record_files.specs.process_parts.declared.fault.NodeFault.TheVariants.{Memory};
 ghost use Rattle.record_files.specs.process_parts.declared.start.Stage.TheVariants.{Held, Ready};
 
-use node_core::Node;
 use node_folder::{Names, Opener, Seat, say_ready};
-use node_loop::{Doors, NodeRun};
+use node_loop::{Doors, Node, NodeRun};
 use node_state_file::{Started, Store, start};
 use record_files::process_parts::{NodeFault, NodeWords, Stage};
 use std::alloc::Global;

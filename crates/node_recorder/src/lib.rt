@@ -31,5 +31,6 @@ mod recorder;
 
 pub use flight_recorder::{Deed, LEAST_SIZE, Recorder, Side, record_name};
 pub use name::network_name;
+pub use node_follower::Node;
 pub use quiet::is_quiet;
 pub use recorder::{NodeRecorder, network_mark};

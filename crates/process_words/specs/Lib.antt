@@ -1,4 +1,4 @@
-pub use Rattle.network_words.specs as network_words
+pub use Rattle.command_words.specs as command_words
 pub mod GivenRights
 pub mod LogAndRecord
 pub mod Manner

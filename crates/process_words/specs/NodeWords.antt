@@ -12,9 +12,9 @@ use Rattle.process_parts.specs.declared.words.UpWords.{UpWords}
 use Rattle.process_words.specs.GivenRights.{AreRightsOf}
 use Rattle.process_words.specs.LogAndRecord.{IsLogOf, IsSizeOf}
 use Rattle.process_words.specs.Manner.{IsMannerOf, IsMannerRefused, IsLimitOf, IsLimitRefused}
-use Rattle.network_words.specs.Refused.{IsIdRefused, IsMissing}
-use Rattle.network_words.specs.declared.refusal.Refusal.{Refusal}
-use Rattle.network_words.specs.declared.refusal.Refusal.TheVariants.{Word, Time}
+use Rattle.command_words.specs.Refused.{IsIdRefused, IsMissing}
+use Rattle.command_words.specs.declared.refusal.Refusal.{Refusal}
+use Rattle.command_words.specs.declared.refusal.Refusal.TheVariants.{Word, Time}
 
 -- what the options say that `node` and `up` share: the pace of a node, and after how long a turn is late; who may use its
 -- sockets; its log and its record

@@ -7,7 +7,7 @@
 //! ```
 //!
 //! The work of the two is in `node_process` and `up_process`, which `process_line` calls with these
-//! words; `network_words` has what the lines of all commands share.
+//! words; `command_words` has what the lines of all commands share.
 //!
 //! The trap: the parser decides which words a command takes, and no contract covers it; tests try
 //! command lines.

@@ -6,8 +6,8 @@ ghost use Rattle.process_words.specs.NodeWords.{IsNodeOf, AreNodeWordsRefused};
 use crate::options::{DIR, OPTIONS, late_after, log_level, manner, record_size, rights};
 use clap::ArgMatches;
 use command_grammar::{FREE, Grammar, Parameter, given_number, word};
-use network_words::program::{FILE, ID, VERSION};
-use network_words::refusal::Refusal;
+use command_words::program::{FILE, ID, VERSION};
+use command_words::refusal::Refusal;
 use process_parts::NodeWords;
 
 /// What `node` takes.

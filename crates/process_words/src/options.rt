@@ -10,7 +10,7 @@ ghost use Rattle.process_words.specs.Manner.{IsLimitOf, IsLimitRefused};
 
 use clap::ArgMatches;
 use command_grammar::{Number, Parameter, WordFault, number_if_given};
-use fault_hints::{explain_network, explain_swap};
+use command_words::{explain_network, explain_swap};
 use node_log::Level;
 use pace::Manner;
 use process_parts::{NodeFault, RecordSize, Refusal, Rights, USUAL_SIZE};

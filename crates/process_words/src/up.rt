@@ -6,8 +6,8 @@ ghost use Rattle.process_words.specs.NodeWords.{AreUpWordsRefused, IsUpOf};
 use crate::options::{DIR, OPTIONS, late_after, log_level, manner, record_size, rights};
 use clap::ArgMatches;
 use command_grammar::{FREE, Grammar, word};
-use network_words::program::FILE;
-use network_words::refusal::Refusal;
+use command_words::program::FILE;
+use command_words::refusal::Refusal;
 use process_parts::UpWords;
 
 /// What `up` takes.

@@ -1,1 +1,3 @@
+pub mod Noted
 mod Rows
+mod RowsNoted

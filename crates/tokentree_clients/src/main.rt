@@ -8,7 +8,7 @@
 #![tactic(auto)]
 
 use client_words::run_words;
-use network_words::begin;
+use command_words::begin;
 use std::process::ExitCode;
 
 fn main(rt: HostRuntime) -> ExitCode {

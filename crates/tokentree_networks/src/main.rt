@@ -11,7 +11,8 @@
 //! ```
 #![tactic(auto)]
 
-use network_words::{begin, run_words};
+use command_words::begin;
+use network_words::run_words;
 use std::process::ExitCode;
 
 fn main(rt: HostRuntime) -> ExitCode {

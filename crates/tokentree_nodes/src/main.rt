@@ -7,7 +7,7 @@
 //! ```
 #![tactic(auto)]
 
-use network_words::begin;
+use command_words::begin;
 use process_line::run_words;
 use std::process::ExitCode;
 

@@ -13,7 +13,7 @@ ghost use Rattle.node_connections.specs.Loose.{AreKept, AreLoose};
 
 use crate::run::NodeRun;
 use node_connections::Doors;
-use node_connections::port::NodePort;
+use node_connections::port::{NodePort, link_at};
 use node_core::Node;
 use socket_links::Pipe;
 use state_writing::{Store, StoreFault, encode};
@@ -85,16 +85,8 @@ impl<D: Doors, S: Store + Drop, A: Allocator + Copy> NodeRun<D, S, A> {
         ensures strangers { ¬ Contains (site_in self.now.node).neighbours id
             → IfSome result (λ sight. sight.is_up ≡ false) }
     {
-        link_seen(&self.ports, id)
+        link_at(&self.ports, id)
     }
-}
-
-/// What is seen of the link to a node; none if it has no port.
-fn link_seen<P: Pipe>(ports: &[NodePort<P>], id: u16) -> Option<LinkSight>
-    ensures { result ≡ link_at (slice_get ports.now id) }
-{
-    let port = ports.get(usize::from(id))?;
-    Some(port.sight())
 }
 
 /// Closes the connections of those who are no neighbours of the node.

@@ -6,5 +6,5 @@ use Rattle.node_loop.proofs.run.NodeRun.link.Goals as goal
 pub returns-clause-strangers : goal.returns-clause-strangers
 returns-clause-strangers g c none =
     let port = slice_get c.args.self.now.ports.items c.args.id in
-    let is : c.link_seen.result ≡ link_at port = rw c.deref.ensures.value at c.link_seen.ensures in
+    let is : c.link_at.result ≡ link_at port = rw c.deref.ensures.value at c.link_at.ensures in
     subst (λ x. IfSome x (λ sight. sight.is_up ≡ false)) (sym is) (loose-down port (c.args.self.now.strangers c.args.id none))

@@ -1,31 +1,31 @@
 //! A node's record, in two files of its folder.
 ghost use Rattle.std.specs.Prelude.{◌≡◌, ◌≢◌, ◌⊎◌, ◌||◌, IfOk, IsTrue, true, false};
 ghost use Rattle.std.specs.Prelude.{◌∷◌, ◌+◌, ◌<◌, [], ℕ, if◌then◌else◌, length, min, not, slice_index_or};
-ghost use Rattle.record_files.specs.node_recorder.flight_recorder.Recorder.{after_failure, after_write, is_due};
-ghost use Rattle.record_files.specs.node_recorder.flight_recorder.flight_records.declared.entry.Deed.TheVariants.{Connects, Disconnects};
-ghost use Rattle.node_core.specs.View.{site_in};
-ghost use Rattle.record_files.specs.node_recorder.Backlog.{nothing};
-ghost use Rattle.record_files.specs.node_recorder.node_follower.Following.{FitsNetwork};
-ghost use Rattle.record_files.specs.node_recorder.Quiet.{is_quiet};
-ghost use Rattle.record_files.specs.node_recorder.Turns.{Records};
-ghost use Rattle.node_process.specs.Noted.{is_linked, is_seen_up, link_changes, IsWrittenOrNot, RecordsEach};
-ghost use Rattle.node_process.specs.Noted.{RecordsTurn};
+ghost use Rattle.node_recorder.specs.flight_recorder.Recorder.{after_failure, after_write, is_due};
+ghost use Rattle.node_recorder.specs.flight_recorder.flight_records.declared.entry.Deed.TheVariants.{Connects, Disconnects};
+ghost use Rattle.node_recorder.specs.node_follower.node_core.View.{site_in};
+ghost use Rattle.node_recorder.specs.Backlog.{nothing};
+ghost use Rattle.node_recorder.specs.node_follower.Following.{FitsNetwork};
+ghost use Rattle.node_recorder.specs.Quiet.{is_quiet};
+ghost use Rattle.node_recorder.specs.Turns.{Records};
+ghost use Rattle.record_files.specs.Noted.{is_linked, link_changes, IsWrittenOrNot, RecordsEach};
+ghost use Rattle.record_files.specs.Noted.{RecordsTurn};
 ghost use Rattle.record_files.specs.Files.{file_bytes, AreFirstPages};
 
-use node_core::Node;
-use node_loop::{Doors, NodeRun, Notes};
-use node_state_file::Store;
-use record_files::node_recorder::{Deed, NodeRecorder, is_quiet, network_mark};
-use record_files::process_parts::{NodeFault, NodeWords, RecordSize};
-use record_files::{
-    KeepWords, NotKept, RecordFiles, RecordNames, first_pages, keep_network, micros_now,
-};
+use crate::instants::micros_now;
+use crate::kept_network::{KeepWords, NotKept, keep_network};
+use crate::names::RecordNames;
+use crate::pages::first_pages;
+use crate::writing::RecordFiles;
+use node_connections::Pipe;
+use node_connections::port::{NodePort, link_at};
+use node_recorder::{Deed, Node, NodeRecorder, is_quiet, network_mark};
+use process_parts::{NodeFault, NodeWords, RecordSize};
 use std::alloc::AllocError;
 use std::fmt::Display;
 use std::fs::File;
 use std::rt::{Clock, Files};
 use topology::Net;
-use turn_watch::LinkSight;
 
 /// The most nodes of a network.
 const NODES: usize = 64;
@@ -52,22 +52,23 @@ impl<'a, R: Files<File = File> + Clock + Eprint + AllocGlobal> Tape<'a, R> {
     ///
     /// # Errors
     /// If memory runs out, or the network has no such node.
-    pub fn open<D: Doors, S: Store + Drop>(
+    pub fn open(
         rt: &'a R,
         words: &NodeWords<'_>,
         size: RecordSize,
-        run: &NodeRun<D, S>,
+        net: &Net,
+        node: &Node,
         now: u64,
     ) -> Result<Tape<'a, R>, NodeFault>
         ensures { IfOk result (λ tape. AreFirstPages (file_bytes size) tape.recorder.pages) }
     {
-        let id = run.node().id();
-        if id >= run.net().nodes() {
-            return Err(NodeFault::NoNode(run.net().nodes()));
+        let id = node.id();
+        if id >= net.nodes() {
+            return Err(NodeFault::NoNode(net.nodes()));
         }
-        keep(rt, words, run.net());
+        keep(rt, words, net);
         let names = RecordNames::new(rt.alloc(), words.dir, id)?;
-        match first_recorder(rt, &names, size, run.net(), run.node()) {
+        match first_recorder(rt, &names, size, net, node) {
             Ok(recorder) => Ok(Tape {
                 rt,
                 recorder,
@@ -82,47 +83,45 @@ impl<'a, R: Files<File = File> + Clock + Eprint + AllocGlobal> Tape<'a, R> {
         }
     }
 
-    /// The node took a turn, or did something between two turns, and noted its deeds. `now` is when
-    /// it began, by the node's clock. If `must_settle` is yes, no deed may wait to be noted: the node may
-    /// have other neighbours before its next turn, or end. A record that has stopped sees nothing.
-    pub fn turn_ended<D: Doors, S: Store + Drop>(
+    /// The node took a turn, or did something between two turns, and did these deeds in it, or more than are
+    /// noted. It has a port for each node, by id. `now` is when it began, by the node's clock. If
+    /// `must_settle` is yes, no deed may wait to be noted: the node may have other neighbours before its
+    /// next turn, or end. A record that has stopped sees nothing.
+    pub fn turn_ended<P: Pipe>(
         &mut self,
-        run: &NodeRun<D, S>,
-        notes: &Notes,
+        node: &Node,
+        ports: &[NodePort<P>],
+        deeds: &[Deed],
+        has_all: bool,
         must_settle: bool,
         now: u64,
     )
         ensures stopped { self.old.recorder.pages.is_stopped ≡ true → self.new ≡ self.old }
         // A page that is due is written, or the record stops.
-        ensures written { is_due (is_quiet notes.now.deeds) self.new.recorder.pages ≡ false }
+        ensures written { is_due (is_quiet deeds.now) self.new.recorder.pages ≡ false }
         // After a quiet turn, and if none may wait, no deed waits to be noted.
         ensures settled { self.old.recorder.pages.is_stopped ≡ false
-            → IsTrue (is_quiet notes.now.deeds || must_settle) → self.new.recorder.backlog ≡ nothing }
+            → IsTrue (is_quiet deeds.now || must_settle) → self.new.recorder.backlog ≡ nothing }
         // The deeds are recorded, and then the connections that began or ended since it was seen last.
         ensures noted { self.old.recorder.pages.is_stopped ≡ false
-            → RecordsTurn (min (self.old.start + now) 18446744073709551615) notes.now.deeds
-            (not notes.now.is_torn) (not (is_quiet notes.now.deeds || must_settle)) run.now.node
+            → RecordsTurn (min (self.old.start + now) 18446744073709551615) deeds.now
+            has_all (not (is_quiet deeds.now || must_settle)) node.now
             (link_changes (λ id. slice_index_or self.old.linked id false)
-            (is_linked run.now.ports.items) (min run.now.net.nodes 64))
+            (is_linked ports.now) (min (length ports.now) 64))
             self.old.recorder self.new.recorder }
         ensures linked { self.old.recorder.pages.is_stopped ≡ false
-            → (id : ℕ) → id < min run.now.net.nodes 64
-            → slice_index_or self.new.linked id false ≡ is_linked run.now.ports.items id }
+            → (id : ℕ) → id < min (length ports.now) 64
+            → slice_index_or self.new.linked id false ≡ is_linked ports.now id }
     {
         if self.recorder.pages().is_stopped() {
             return;
         }
         let instant = self.start.saturating_add(now);
-        let is_quiet = is_quiet(notes.deeds());
-        let may_wait = !is_quiet && !must_settle;
-        self.recorder.turn_ended(
-            run.node(),
-            notes.deeds(),
-            notes.has_all(),
-            may_wait,
-            instant,
-        );
-        self.note_links(run, may_wait, instant);
+        let is_quiet = is_quiet(deeds);
+        let may_wait = may_wait(is_quiet, must_settle);
+        self.recorder
+            .turn_ended(node, deeds, has_all, may_wait, instant);
+        self.note_links(node, ports, may_wait, instant);
         self.write_if_due(is_quiet);
     }
 
@@ -142,63 +141,58 @@ impl<'a, R: Files<File = File> + Clock + Eprint + AllocGlobal> Tape<'a, R> {
     }
 
     /// Notes the connections that began or ended.
-    fn note_links<D: Doors, S: Store + Drop>(
+    fn note_links<P: Pipe>(
         &mut self,
-        run: &NodeRun<D, S>,
+        node: &Node,
+        ports: &[NodePort<P>],
         may_wait: bool,
         instant: u64,
     )
         ensures files { self.new.files ≡ self.old.files }
         ensures settled { may_wait ≡ false → self.old.recorder.backlog ≡ nothing
             → self.new.recorder.backlog ≡ nothing }
-        ensures noted { RecordsEach instant may_wait run.now.node
+        ensures noted { RecordsEach instant may_wait node.now
             (link_changes (λ id. slice_index_or self.old.linked id false)
-            (is_linked run.now.ports.items) (min run.now.net.nodes 64))
+            (is_linked ports.now) (min (length ports.now) 64))
             self.old.recorder self.new.recorder }
-        ensures linked { (id : ℕ) → id < min run.now.net.nodes 64
-            → slice_index_or self.new.linked id false ≡ is_linked run.now.ports.items id }
+        ensures linked { (id : ℕ) → id < min (length ports.now) 64
+            → slice_index_or self.new.linked id false ≡ is_linked ports.now id }
     {
-        let nodes = usize::from(run.net().nodes()).min(NODES);
+        let nodes = ports.len().min(NODES);
         for id in 0..nodes {
             let neighbour = id as u16;
-            let is_linked = is_up(run.link(neighbour));
+            let is_linked = is_linked(ports, neighbour);
             if is_linked != self.linked[id] {
                 self.linked[id] = is_linked;
-                self.note_link(run, link_deed(neighbour, is_linked), may_wait, instant);
+                self.note_link(node, link_deed(neighbour, is_linked), may_wait, instant);
             }
         }
     }
 
     /// Notes that a connection began or ended.
-    fn note_link<D: Doors, S: Store + Drop>(
-        &mut self,
-        run: &NodeRun<D, S>,
-        deed: Deed,
-        may_wait: bool,
-        instant: u64,
-    )
+    fn note_link(&mut self, node: &Node, deed: Deed, may_wait: bool, instant: u64)
         ensures files { (self.new.files ≡ self.old.files) × (self.new.linked ≡ self.old.linked) }
-        ensures noted { Records instant (deed ∷ []) true may_wait run.now.node self.old.recorder
+        ensures noted { Records instant (deed ∷ []) true may_wait node.now self.old.recorder
             self.new.recorder }
         ensures settled { may_wait ≡ false → self.old.recorder.backlog ≡ nothing
             → self.new.recorder.backlog ≡ nothing }
     {
         self.recorder
-            .turn_ended(run.node(), &[deed], true, may_wait, instant);
+            .turn_ended(node, &[deed], true, may_wait, instant);
     }
 
     /// The node may have other neighbours from now on. If so, the network's text is kept again.
-    pub fn rewired<D: Doors, S: Store + Drop>(&mut self, words: &NodeWords<'_>, run: &NodeRun<D, S>)
+    pub fn rewired(&mut self, words: &NodeWords<'_>, net: &Net, node: &Node)
         ensures pages { self.new.recorder.pages ≡ self.old.recorder.pages }
         // If it has, and no deed waits, its whole state is noted before its next deeds.
         ensures taken { (site_in self.old.recorder.follower).neighbours
-            ≢ (site_in run.now.node).neighbours → self.old.recorder.backlog ≡ nothing
-            → FitsNetwork run.now.net (site_in self.old.recorder.follower)
+            ≢ (site_in node.now).neighbours → self.old.recorder.backlog ≡ nothing
+            → FitsNetwork net.now (site_in self.old.recorder.follower)
             → self.new.recorder.is_rewired ≡ true }
     {
-        if !self.recorder.knows_neighbours_of(run.node()) {
-            self.recorder.rewire(run.net(), run.node());
-            keep(self.rt, words, run.net());
+        if !self.recorder.knows_neighbours_of(node) {
+            self.recorder.rewire(net, node);
+            keep(self.rt, words, net);
         }
     }
 
@@ -260,11 +254,18 @@ fn first_recorder<R: Files + AllocGlobal>(
     NodeRecorder::new(rt.alloc(), net, node, pages)
 }
 
-/// Whether a link is seen and up.
-fn is_up(link: Option<LinkSight>) -> bool
-    ensures { result ≡ is_seen_up link }
+/// Whether a turn's deeds may wait to be noted: not after a quiet turn, and not if none may wait.
+fn may_wait(is_quiet: bool, must_settle: bool) -> bool
+    ensures { result ≡ not (is_quiet || must_settle) }
 {
-    match link {
+    !is_quiet && !must_settle
+}
+
+/// Whether the connection with a node stands; false if the node has no port.
+fn is_linked<P: Pipe>(ports: &[NodePort<P>], id: u16) -> bool
+    ensures { result ≡ is_linked ports.now id }
+{
+    match link_at(ports, id) {
         Some(sight) => sight.is_up,
         None => false,
     }

@@ -1,14 +1,14 @@
 -- What becomes of a turn in a node's record.
 use Rattle.std.specs.Prelude.{◌≡◌, ◌⊎◌, ◌∷◌, [], ℕ, Bool, true, false, List, Option, None, Some, flat_map, slice_get}
 use Rattle.std.specs.List.{range_with_len}
-use Rattle.node_core.specs.View.{NodeView}
-use Rattle.node_loop.specs.node_connections.LinkSights.{link_at}
-use Rattle.node_loop.specs.node_connections.declared.port.NodePort.{NodePort}
-use Rattle.record_files.specs.node_recorder.flight_recorder.Recorder.{after_failure, after_write}
-use Rattle.record_files.specs.node_recorder.flight_recorder.flight_records.declared.entry.Deed.{Deed}
-use Rattle.record_files.specs.node_recorder.flight_recorder.flight_records.declared.entry.Deed.TheVariants.{Connects, Disconnects}
-use Rattle.record_files.specs.node_recorder.Turns.{Records}
-use Rattle.record_files.specs.node_recorder.declared.recorder.NodeRecorder.{NodeRecorder}
+use Rattle.node_recorder.specs.node_follower.node_core.View.{NodeView}
+use Rattle.node_connections.specs.LinkSights.{link_at}
+use Rattle.node_connections.specs.declared.port.NodePort.{NodePort}
+use Rattle.node_recorder.specs.flight_recorder.Recorder.{after_failure, after_write}
+use Rattle.node_recorder.specs.flight_recorder.flight_records.declared.entry.Deed.{Deed}
+use Rattle.node_recorder.specs.flight_recorder.flight_records.declared.entry.Deed.TheVariants.{Connects, Disconnects}
+use Rattle.node_recorder.specs.Turns.{Records}
+use Rattle.node_recorder.specs.declared.recorder.NodeRecorder.{NodeRecorder}
 use Rattle.turn_watch.specs.declared.links.LinkSight.{LinkSight}
 
 -- a link is seen, and it is up

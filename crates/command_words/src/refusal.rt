@@ -1,7 +1,7 @@
 //! Why a command line fails, and how the program ends then.
 ghost use Rattle.std.specs.Prelude.{◌≡◌, IfOk, IfErr};
 ghost use Rattle.std.specs.Process.{exit_status};
-ghost use Rattle.network_words.specs.Ends.{status_of};
+ghost use Rattle.command_words.specs.Ends.{status_of};
 
 use command_faults::{Fault, PathFault};
 use command_grammar::WordFault;
@@ -28,7 +28,7 @@ pub enum KindFault {
 /// Prints the message without the program's name.
 impl fmt::Display for KindFault {
     ghost use Rattle.std.specs.Prelude.{Some};
-    ghost use Rattle.network_words.specs.Ends.{kind_fault_text};
+    ghost use Rattle.command_words.specs.Ends.{kind_fault_text};
 
     ghost output = { λ fault. Some (kind_fault_text fault) };
 
@@ -56,7 +56,7 @@ pub enum ScheduleFault {
 /// Prints the message without the program's name.
 impl fmt::Display for ScheduleFault {
     ghost use Rattle.std.specs.Prelude.{Some};
-    ghost use Rattle.network_words.specs.Ends.{schedule_fault_text};
+    ghost use Rattle.command_words.specs.Ends.{schedule_fault_text};
 
     ghost output = { λ fault. Some (schedule_fault_text fault) };
 
@@ -95,7 +95,7 @@ pub enum Refusal {
 
 impl From<Fault> for Refusal {
     ghost use Rattle.std.specs.Prelude.{◌≡◌};
-    ghost use Rattle.network_words.specs.declared.refusal.Refusal.TheVariants as refusal;
+    ghost use Rattle.command_words.specs.declared.refusal.Refusal.TheVariants as refusal;
 
     ghost from_gives = { λ fault refused. refused ≡ refusal.Fault fault };
 
@@ -106,7 +106,7 @@ impl From<Fault> for Refusal {
 
 impl From<WordFault<'static>> for Refusal {
     ghost use Rattle.std.specs.Prelude.{◌≡◌};
-    ghost use Rattle.network_words.specs.declared.refusal.Refusal.TheVariants as refusal;
+    ghost use Rattle.command_words.specs.declared.refusal.Refusal.TheVariants as refusal;
 
     ghost from_gives = { λ fault refused. refused ≡ refusal.Word fault };
 
@@ -117,7 +117,7 @@ impl From<WordFault<'static>> for Refusal {
 
 impl From<TimeFault> for Refusal {
     ghost use Rattle.std.specs.Prelude.{◌≡◌};
-    ghost use Rattle.network_words.specs.declared.refusal.Refusal.TheVariants as refusal;
+    ghost use Rattle.command_words.specs.declared.refusal.Refusal.TheVariants as refusal;
 
     ghost from_gives = { λ fault refused. refused ≡ refusal.Time fault };
 
@@ -129,7 +129,7 @@ impl From<TimeFault> for Refusal {
 /// Prints the message without the program's name.
 impl fmt::Display for Refusal {
     ghost use Rattle.std.specs.Prelude.{Some};
-    ghost use Rattle.network_words.specs.Ends.{refusal_text};
+    ghost use Rattle.command_words.specs.Ends.{refusal_text};
 
     ghost output = { λ refusal. Some (refusal_text refusal) };
 

@@ -4,8 +4,8 @@ use Rattle.clap.specs.Matches.{first_value}
 use Rattle.clap.specs.declared.parser.matches.Found.{Found}
 use Rattle.command_grammar.specs.Given.{IsRefused}
 use Rattle.command_grammar.specs.declared.words.WordFault.TheVariants.{Absent}
-use Rattle.network_words.specs.declared.refusal.Refusal.{Refusal}
-use Rattle.network_words.specs.declared.refusal.Refusal.TheVariants.{Word}
+use Rattle.command_words.specs.declared.refusal.Refusal.{Refusal}
+use Rattle.command_words.specs.declared.refusal.Refusal.TheVariants.{Word}
 
 -- the parameter of this id has no word
 abbrev pub IsMissing : Found → List ℕ → Refusal → Type 0

@@ -1,15 +1,14 @@
 -- Turns that a record has, and some that it has not.
-use Rattle.std.proofs.Common.{◌≡◌, ◌≢◌, ◌⊎◌, ◌∙◌, ℕ, Bool, true, false, List, [], ◌∷◌, None, Some, refl, sym, ap, subst, inl, inr}
+use Rattle.std.proofs.Common.{◌≡◌, ◌≢◌, ◌⊎◌, ◌∙◌, true, false, List, [], ◌∷◌, None, Some, refl, sym, ap, inl, inr}
 use Rattle.std.specs.Prelude.{nat_le, IsTrue}
 use Rattle.std.proofs.lemmas.Bool.{both_ways}
-use Rattle.node_core.specs.View.{NodeView}
-use Rattle.record_files.specs.node_recorder.Backlog.{has_room, is_long, nothing, with_turn}
-use Rattle.record_files.specs.node_recorder.BacklogView.{BacklogView}
-use Rattle.record_files.specs.node_recorder.flight_recorder.flight_records.declared.entry.Deed.{Deed}
-use Rattle.record_files.specs.node_recorder.flight_recorder.flight_records.declared.entry.Deed.TheVariants.{Connects, Disconnects, Ticks}
-use Rattle.record_files.specs.node_recorder.Turns.{Records}
-use Rattle.record_files.specs.node_recorder.declared.recorder.NodeRecorder.{NodeRecorder}
-use Rattle.node_process.specs.Noted.{is_seen_up, link_changes, IsWrittenOrNot, RecordsEach, RecordsTurn}
+use Rattle.node_recorder.specs.node_follower.node_core.View.{NodeView}
+use Rattle.node_recorder.specs.Backlog.{has_room, is_long, nothing, with_turn}
+use Rattle.node_recorder.specs.flight_recorder.flight_records.declared.entry.Deed.{Deed}
+use Rattle.node_recorder.specs.flight_recorder.flight_records.declared.entry.Deed.TheVariants.{Connects, Disconnects, Ticks}
+use Rattle.node_recorder.specs.Turns.{Records}
+use Rattle.node_recorder.specs.declared.recorder.NodeRecorder.{NodeRecorder}
+use Rattle.record_files.specs.Noted.{is_seen_up, link_changes, IsWrittenOrNot, RecordsEach, RecordsTurn}
 
 -- of three links that were down the last came up; of three that were up the first went down
 changes-up : link_changes (λ id. false) (λ id. nat_le 2 id) 3 ≡ Connects 2 ∷ []

@@ -7,12 +7,12 @@ use Rattle.command_grammar.specs.FaultText.{word_fault_text}
 use Rattle.command_faults.specs.FaultText.{fault_text}
 use Rattle.program_ends.specs.Ends.{end_status}
 use Rattle.recovery_times.specs.Words.{time_fault_text}
-use Rattle.network_words.specs.declared.refusal.Refusal.{Refusal}
-use Rattle.network_words.specs.declared.refusal.Refusal.TheVariants.{Word, Time, Limit, Window, Kind, Schedule, NoWords, NoCommand, Fault}
-use Rattle.network_words.specs.declared.refusal.KindFault.{KindFault}
-use Rattle.network_words.specs.declared.refusal.KindFault.TheVariants.{Unknown, NoColumns, OneNumber, RandomAlone}
-use Rattle.network_words.specs.declared.refusal.ScheduleFault.{ScheduleFault}
-use Rattle.network_words.specs.declared.refusal.ScheduleFault.TheVariants as schedule
+use Rattle.command_words.specs.declared.refusal.Refusal.{Refusal}
+use Rattle.command_words.specs.declared.refusal.Refusal.TheVariants.{Word, Time, Limit, Window, Kind, Schedule, NoWords, NoCommand, Fault}
+use Rattle.command_words.specs.declared.refusal.KindFault.{KindFault}
+use Rattle.command_words.specs.declared.refusal.KindFault.TheVariants.{Unknown, NoColumns, OneNumber, RandomAlone}
+use Rattle.command_words.specs.declared.refusal.ScheduleFault.{ScheduleFault}
+use Rattle.command_words.specs.declared.refusal.ScheduleFault.TheVariants as schedule
 
 -- the word after the program's name is `lock`
 abbrev pub asks_for_lock : List (List ℕ) → Bool

@@ -2,8 +2,8 @@
 //! read, and how they end.
 ghost use Rattle.std.specs.Prelude.{◌≡◌, ◌⊎◌, map};
 ghost use Rattle.std.specs.Process.{exit_status};
-ghost use Rattle.network_words.specs.Ends.{asks_for_lock, asks_for_version};
-ghost use Rattle.network_words.specs.Ends.{is_of_service, names_service, serves, status_of};
+ghost use Rattle.command_words.specs.Ends.{asks_for_lock, asks_for_version};
+ghost use Rattle.command_words.specs.Ends.{is_of_service, names_service, serves, status_of};
 
 use crate::program::{ABOUT, NAME, Runtime, VERSION};
 use crate::refusal::{Refusal, status};

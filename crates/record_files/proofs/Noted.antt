@@ -1,17 +1,17 @@
 -- Deeds that are recorded one after the other, and the connections that began or ended.
-use Rattle.std.proofs.Common.{◌≡◌, ◌≢◌, ◌⊎◌, ◌<◌, inl, inr, ◌+◌, ◌++◌, ◌∷◌, [], ◌∙◌, ℕ, Bool, true, false, if◌then◌else◌, List, refl, ap, sym, arith, append-nil}
+use Rattle.std.proofs.Common.{◌≡◌, ◌≢◌, ◌+◌, ◌++◌, ◌∷◌, [], ◌∙◌, ℕ, Bool, true, false, if◌then◌else◌, List, refl, ap, sym, arith, append-nil}
 use mathlib.Core.Bool.{beq}
 use Rattle.std.specs.Prelude.{flat_map, not}
 use Rattle.std.specs.List.{range_with_len}
 use Rattle.std.proofs.lemmas.List.{map-id}
 use Rattle.std.proofs.lemmas.List.Concat.{flat_map-append}
 use Rattle.std.proofs.lemmas.List.FromFn.{map-range_with_len_more}
-use Rattle.node_core.specs.View.{NodeView}
-use Rattle.record_files.specs.node_recorder.flight_recorder.flight_records.declared.entry.Deed.{Deed}
-use Rattle.record_files.specs.node_recorder.flight_recorder.flight_records.declared.entry.Deed.TheVariants.{Connects, Disconnects}
-use Rattle.record_files.specs.node_recorder.Turns.{Records}
-use Rattle.record_files.specs.node_recorder.declared.recorder.NodeRecorder.{NodeRecorder}
-use Rattle.node_process.specs.Noted.{link_change, link_changes, RecordsEach}
+use Rattle.node_recorder.specs.node_follower.node_core.View.{NodeView}
+use Rattle.node_recorder.specs.flight_recorder.flight_records.declared.entry.Deed.{Deed}
+use Rattle.node_recorder.specs.flight_recorder.flight_records.declared.entry.Deed.TheVariants.{Connects, Disconnects}
+use Rattle.node_recorder.specs.Turns.{Records}
+use Rattle.node_recorder.specs.declared.recorder.NodeRecorder.{NodeRecorder}
+use Rattle.record_files.specs.Noted.{link_change, link_changes, RecordsEach}
 
 pub apart : (a b : Bool) → not (beq a b) ≡ true → a ≢ b
 apart false false differ same = absurd cc

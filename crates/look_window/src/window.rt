@@ -2,8 +2,7 @@
 ghost use Rattle.std.specs.Prelude.{◌≡◌, ◌≢◌, ◌<◌, ℕ, false, is_some, length, slice_get, replicate};
 ghost use Rattle.std.specs.Prelude.{IfOk, Some, string_bytes};
 ghost use Rattle.node_core.specs.View.{site_in, state_of};
-ghost use Rattle.node_loop.specs.Answers.{grants};
-ghost use Rattle.node_loop.specs.node_connections.LinkSights.{link_at};
+ghost use Rattle.node_connections.specs.LinkSights.{link_at};
 ghost use Rattle.turn_watch.specs.Turns.{begun, turn_ended};
 ghost use Rattle.turn_watch.specs.Loans.{no_loans, desk_seen};
 ghost use Rattle.turn_watch.specs.Links.{down_since, link_seen, link_of};
@@ -13,10 +12,12 @@ ghost use Rattle.turn_watch.specs.Rounds.{no_rounds, machine_seen};
 ghost use Rattle.look_window.specs.Counted.{counted_machine};
 ghost use Rattle.look_window.specs.NodeLook.{node_look};
 
-use look_window::{ProcessSaid, counted_machine, line_of_node};
-use node_loop::{Doors, NodeRun, Turned};
-use node_state_file::Store;
-use record_files::process_parts::ProcessPart;
+use crate::counted::counted_machine;
+use crate::line::{ProcessSaid, line_of_node};
+use node_connections::Pipe;
+use node_connections::port::{NodePort, link_at};
+use node_core::Node;
+use node_texts::ProcessPart;
 use std::alloc::{AllocError, Global};
 use std::fs;
 use std::path::AsPath;
@@ -56,54 +57,56 @@ impl<'a> Window<'a> {
     }
 
     /// The node did something that is no turn.
-    pub fn attended<D: Doors, S: Store + Drop>(&mut self, run: &NodeRun<D, S>, now: u64)
+    pub fn attended(&mut self, node: &Node, now: u64)
         ensures { self.new ≡ record self.old {
           notes = record self.old.notes {
             loans = desk_seen now (record {
               has_granted = false;
-              lends = is_some (state_of run.now.node).desk.lent;
+              lends = is_some (state_of node.now).desk.lent;
             }) self.old.notes.loans;
           };
         } }
     {
-        self.notes.attended(now, run.node().lent().is_some());
+        self.notes.attended(now, node.lent().is_some());
     }
 
-    /// A turn that did this has ended. Each turn notes the link to one node, the next turn that to
-    /// the next.
-    pub fn turn_ended<D: Doors, S: Store + Drop>(
+    /// A turn has ended, in which the node granted the lock or did not. It has a port for each of so many
+    /// nodes, by id. Each turn notes the link to one node, the next turn that to the next.
+    pub fn turn_ended<P: Pipe>(
         &mut self,
-        run: &NodeRun<D, S>,
-        turned: &Turned,
+        node: &Node,
+        ports: &[NodePort<P>],
+        nodes: u16,
+        has_granted: bool,
         now: u64,
     )
         ensures turns { self.new.notes.turns
             ≡ turn_ended self.old.notes.limit now self.old.notes.turns }
         ensures loans { self.new.notes.loans ≡ desk_seen now (record {
-          has_granted = grants turned.now.ticked.act;
-          lends = is_some (state_of run.now.node).desk.lent;
+          has_granted = has_granted;
+          lends = is_some (state_of node.now).desk.lent;
         }) self.old.notes.loans }
         ensures rounds { self.new.notes.rounds
-            ≡ machine_seen (counted_machine (site_in run.now.node) (state_of run.now.node))
+            ≡ machine_seen (counted_machine (site_in node.now) (state_of node.now))
             self.old.notes.rounds }
         ensures link { (sight : LinkSight) → self.old.notes.next < 64
-            → link_at (slice_get run.now.ports.items self.old.notes.next) ≡ Some sight
+            → link_at (slice_get ports.now self.old.notes.next) ≡ Some sight
             → link_of self.new.notes.links self.old.notes.next
             ≡ link_seen sight now (link_of self.old.notes.links self.old.notes.next) }
         ensures others { (other : ℕ) → other ≢ self.old.notes.next
             → link_of self.new.notes.links other ≡ link_of self.old.notes.links other }
         ensures rest { (self.new.notes.limit ≡ self.old.notes.limit)
-            × (self.new.notes.next ≡ next_of run.now.net.nodes self.old.notes.next)
+            × (self.new.notes.next ≡ next_of nodes self.old.notes.next)
             × (self.new.said ≡ self.old.said) }
     {
         let desk = DeskSight {
-            has_granted: turned.has_granted(),
-            lends: run.node().lent().is_some(),
+            has_granted,
+            lends: node.lent().is_some(),
         };
         self.notes.turn_ended(now, desk);
-        self.notes.note_machine(counted_machine(run.node()));
-        let id = self.notes.next_link(run.net().nodes());
-        if let Some(sight) = run.link(id) {
+        self.notes.note_machine(counted_machine(node));
+        let id = self.notes.next_link(nodes);
+        if let Some(sight) = link_at(ports, id) {
             self.notes.note_link(id, sight, now);
         }
     }
@@ -112,18 +115,13 @@ impl<'a> Window<'a> {
     ///
     /// # Errors
     /// If memory runs out.
-    pub fn line<D: Doors, S: Store + Drop>(
-        &self,
-        alloc: Global,
-        run: &NodeRun<D, S>,
-        now: u64,
-    ) -> Result<String, AllocError>
-        ensures line { IfOk result (λ line. string_bytes line ≡ node_look (site_in run.now.node)
-            (state_of run.now.node) self.now.notes self.now.said.process
+    pub fn line(&self, alloc: Global, node: &Node, now: u64) -> Result<String, AllocError>
+        ensures line { IfOk result (λ line. string_bytes line ≡ node_look (site_in node.now)
+            (state_of node.now) self.now.notes self.now.said.process
             self.now.said.version.now now) }
         ensures some { IfOk result (λ line. 0 < length (string_bytes line)) }
     {
-        line_of_node(alloc, run.node(), &self.notes, &self.said, now)
+        line_of_node(alloc, node, &self.notes, &self.said, now)
     }
 }
 
