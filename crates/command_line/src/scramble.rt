@@ -3,9 +3,9 @@ use crate::seeds::{PLACED_SEED, SEED_PLACE};
 use clap::ArgMatches;
 use client_words::stop::warn_of_runner;
 use command_grammar::{FREE, Grammar, Parameter, given_number, word};
+use command_words::explain_id;
 use command_words::program::{FILE, ID, Runtime};
 use command_words::refusal::{Refusal, ended};
-use command_words::explain_id;
 use std::process::ExitCode;
 use subcommands::{Fault, PathFault, scramble};
 
