@@ -70,8 +70,9 @@ impl<'a> Window<'a> {
         self.notes.attended(now, node.lent().is_some());
     }
 
-    /// A turn has ended, in which the node granted the lock or did not. It has a port for each of so many
-    /// nodes, by id. Each turn notes the link to one node, the next turn that to the next.
+    /// A turn has ended at this time, in microseconds of the node's clock. `ports` are the node's, one for each
+    /// of the network's `nodes` nodes by its id, and `has_granted` says whether a loan began. Each turn notes
+    /// the link to one node, the next turn that to the next.
     pub fn turn_ended<P: Pipe>(
         &mut self,
         node: &Node,

@@ -83,10 +83,11 @@ impl<'a, R: Files<File = File> + Clock + Eprint + AllocGlobal> Tape<'a, R> {
         }
     }
 
-    /// The node took a turn, or did something between two turns, and did these deeds in it, or more than are
-    /// noted. It has a port for each node, by id. `now` is when it began, by the node's clock. If
-    /// `must_settle` is yes, no deed may wait to be noted: the node may have other neighbours before its
-    /// next turn, or end. A record that has stopped sees nothing.
+    /// The node took a turn, or did something between two turns. `deeds` are what it did, in order, and
+    /// `has_all` says whether none is missing. `ports` are the node's, one for each node by its id. `now` is
+    /// when it began, in microseconds of the node's clock. If `must_settle` is yes, no deed may wait to be
+    /// noted: the node may have other neighbours before its next turn, or end. A record that has stopped sees
+    /// nothing.
     pub fn turn_ended<P: Pipe>(
         &mut self,
         node: &Node,
