@@ -2,8 +2,8 @@
 use Rattle.std.proofs.Common.{[], ◌∷◌, refl, subst, sym, ◌∙◌}
 use Rattle.std.proofs.lemmas.Grind.{common_steps}
 use Rattle.std.proofs.Common.{arith}
-use Rattle.link_model.specs.declared.item.Item.TheVariants as item
-use Rattle.lock_desk.specs.Desk.{after_leave}
+use Rattle.node_core.specs.link_model.declared.item.Item.TheVariants as item
+use Rattle.node_core.specs.lock_desk.Desk.{after_leave}
 use Rattle.node_core.specs.Step.{taken, ticked}
 use Rattle.accounts.specs.Deeds.{Takes, Asks, Leaves, Ticks, Sends, after_ask, Leads}
 use Rattle.accounts.specs.Laws.{AccountsJoin, OneEnd, FramesJoin}

@@ -1,12 +1,12 @@
 -- Deeds of one node, small enough to see through.
 use Rattle.std.proofs.Common.{◌≡◌, ℕ, List, [], ◌∷◌, false, refl, ap, rules, arith}
 use Rattle.std.proofs.lemmas.Grind.{common_steps}
-use Rattle.lock_desk.specs.Desk.{no_desk}
+use Rattle.node_core.specs.lock_desk.Desk.{no_desk}
 use Rattle.node_core.specs.Site.{Site}
 use Rattle.node_core.specs.State.{LocalState, default_node}
 use Rattle.topology.specs.declared.frame.Ranges.{Ranges}
 use Rattle.topology.specs.declared.frame.Frame.{Frame}
-use Rattle.data_link.specs.Port.{frame_of}
+use Rattle.node_core.specs.link_port.Port.{frame_of}
 use Rattle.accounts.specs.Deeds.{Ticks, Sends, Takes, Asks, Leaves, Leads, taken_from, sent_to}
 
 -- node 1 of a line of three, which is not the root

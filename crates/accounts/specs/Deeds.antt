@@ -2,9 +2,9 @@
 -- sends.
 use Rattle.std.specs.Prelude.{◌≡◌, ℕ, ◌==◌, List, [], ◌∷◌, Contains, IsTrue, if◌then◌else◌, is_none}
 use Rattle.topology.specs.declared.frame.Frame.{Frame}
-use Rattle.link_model.specs.declared.item.Item.TheVariants as item
-use Rattle.data_link.specs.Port.{frame_of}
-use Rattle.lock_desk.specs.Desk.{DeskState, ask_fault, asked, after_leave, is_number}
+use Rattle.node_core.specs.link_model.declared.item.Item.TheVariants as item
+use Rattle.node_core.specs.link_port.Port.{frame_of}
+use Rattle.node_core.specs.lock_desk.Desk.{DeskState, ask_fault, asked, after_leave, is_number}
 use Rattle.node_core.specs.Site.{Site}
 use Rattle.node_core.specs.State.{LocalState}
 use Rattle.node_core.specs.Step.{taken, ticked}

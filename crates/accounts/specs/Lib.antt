@@ -1,2 +1,3 @@
+pub use Rattle.node_core.specs as node_core
 pub mod Deeds
 pub mod Laws

@@ -12,3 +12,5 @@
 #![tactic(auto)]
 
 pub mod laws;
+
+pub use node_core;

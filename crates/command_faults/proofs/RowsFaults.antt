@@ -1,6 +1,6 @@
 -- Small examples of how a fault is reported, with one that is reported otherwise.
 use Rattle.std.proofs.Common.{◌≡◌, ◌≢◌, codes, refl, arith}
-use Rattle.topology.specs.declared.fault.NetFault.TheVariants.{NotToml}
+use Rattle.network_file.specs.topology.declared.fault.NetFault.TheVariants.{NotToml}
 use Rattle.network_file.specs.declared.fault.NetworkFault.TheVariants.{Refused, Unreadable}
 use Rattle.command_faults.specs.declared.fault.Fault.TheVariants as fault
 use Rattle.command_faults.specs.declared.path_fault.PathFault.TheVariants as path

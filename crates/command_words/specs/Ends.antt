@@ -4,7 +4,7 @@ use Rattle.std.specs.Str.{bytes_eq}
 use Rattle.std.specs.Process.{exit_status}
 use Rattle.std.specs.declared.process.ExitCode.{ExitCode}
 use Rattle.command_grammar.specs.FaultText.{word_fault_text}
-use Rattle.command_faults.specs.FaultText.{fault_text}
+use Rattle.program_ends.specs.command_faults.FaultText.{fault_text}
 use Rattle.program_ends.specs.Ends.{end_status}
 use Rattle.recovery_times.specs.Words.{time_fault_text}
 use Rattle.command_words.specs.declared.refusal.Refusal.{Refusal}

@@ -17,6 +17,6 @@ mod line;
 pub mod program;
 pub mod refusal;
 
-pub use fault_hints::{explain_id, explain_network, explain_swap};
 pub use line::{asks_for_lock, asks_for_version, ends, is_of_service, matches_of, say_version};
 pub use program_ends::begin;
+pub use program_ends::fault_hints::{explain_id, explain_network, explain_swap};

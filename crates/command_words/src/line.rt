@@ -8,9 +8,9 @@ ghost use Rattle.command_words.specs.Ends.{is_of_service, names_service, serves,
 use crate::program::{ABOUT, NAME, Runtime, VERSION};
 use crate::refusal::{Refusal, status};
 use clap::{ArgMatches, Command};
-use command_faults::Fault;
 use command_grammar::{Grammar, Program, parser};
-use fault_hints::{explain_network, explain_reading, explain_writing};
+use program_ends::command_faults::Fault;
+use program_ends::fault_hints::{explain_network, explain_reading, explain_writing};
 use program_ends::{fails, fault_status, print_status, shows};
 use std::alloc::{AllocError, Global};
 use std::convert::AsStr;

@@ -3,9 +3,9 @@ ghost use Rattle.std.specs.Prelude.{◌≡◌, IfOk, IfErr};
 ghost use Rattle.std.specs.Process.{exit_status};
 ghost use Rattle.command_words.specs.Ends.{status_of};
 
-use command_faults::{Fault, PathFault};
 use command_grammar::WordFault;
-use fault_hints::{explain_network, explain_writing};
+use program_ends::command_faults::{Fault, PathFault};
+use program_ends::fault_hints::{explain_network, explain_writing};
 use program_ends::{LINE_REFUSED, PathFaultLine, fails, fault_status};
 use recovery_times::TimeFault;
 use std::fmt;

@@ -6,7 +6,7 @@ use Rattle.std.specs.List.{list_any}
 use Rattle.std.proofs.Math.Path.{fun_ext}
 use Rattle.std.proofs.lemmas.Bool.{and_parts, false≢true}
 use Rattle.k_state.specs.Machine as machine
-use Rattle.lock_desk.specs.Laws.{LoansNeedPrivilege}
+use Rattle.tree_convergence.specs.lock_desk.Laws.{LoansNeedPrivilege}
 use Rattle.run_model.specs.node_core.Site.{Site, site_of}
 use Rattle.run_model.specs.node_core.State.{LocalState}
 use Rattle.run_model.specs.node_core.Machines.{tree_of, before, may_move, is_special, is_node_privileged, moved_value}

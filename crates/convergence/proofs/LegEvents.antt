@@ -7,7 +7,7 @@ use Rattle.topology.specs.Network.{Network, ring_of, are_joined}
 use Rattle.topology.specs.declared.frame.Payload.{Payload}
 use Rattle.k_state.specs.Machine as machine
 use Rattle.k_state.specs.Machine.{root_moved}
-use Rattle.euler_ring.specs.Cycle.{special, is_named, source_for}
+use Rattle.tree_convergence.specs.euler_ring.Cycle.{special, is_named, source_for}
 use Rattle.run_model.specs.node_core.Site.{Site, site_of}
 use Rattle.run_model.specs.node_core.State.{LocalState}
 use Rattle.run_model.specs.node_core.Machines.{tree_of, before}
@@ -19,7 +19,7 @@ use Rattle.run_model.specs.Sweep.{is_full_tick}
 use Rattle.convergence.specs.Ring.{Leg}
 use Rattle.run_model.specs.Project.{present}
 use Rattle.convergence.specs.Legs.{IsTreeLeg, is_special_leg, machine_value, staged_value, copied_value, seen_value}
-use Rattle.euler_ring.specs.Laws.{true_neighbours}
+use Rattle.tree_convergence.specs.euler_ring.Laws.{true_neighbours}
 use Rattle.run_model.specs.declared.event.Event.{Event}
 use Rattle.run_model.specs.declared.event.Event.TheVariants.{Send, Take, Lose, Tick, Ask, Leave, Damage}
 use Rattle.convergence.proofs.TrueTree.{tree-is, tree-joined}

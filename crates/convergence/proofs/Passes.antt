@@ -5,8 +5,8 @@ use Rattle.std.specs.Prelude.{is_none, is_some, if◌then◌else◌}
 use Rattle.std.specs.List.{list_any}
 use Rattle.std.proofs.lemmas.Bool.{and_parts, cases_Bool, eqb-true}
 use Rattle.std.proofs.lemmas.List.Folds.{Any-from_list_any, list_any-from_Any}
-use Rattle.lock_desk.specs.Desk.{DeskState, desk_ticked}
-use Rattle.lock_desk.specs.Act.{desk_act}
+use Rattle.tree_convergence.specs.lock_desk.Desk.{DeskState, desk_ticked}
+use Rattle.tree_convergence.specs.lock_desk.Act.{desk_act}
 use Rattle.run_model.specs.node_core.Site.{Site}
 use Rattle.run_model.specs.node_core.State.{LocalState}
 use Rattle.run_model.specs.node_core.Machines.{tree_of, may_move, is_node_privileged, moved_value}

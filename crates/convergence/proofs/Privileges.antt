@@ -8,12 +8,12 @@ use Rattle.topology.specs.Ranges.{ranges_of, payload_fits}
 use Rattle.topology.specs.declared.frame.Ranges.{Ranges}
 use Rattle.topology.specs.declared.frame.Payload.{Payload}
 use Rattle.topology.specs.Laws.{JoinedBack, JoinedAreNodes, NeighboursAreJoined}
-use Rattle.tree_convergence.specs.data_link.Port.{PortState, port_fits}
+use Rattle.tree_convergence.specs.link_port.Port.{PortState, port_fits}
 use Rattle.k_state.specs.Machine as machine
 use Rattle.k_state.specs.Laws.{OneItemIsPrivileged}
 use Rattle.k_state.specs.Ring.{IsGood, IsRing}
-use Rattle.euler_ring.specs.Laws.{OwnViewIsTrue}
-use Rattle.euler_ring.specs.Cycle.{is_named, special}
+use Rattle.tree_convergence.specs.euler_ring.Laws.{OwnViewIsTrue}
+use Rattle.tree_convergence.specs.euler_ring.Cycle.{is_named, special}
 use Rattle.run_model.specs.node_core.Machines.{tree_of, may_move}
 use Rattle.run_model.specs.World.{World, site, IsWorldInRange}
 use Rattle.run_model.specs.Tree.{IsTreeReached}

@@ -4,9 +4,9 @@ use Rattle.std.proofs.Common.{◌≡◌, ℕ, List, [], ◌∷◌, IsTrue, ◌==
 use Rattle.std.proofs.lemmas.Bool.{false≢true}
 use Rattle.std.specs.Prelude.{if◌then◌else◌}
 use Rattle.topology.specs.declared.frame.Payload.{Payload}
-use Rattle.link_model.specs.declared.item.Item.{Item}
-use Rattle.link_model.specs.declared.item.Item.TheVariants.{Frame}
-use Rattle.lock_desk.specs.Desk.{DeskState, no_desk}
+use Rattle.tree_convergence.specs.link_model.declared.item.Item.{Item}
+use Rattle.tree_convergence.specs.link_model.declared.item.Item.TheVariants.{Frame}
+use Rattle.tree_convergence.specs.lock_desk.Desk.{DeskState, no_desk}
 use Rattle.run_model.specs.World.{World}
 use Rattle.run_model.specs.Tree.{IsTreeReached}
 use Rattle.run_model.specs.Links.{AreLinksStable}

@@ -3,9 +3,9 @@
 use Rattle.std.proofs.Common.{◌≡◌, ℕ, ◌+◌, ◌*◌, [], ◌∷◌, None, refl}
 use Rattle.run_model.proofs.RowsFaults.{square}
 use Rattle.topology.specs.declared.frame.Payload.{Payload}
-use Rattle.lock_desk.specs.Desk.{no_desk}
+use Rattle.tree_convergence.specs.lock_desk.Desk.{no_desk}
 use Rattle.run_model.specs.node_core.State.{LocalState}
-use Rattle.euler_ring.specs.Tour.{tour}
+use Rattle.tree_convergence.specs.euler_ring.Tour.{tour}
 use Rattle.convergence.specs.Ring.{token_ring}
 
 -- it comes to the root from 1, goes out to 2 and back, to 1, and through 1 out to 3 and back

@@ -7,12 +7,12 @@ use Rattle.std.specs.Prelude.{is_none, is_some, not, if◌then◌else◌}
 use Rattle.std.proofs.lemmas.Bool.{cases_Bool, cases_eq, false≢true, cond-true, cond-false, eq-eqb, ne_eqb, or_left, or_right, or_cases, or_parts}
 use Rattle.std.proofs.lemmas.Bool.Decides.{nat_tests}
 use Rattle.topology.specs.At.{at}
-use Rattle.link_model.specs.declared.item.Item.{Item}
-use Rattle.link_model.specs.declared.item.Item.TheVariants.{Frame, Noise}
-use Rattle.lock_desk.specs.Desk.{DeskState, is_in, is_ticket, waits, borrows, without, asked, ended, after_leave, desk_ticked}
-use Rattle.lock_desk.specs.Act.{act_between, desk_act}
-use Rattle.lock_desk.specs.Laws.{IsTurn}
-use Rattle.lock_desk.specs.declared.act.DeskAct.TheVariants.{Lost}
+use Rattle.tree_convergence.specs.link_model.declared.item.Item.{Item}
+use Rattle.tree_convergence.specs.link_model.declared.item.Item.TheVariants.{Frame, Noise}
+use Rattle.tree_convergence.specs.lock_desk.Desk.{DeskState, is_in, is_ticket, waits, borrows, without, asked, ended, after_leave, desk_ticked}
+use Rattle.tree_convergence.specs.lock_desk.Act.{act_between, desk_act}
+use Rattle.tree_convergence.specs.lock_desk.Laws.{IsTurn}
+use Rattle.tree_convergence.specs.lock_desk.declared.act.DeskAct.TheVariants.{Lost}
 use Rattle.run_model.specs.node_core.State.{LocalState}
 use Rattle.run_model.specs.node_core.Machines.{is_node_privileged}
 use Rattle.run_model.specs.node_core.Step.{ticked, recomputed}

@@ -3,9 +3,9 @@ use Rattle.std.proofs.Common.{◌≡◌, ℕ, inl, inr, true, false, ◌==◌, L
 use Rattle.std.proofs.lemmas.Bool.{cases_Bool, eq-eqb, eqb-true, false≢true, false_from_ne_true}
 use Rattle.topology.specs.Network.{Network, IsAcceptedNetwork}
 use Rattle.topology.specs.Laws.{JoinedAreNodes}
-use Rattle.euler_ring.specs.Cycle.{is_on, is_named, next_after, source_for, special}
-use Rattle.euler_ring.specs.Tour.{Stop, tour}
-use Rattle.euler_ring.specs.Laws.{SourceOfNext, NextIsOn, IsTreeEdge, TrueNeighboursAre, TrueNeighboursAscend, GoesTo, IsStopOf, NoStopTwice, true_neighbours, TourGoesRound, TourHasEachEdge, TourHasNoneTwice, TourLength}
+use Rattle.tree_convergence.specs.euler_ring.Cycle.{is_on, is_named, next_after, source_for, special}
+use Rattle.tree_convergence.specs.euler_ring.Tour.{Stop, tour}
+use Rattle.tree_convergence.specs.euler_ring.Laws.{SourceOfNext, NextIsOn, IsTreeEdge, TrueNeighboursAre, TrueNeighboursAscend, GoesTo, IsStopOf, NoStopTwice, true_neighbours, TourGoesRound, TourHasEachEdge, TourHasNoneTwice, TourLength}
 use Rattle.convergence.specs.Ring.{Leg, legs, legs_to, first_here}
 use Rattle.convergence.specs.Legs.{IsTreeLeg, IsFollowed, IsAmong, last_leg, is_special_leg, EachTour}
 use Rattle.convergence.proofs.TrueTree.{tree-joined}

@@ -4,12 +4,12 @@ use Rattle.std.specs.List.{range_with_len}
 use Rattle.topology.specs.Network.{Network, are_joined, neighbours_of, IsAcceptedNetwork}
 use Rattle.topology.specs.Tree.{parent_of}
 use Rattle.topology.specs.Laws.{JoinedBack}
-use Rattle.euler_ring.specs.Cycle.{is_named}
+use Rattle.tree_convergence.specs.euler_ring.Cycle.{is_named}
 use Rattle.run_model.specs.node_core.Machines.{tree_of}
 use Rattle.run_model.specs.World.{World, site}
 use Rattle.run_model.specs.Tree.{IsTreeReached}
 use Rattle.convergence.specs.Legs.{is_on_tree}
-use Rattle.euler_ring.specs.Laws.{true_neighbours, OwnViewIsTrue}
+use Rattle.tree_convergence.specs.euler_ring.Laws.{true_neighbours, OwnViewIsTrue}
 use Rattle.convergence.proofs.TreeLists.{passes-filter}
 
 -- tree neighbours are joined

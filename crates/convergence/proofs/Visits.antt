@@ -7,8 +7,8 @@ use Rattle.std.proofs.lemmas.Bool.{cases_Bool, cases_eq, eqb-true, eq-eqb, or_le
 use Rattle.std.proofs.lemmas.Bool.Decides.{nat_tests}
 use Rattle.topology.specs.Network.{Network, ring_of, IsAcceptedNetwork}
 use Rattle.k_state.specs.Ring.{IsFrontThen, IsGood, IsRing, HasFront, last_of}
-use Rattle.euler_ring.specs.Cycle.{is_named, special}
-use Rattle.euler_ring.specs.Laws.{true_neighbours}
+use Rattle.tree_convergence.specs.euler_ring.Cycle.{is_named, special}
+use Rattle.tree_convergence.specs.euler_ring.Laws.{true_neighbours}
 use Rattle.run_model.specs.World.{World}
 use Rattle.run_model.specs.Step.{step}
 use Rattle.run_model.specs.Run.{run, is_damage, has_damage, IsUndamaged}

@@ -1,7 +1,7 @@
 -- What this crate knows about the layers below: each field is a law of one of them, and nothing
 -- else is used.
 use Rattle.topology.specs.Laws.{DistanceIs, ParentIs, EachTree}
-use Rattle.lock_desk.specs.Laws.{LoansNeedPrivilege, PassesOnlyServed, FullTicksClear, FirstComeFirstServed}
+use Rattle.tree_convergence.specs.lock_desk.Laws.{LoansNeedPrivilege, PassesOnlyServed, FullTicksClear, FirstComeFirstServed}
 use Rattle.run_model.specs.Laws as run
 use Rattle.run_model.specs.Ticks.{NodesMoveInTicks}
 use Rattle.tree_convergence.specs.Laws as tree

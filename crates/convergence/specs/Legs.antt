@@ -2,8 +2,8 @@
 -- leg follows another.
 use Rattle.std.specs.Prelude.{◌≡◌, ℕ, ◌-◌, ◌*◌, ◌<◌, ◌⊎◌, Bool, ◌==◌, IsTrue, IsFalse, List, [], ◌∷◌, length}
 use Rattle.topology.specs.Network.{Network, IsAcceptedNetwork}
-use Rattle.euler_ring.specs.Cycle.{is_on, next_after, source_for, special, is_named}
-use Rattle.euler_ring.specs.Laws.{true_neighbours}
+use Rattle.tree_convergence.specs.euler_ring.Cycle.{is_on, next_after, source_for, special, is_named}
+use Rattle.tree_convergence.specs.euler_ring.Laws.{true_neighbours}
 use Rattle.run_model.specs.World.{World}
 use Rattle.convergence.specs.Ring.{Leg, legs}
 

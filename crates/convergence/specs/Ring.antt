@@ -3,7 +3,7 @@
 use Rattle.std.specs.Prelude.{ℕ, List, [], ◌∷◌, flat_map}
 use Rattle.topology.specs.Network.{Network, ring_of}
 use Rattle.k_state.specs.Ring.{IsGood}
-use Rattle.euler_ring.specs.Tour.{tour}
+use Rattle.tree_convergence.specs.euler_ring.Tour.{tour}
 use Rattle.run_model.specs.World.{World}
 
 -- A leg of the tour comes from one node to another, and goes on to a third, which may be the first

@@ -2,7 +2,7 @@
 -- else is used.
 use Rattle.topology.specs.Laws.{JoinedBack, JoinedAreNodes, NeighboursAreJoined, EachTree}
 use Rattle.k_state.specs.Laws as ring
-use Rattle.euler_ring.specs.Laws.{OwnViewIsTrue, TrueNeighboursAre}
+use Rattle.tree_convergence.specs.euler_ring.Laws.{OwnViewIsTrue, TrueNeighboursAre}
 use Rattle.run_model.specs.Laws as run
 use Rattle.run_model.specs.Ticks.{NodesMoveInTicks, TicksAreAccepted}
 use Rattle.tree_convergence.specs.Laws as tree

@@ -1,9 +1,9 @@
 -- The nodes that the privilege visits, and the desks that it passes.
 use Rattle.std.specs.Prelude.{◌≡◌, ◌≢◌, ℕ, zero, suc, ◌+◌, ◌-◌, ◌*◌, ◌<◌, ◌⊎◌, List, [], ◌∷◌, length}
 use Rattle.std.specs.Prelude.{Bool, true, false, ◌==◌, ◌&&◌, ◌||◌, IsTrue, IsFalse}
-use Rattle.lock_desk.specs.Act.{desk_act}
-use Rattle.lock_desk.specs.Desk.{waits, borrows}
-use Rattle.lock_desk.specs.declared.act.DeskAct.TheVariants.{Lost}
+use Rattle.tree_convergence.specs.lock_desk.Act.{desk_act}
+use Rattle.tree_convergence.specs.lock_desk.Desk.{waits, borrows}
+use Rattle.tree_convergence.specs.lock_desk.declared.act.DeskAct.TheVariants.{Lost}
 use Rattle.topology.specs.Eccentricity.{sharp_of}
 use Rattle.run_model.specs.World.{World, IsWorldInRange}
 use Rattle.run_model.specs.Step.{step}

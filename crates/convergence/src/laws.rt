@@ -14,9 +14,9 @@ ghost use Rattle.convergence.specs.Service.{WaitingAreServed};
 ghost use Rattle.run_model.specs.Headline.{Headline};
 
 use crate::ring_laws;
-use lock_desk::laws as lock_desk_laws;
 use tree_convergence::laws as tree_convergence_laws;
 pub use tree_convergence::laws::links;
+use tree_convergence::lock_desk::laws as lock_desk_laws;
 
 /// All that this crate knows about the layers below. Each law here is proved only from these.
 pub fn below()

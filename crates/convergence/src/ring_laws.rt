@@ -9,10 +9,10 @@ ghost use Rattle.convergence.specs.RingLaws.{TokenRingTurnsGoodSoon};
 ghost use Rattle.convergence.specs.RingService.{PrivilegeGoesRound, PrivilegeVisits, MachinesMove};
 ghost use Rattle.convergence.specs.Legs.{EachTour};
 
-use euler_ring::laws as euler_ring_laws;
 use k_state::laws as k_state_laws;
 use run_model::laws as run_model_laws;
 use topology::laws as topology_laws;
+use tree_convergence::euler_ring::laws as euler_ring_laws;
 use tree_convergence::laws as tree_convergence_laws;
 
 /// The legs of the tour: each goes on from the one before, and the first from the last; each node

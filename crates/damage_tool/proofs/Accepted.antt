@@ -8,9 +8,9 @@ use Rattle.topology.specs.Network.{Network, are_joined}
 use Rattle.topology.specs.Ranges.{ranges_of, parent_fits, payload_fits, frame_fits}
 use Rattle.topology.specs.declared.frame.Payload.{Payload}
 use Rattle.topology.specs.declared.frame.Ranges.{Ranges}
-use Rattle.link_model.specs.declared.item.Item.{Item}
-use Rattle.run_model.specs.data_link.Port.{counters_fit}
-use Rattle.lock_desk.specs.Desk.{waits}
+use Rattle.run_model.specs.link_model.declared.item.Item.{Item}
+use Rattle.run_model.specs.link_port.Port.{counters_fit}
+use Rattle.run_model.specs.lock_desk.Desk.{waits}
 use Rattle.run_model.specs.World.{World, item_fits}
 use Rattle.run_model.specs.Step.{refusal, step, changed, harmed, link_fault}
 use Rattle.run_model.specs.declared.event.Event.{Event}

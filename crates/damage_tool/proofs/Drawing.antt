@@ -8,7 +8,7 @@ use Rattle.topology.specs.Network.{Network, neighbours_of}
 use Rattle.topology.specs.Ranges.{ranges_of}
 use Rattle.topology.specs.declared.frame.Ranges.{Ranges}
 use Rattle.run_model.specs.declared.event.Event.{Event}
-use Rattle.link_model.specs.declared.item.Item.{Item}
+use Rattle.run_model.specs.link_model.declared.item.Item.{Item}
 use Rattle.run_model.specs.declared.event.Event.TheVariants.{Damage}
 use Rattle.run_model.specs.declared.event.Harm.TheVariants as harm
 use Rattle.damage_tool.specs.declared.draws.PortDraw.{PortDraw}

@@ -3,7 +3,7 @@ use Rattle.std.proofs.Common.{◌≡◌, ℕ, List, [], ◌∷◌, Some, None, f
 use Rattle.std.proofs.lemmas.Bool.{false≢true}
 use Rattle.rand_pcg.specs.Lcg.{Lcg}
 use Rattle.topology.specs.declared.frame.Payload.{Payload}
-use Rattle.lock_desk.specs.Desk.{waits}
+use Rattle.run_model.specs.lock_desk.Desk.{waits}
 use Rattle.run_model.specs.World.{World}
 use Rattle.run_model.specs.Step.{with_desk}
 use Rattle.run_model.specs.Start.{default_world}

@@ -5,7 +5,7 @@
 use Rattle.std.proofs.Common.{◌≡◌, ◌≢◌, List, [], ◌∷◌, ◌++◌, true, false, None, Some, codes, refl, arith}
 use Rattle.rand_pcg.specs.Lcg.{Lcg}
 use Rattle.topology.specs.declared.frame.Ranges.{Ranges}
-use Rattle.link_model.specs.declared.item.Item.TheVariants.{Frame, Noise}
+use Rattle.run_model.specs.link_model.declared.item.Item.TheVariants.{Frame, Noise}
 use Rattle.run_model.specs.node_core.State.{default_node}
 use Rattle.run_model.specs.declared.event.Event.{Event}
 use Rattle.run_model.specs.declared.event.Event.TheVariants.{Damage}

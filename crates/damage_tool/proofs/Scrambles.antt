@@ -6,7 +6,7 @@ use Rattle.std.proofs.lemmas.List.FromFn.{length-range_with_len}
 use Rattle.rand_pcg.specs.Lcg.{Lcg}
 use Rattle.topology.specs.Network.{Network, are_joined, neighbours_of}
 use Rattle.topology.specs.Ranges.{ranges_of}
-use Rattle.lock_desk.specs.Desk.{waits, is_in}
+use Rattle.run_model.specs.lock_desk.Desk.{waits, is_in}
 use Rattle.run_model.specs.World.{World}
 use Rattle.run_model.specs.Step.{refusal, step, harmed}
 use Rattle.run_model.specs.Run.{run}

@@ -5,8 +5,8 @@ use Rattle.rand_pcg.specs.Lcg.{Lcg}
 use Rattle.topology.specs.Network.{Network, neighbours_of}
 use Rattle.topology.specs.Ranges.{ranges_of}
 use Rattle.topology.specs.declared.frame.Ranges.{Ranges}
-use Rattle.link_model.specs.declared.item.Item.{Item}
-use Rattle.link_model.specs.declared.item.Item.TheVariants.{Frame, Noise}
+use Rattle.run_model.specs.link_model.declared.item.Item.{Item}
+use Rattle.run_model.specs.link_model.declared.item.Item.TheVariants.{Frame, Noise}
 use Rattle.run_model.specs.declared.event.Event.{Event}
 use Rattle.run_model.specs.declared.event.Event.TheVariants.{Damage}
 use Rattle.run_model.specs.declared.event.Harm.TheVariants as harm

@@ -1,7 +1,7 @@
 -- What holds of the harms that a scramble draws.
 use Rattle.std.specs.Prelude.{◌≡◌, ℕ, ◌<◌, false, List, [], ◌∷◌, None}
 use Rattle.rand_pcg.specs.Lcg.{Lcg}
-use Rattle.lock_desk.specs.Desk.{waits}
+use Rattle.run_model.specs.lock_desk.Desk.{waits}
 use Rattle.run_model.specs.World.{World, IsWorldInRange}
 use Rattle.run_model.specs.Step.{refusal, step}
 use Rattle.run_model.specs.Run.{run}

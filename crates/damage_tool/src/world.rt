@@ -9,8 +9,8 @@ ghost use Rattle.damage_tool.specs.Harms.{draw_link, draw_links_from, draw_world
 ghost use Rattle.damage_tool.specs.Appended.{appended};
 
 use crate::draws::{PortDraw, draw_below, draw_parent, draw_payload, draw_port, draw_to};
-use link_model::Item;
 use rand_pcg::Lcg64Xsh32;
+use run_model::link_model::Item;
 use run_model::{Event, Harm};
 use std::alloc::{AllocError, Allocator};
 use topology::{Frame, Net, Ranges};

@@ -1,7 +1,6 @@
 pub mod LinkSteps
 pub mod UnderWay
 pub mod EdgeRanges
-mod PortRange
 pub mod Stable
 pub mod Marks
 pub mod Sweeping

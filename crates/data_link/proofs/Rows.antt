@@ -5,8 +5,7 @@ use Rattle.link_model.specs.topology.declared.frame.Frame.{Frame}
 use Rattle.link_model.specs.topology.declared.frame.Payload.{Payload}
 use Rattle.link_model.specs.declared.item.Item.{Item}
 use Rattle.link_model.specs.declared.item.Item.TheVariants as item
-use Rattle.data_link.specs.Port.{PortState, default_port, port_after, port_fits}
-use Rattle.data_link.specs.Heard.{heard_of}
+use Rattle.link_port.specs.Port.{PortState}
 use Rattle.data_link.specs.Edge.{EdgeState, EdgeEvent, SendOut, SendBack, TakeOut, TakeBack, LoseOut, IsStable, IsStableWith, edge_run, edge_step_with, moves_in}
 use Rattle.data_link.specs.Sweep.{IsSweep, is_out_renewed, is_back_renewed}
 
@@ -24,24 +23,6 @@ port n m s c = record { seq = n; last = m; staged = s; copy = c }
 
 abbrev frame : ℕ → ℕ → Payload → Frame
 frame n m p = record { seq = n; ack = m; payload = p }
-
--- ---- ports
-
--- the number is acknowledged and goes round, the present payload is staged, and the new number is
--- accepted
-acknowledged_and_accepted : port_after 5 (port 4 1 old old) (frame 2 4 new) later ≡ port 0 2 later new
-acknowledged_and_accepted = refl
-
--- an old acknowledgement and the last number once more: nothing changes
-neither : port_after 5 (port 4 1 old old) (frame 1 3 new) later ≡ port 4 1 old old
-neither = refl
-
-neither_heard : heard_of (port 4 1 old old) (frame 1 3 new) ≡ record { moved = false; accepted = false }
-neither_heard = refl
-
--- a port as it starts is in range
-starts_in_range : port_fits (record { nodes = 2; counter = 5; ring = 7 }) (default_port (record { nodes = 2; counter = 5; ring = 7 })) ≡ true
-starts_in_range = refl
 
 -- ---- stable links
 

@@ -8,19 +8,10 @@ use Rattle.link_model.specs.topology.declared.frame.Payload.{Payload}
 use Rattle.link_model.specs.topology.declared.frame.Ranges.{Ranges}
 use Rattle.link_model.specs.declared.item.Item.{Item}
 use Rattle.link_model.specs.declared.item.Item.TheVariants as item
-use Rattle.k_state.specs.Ring.{Step}
-use Rattle.data_link.specs.Port.{PortState, port_after, port_fits}
+use Rattle.link_port.specs.k_state.Ring.{Step}
+use Rattle.link_port.specs.Port.{PortState, port_after, port_fits}
 use Rattle.data_link.specs.Edge.{EdgeState, EdgeEvent, TakeOut, TakeBack, IsEdgeInRange, IsStable, edge_run, edge_step, edge_step_with, link_ring, moves, moves_in}
 use Rattle.data_link.specs.Sweep.{IsStrictSweep, IsSweep, PresentPasses, Sweeps}
-
--- ---- ports
-
--- a frame in range, and a payload in range that is handed in as present, keep a port in range
-abbrev pub PortStaysInRange : Type 0
-PortStaysInRange =
-    (r : Ranges) (p : PortState) (f : Frame) (present : Payload) → IsTrue (port_fits r p)
-    → IsTrue (frame_fits r f) → IsTrue (payload_fits r present)
-    → IsTrue (port_fits r (port_after r.counter p f present))
 
 -- ---- steps
 

@@ -1,8 +1,7 @@
 pub use Rattle.link_model.specs.topology as topology
-pub use Rattle.k_state.specs as k_state
 pub use Rattle.link_model.specs as link_model
-pub mod Port
-pub mod Heard
+pub use Rattle.link_port.specs.k_state as k_state
+pub use Rattle.link_port.specs as link_port
 pub mod Edge
 pub mod Sweep
 pub mod SixSweeps

@@ -3,20 +3,15 @@
 //! in as present. Each speaks of one direction; the other is the same edge seen from its other end.
 ghost use Rattle.data_link.specs.Refreshing.{SweepCopiesStaged};
 ghost use Rattle.data_link.specs.Laws.{CopyIsStaged, EventIsStep, MoveRefreshesStaged};
-ghost use Rattle.data_link.specs.Laws.{PayloadsKeep, PortStaysInRange, RangeStays};
+ghost use Rattle.data_link.specs.Laws.{PayloadsKeep, RangeStays};
 ghost use Rattle.data_link.specs.Laws.{StableAfterMoves, StableAfterSweeps, StableOutlastsRuns};
 ghost use Rattle.data_link.specs.Laws.{StableStays, StagedIsPresent, StrictSweepIsSweep};
 ghost use Rattle.data_link.specs.Laws.{SweepRefreshesCopy, SweepsMove, TakenIsCopied};
 ghost use Rattle.data_link.specs.Laws.{ThreeSweepsRefresh, TwoSweepsMove};
 ghost use Rattle.data_link.specs.SixSweeps.{StableAfterSixSweeps};
 
-use k_state::laws as k_state_laws;
-pub use link_model::topology::laws::neighbours;
-
-/// A port in range stays in range, whatever frame in range it takes. Whoever keeps ports needs it.
-pub fn ports()
-    ensures { PortStaysInRange }
-{}
+use link_port::k_state::laws as k_state_laws;
+pub use link_port::laws::ports;
 
 /// One event: a step of the link ring, and an edge in range stays in range.
 pub fn events()

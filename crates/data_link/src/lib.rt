@@ -15,14 +15,9 @@
 //! Source: S. Dolev, Self-Stabilization, 2000 (token passing over bounded links, by counters).
 #![tactic(auto)]
 
-mod fault;
-mod heard;
 pub mod laws;
-mod port;
 
-pub use fault::OutOfRange;
-pub use heard::Heard;
-pub use k_state::{copy_move, privileged, root_move};
+pub use link_model;
 pub use link_model::topology::Net;
 pub use link_model::{Frame, Item, Payload, Ranges};
-pub use port::Port;
+pub use link_port::{Heard, OutOfRange, Port, copy_move, privileged, root_move};

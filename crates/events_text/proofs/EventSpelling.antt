@@ -7,7 +7,7 @@ use Rattle.std.specs.Fmt.{decimal}
 use Rattle.std.specs.List.{join_with_byte, AllByRecursion}
 use Rattle.std.proofs.lemmas.Slice.Eq.{bytes_eq-Decides}
 use Rattle.topology.specs.declared.frame.Payload.{Payload}
-use Rattle.link_model.specs.declared.item.Item.TheVariants as item
+use Rattle.run_model.specs.link_model.declared.item.Item.TheVariants as item
 use Rattle.run_model.specs.declared.event.Event.{Event}
 use Rattle.run_model.specs.declared.event.Event.TheVariants.{Send, Take, Lose, Tick, Ask, Leave, Damage}
 use Rattle.run_model.specs.declared.event.Harm.{Harm}

@@ -1,6 +1,6 @@
 -- Small examples of events texts, and lines that spell no event.
 use Rattle.std.proofs.Common.{◌≡◌, true, false, [], ◌∷◌, ◌++◌, Some, None, refl, codes, replicate}
-use Rattle.link_model.specs.declared.item.Item.TheVariants as item
+use Rattle.run_model.specs.link_model.declared.item.Item.TheVariants as item
 use Rattle.run_model.specs.declared.event.Event.TheVariants.{Send, Take, Lose, Tick, Ask, Leave, Damage}
 use Rattle.run_model.specs.declared.event.Harm.TheVariants as harm
 use Rattle.events_text.specs.declared.text_line.TextLine.TheVariants.{Passed, Unread, Said}

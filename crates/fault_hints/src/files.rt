@@ -3,6 +3,7 @@ ghost use Rattle.std.specs.Prelude.{◌≡◌, ◌↔◌, IsTrue, option_map};
 ghost use Rattle.fault_hints.specs.Kinds.{kind_text, unmade_text, AreSwapped, MayWait};
 
 use network_file::NetworkFault;
+use network_file::topology::NetFault;
 use network_hints::hint;
 use std::fmt::Display;
 use std::fs::{Metadata, OpenOptions};
@@ -10,7 +11,6 @@ use std::io::ErrorKind;
 use std::path::{AsPath, Path};
 use std::rt::Files;
 use std::{fs, io};
-use topology::NetFault;
 
 /// The most bytes that a network file may have.
 const MOST_BYTES: u64 = 1_048_576;

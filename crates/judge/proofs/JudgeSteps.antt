@@ -14,7 +14,7 @@ use Rattle.configuration.specs.run_model.declared.happened.Happened.{Happened}
 use Rattle.configuration.specs.run_model.declared.happened.Happened.TheVariants.{FullTick, LendingTick, Damaged}
 use Rattle.configuration.specs.run_model.declared.event.EventFault.{EventFault}
 use Rattle.configuration.specs.run_model.declared.event.EventFault.TheVariants.{NoItem}
-use Rattle.link_model.specs.declared.item.Item.{Item}
+use Rattle.configuration.specs.link_model.declared.item.Item.{Item}
 use Rattle.judge.specs.Tallies.{has_place, no_tally, tally_of, tally_happened}
 use Rattle.configuration.specs.ConfigurationView.{world_of}
 use Rattle.judge.specs.JudgeView.{JudgeView, HasSeenSame}

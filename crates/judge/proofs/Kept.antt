@@ -13,7 +13,7 @@ use Rattle.configuration.specs.run_model.declared.happened.Happened.{Happened}
 use Rattle.configuration.specs.run_model.declared.happened.Happened.TheVariants.{FullTick, LendingTick}
 use Rattle.configuration.specs.run_model.declared.event.Event.TheVariants.{Send, Take, Lose, Tick, Ask, Leave, Damage}
 use Rattle.configuration.specs.data_link.Sweep.{Puts, Takes, Loses, Rests}
-use Rattle.link_model.specs.declared.item.Item.{Item}
+use Rattle.configuration.specs.link_model.declared.item.Item.{Item}
 use Rattle.judge.specs.declared.tallies.Tally.{Tally}
 use Rattle.judge.specs.Tallies.{tally_of, tally_after, tally_happened}
 use Rattle.judge.specs.Stretch.{StretchView, has_bit, is_full_tick_of, IsComplete, IsKept}

@@ -2,7 +2,7 @@
 use Rattle.std.proofs.Common.{◌≡◌, ◌∙◌, sym, ap, subst, ℕ, ◌+◌, Bool, true, false, ◌==◌, ◌&&◌, ◌||◌, nat_lt, if◌then◌else◌, IsTrue, is_none, is_some, None, List, [], ◌∷◌, ◌++◌, arith, refl}
 use Rattle.std.proofs.lemmas.Bool.{or_right}
 use Rattle.std.proofs.lemmas.Grind.{common_steps}
-use Rattle.link_model.specs.declared.item.Item.{Item}
+use Rattle.configuration.specs.link_model.declared.item.Item.{Item}
 use Rattle.configuration.specs.node_core.Machines.{is_node_privileged}
 use Rattle.configuration.specs.node_core.State.{LocalState}
 use Rattle.configuration.specs.run_model.World.{World, IsWorldInRange, site, with_node, with_link}

@@ -1,7 +1,7 @@
 -- What a first line says, and how it comes.
 use Rattle.std.specs.Prelude.{◌≡◌, ℕ, ◌+◌, ◌<◌, List, ◌∷◌, ◌++◌, Option, None, Some, take, ⊤, []}
 use Rattle.byte_lines.specs.Lines.{newline}
-use Rattle.frame_codec.specs.Spelling.{hello}
+use Rattle.socket_links.specs.frame_codec.Spelling.{hello}
 use Rattle.socket_links.specs.Pipes.{GoesOn}
 use Rattle.node_connections.specs.declared.lobby.Arrival.{Arrival}
 use Rattle.node_connections.specs.declared.lobby.Arrival.TheVariants as arrival

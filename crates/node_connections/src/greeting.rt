@@ -1,9 +1,9 @@
 //! The hello that a node writes first on a connection to a lower neighbour.
 ghost use Rattle.std.specs.Prelude.{◌≡◌, ◌<◌, ◌++◌, ◌∷◌, [], drop};
 ghost use Rattle.byte_lines.specs.Lines.{newline};
-ghost use Rattle.frame_codec.specs.Spelling.{hello};
+ghost use Rattle.socket_links.specs.frame_codec.Spelling.{hello};
 
-use frame_codec::encode_hello;
+use socket_links::frame_codec::encode_hello;
 use socket_links::{Pipe, WriteAnswer};
 
 /// The bytes of a hello with its newline.

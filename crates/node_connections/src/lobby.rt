@@ -2,8 +2,8 @@
 ghost use Rattle.std.specs.Prelude.{◌≡◌, ◌≢◌, ◌<◌, ◌≤◌, ◌==◌, ℕ, None, IfOk, IfSome, IsSomeAnd, length, take};
 ghost use Rattle.slab.specs.Slab.{get, slab_len};
 
-use frame_codec::decode_hello;
 use slab::Slab;
+use socket_links::frame_codec::decode_hello;
 use socket_links::{Pipe, ReadAnswer};
 use std::alloc::{AllocError, Allocator, Global};
 use topology::Net;

@@ -2,7 +2,7 @@
 ghost use Rattle.std.specs.Prelude.{◌≡◌, ◌&&◌, not, true, false, None, Some, is_none, is_some};
 ghost use Rattle.std.specs.Prelude.{IfSome, if◌then◌else◌, [], ◌∷◌, ◌++◌, slice_get};
 ghost use Rattle.byte_lines.specs.Lines.{newline};
-ghost use Rattle.frame_codec.specs.Spelling.{spelling};
+ghost use Rattle.socket_links.specs.frame_codec.Spelling.{spelling};
 ghost use Rattle.topology.specs.Ranges.{ranges_of};
 ghost use Rattle.node_connections.specs.LinkSights.{link_at};
 

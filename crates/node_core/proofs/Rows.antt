@@ -4,8 +4,8 @@ use Rattle.std.proofs.lemmas.Fmt.{decimal_digit}
 use Rattle.registers.specs.topology.Network.{Network}
 use Rattle.registers.specs.topology.Ranges.{ranges_of}
 use Rattle.registers.specs.topology.declared.frame.Frame.{Frame}
-use Rattle.registers.specs.link_model.declared.item.Item.TheVariants as item
-use Rattle.registers.specs.data_link.Port.{default_port}
+use Rattle.data_link.specs.link_model.declared.item.Item.TheVariants as item
+use Rattle.registers.specs.link_port.Port.{default_port}
 use Rattle.lock_desk.specs.Desk.{no_desk}
 use Rattle.node_core.specs.Site.{Site, site_of}
 use Rattle.node_core.specs.State.{LocalState, default_node}

@@ -35,7 +35,10 @@ mod own;
 mod status;
 mod ticked;
 
+pub use data_link::{Item, link_model};
+pub use euler_ring;
+pub use lock_desk;
 pub use lock_desk::{AskFault, DeskAct, Stranger};
 pub use node::{Node, NodeState};
-pub use registers::{Frame, Item, Net, OutOfRange, Payload, Ranges};
+pub use registers::{Frame, Net, OutOfRange, Payload, Ranges};
 pub use ticked::Ticked;

@@ -2,9 +2,9 @@
 ghost use Rattle.std.specs.Prelude.{◌≡◌, ◌<◌, ◌≤◌, ◌↔◌, true, false, IfOk, IsTrue, Contains, []};
 ghost use Rattle.std.specs.Prelude.{All, ◌∷◌, length};
 ghost use Rattle.accounts.specs.Deeds.{Leads};
-ghost use Rattle.node_core.specs.Site.{site_of};
-ghost use Rattle.node_core.specs.State.{default_node, LocalState};
-ghost use Rattle.node_core.specs.View.{site_in, state_of};
+ghost use Rattle.accounts.specs.node_core.Site.{site_of};
+ghost use Rattle.accounts.specs.node_core.State.{default_node, LocalState};
+ghost use Rattle.accounts.specs.node_core.View.{site_in, state_of};
 ghost use Rattle.topology.specs.Ranges.{ranges_of};
 ghost use Rattle.flight_records.specs.declared.entry.Deed.TheVariants as flight_deed;
 ghost use Rattle.accounts.specs.Deeds.{after_ask};
@@ -12,8 +12,8 @@ ghost use Rattle.lock_desk.specs.Desk.{after_leave};
 ghost use Rattle.node_follower.specs.Following.{account_of, is_own_account, FitsNetwork};
 ghost use Rattle.node_follower.specs.Following.{AreSame, AreSameAlone, AreSameAt};
 
+use accounts::node_core::{Frame, Item, Node, Payload};
 use flight_records::Deed;
-use node_core::{Frame, Item, Node, Payload};
 use std::alloc::{AllocError, Allocator, Global};
 use std::marker::Model;
 use topology::Net;
@@ -25,7 +25,7 @@ pub struct Follower<A: Allocator + Copy = Global> {
 }
 
 impl<A: Allocator + Copy> Model for Follower<A> {
-    ghost use Rattle.node_core.specs.View.{NodeView};
+    ghost use Rattle.accounts.specs.node_core.View.{NodeView};
 
     ghost Value = { NodeView };
 

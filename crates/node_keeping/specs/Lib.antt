@@ -1,3 +1,4 @@
+pub use Rattle.node_texts.specs as node_texts
 pub mod Sight
 pub mod AfterSave
 pub mod Steps

@@ -25,5 +25,6 @@ mod sight;
 
 pub use course::{UpCourse, UpSights, UpStage};
 pub use keeper::{Deed, Keeper, LOOKS_BEFORE_KILL, LOOKS_BEFORE_START, Seen, Stage};
+pub use node_texts;
 pub use saved::{AfterSave, Complaint, Lost, Sights, StopSight, after_save, looks_for_stop};
 pub use sight::{FileId, FileSight, sight_of};

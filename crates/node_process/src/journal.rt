@@ -4,9 +4,9 @@ ghost use Rattle.node_loop.specs.node_core.View.{site_in, state_of};
 ghost use Rattle.node_process.specs.Places.{is_in_place};
 
 use node_folder::ClientSight;
+use node_folder::node_state_file::Store;
 use node_log::{Event, LogLine, NodeLog, TurnSight};
 use node_loop::{Doors, Node, NodeRun, Turned};
-use node_state_file::Store;
 use record_files::process_parts::NodeWords;
 use std::env;
 use std::rt::Env;

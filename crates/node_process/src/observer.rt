@@ -6,10 +6,10 @@ ghost use Rattle.record_files.specs.Noted.{is_linked, link_changes, RecordsTurn}
 
 use crate::journal::Journal;
 use look_window::Window;
+use node_folder::node_state_file::Store;
 use node_folder::{ClientSight, Stopwatch};
 use node_log::Event;
 use node_loop::{Doors, NodeRun, Notes, Turned};
-use node_state_file::Store;
 use record_files::Tape;
 use record_files::process_parts::{NodeFault, NodeWords};
 use std::fs::File;

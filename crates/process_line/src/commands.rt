@@ -2,9 +2,9 @@
 use crate::{node, up};
 use clap::ArgMatches;
 use command_grammar::Grammar;
-use command_words::program::Runtime;
-use command_words::refusal::Refusal;
-use command_words::{asks_for_version, ends, matches_of, say_version};
+use process_words::command_words::program::Runtime;
+use process_words::command_words::refusal::Refusal;
+use process_words::command_words::{asks_for_version, ends, matches_of, say_version};
 use std::convert::AsStr;
 use std::process::ExitCode;
 

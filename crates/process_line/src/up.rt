@@ -1,12 +1,12 @@
 //! What `up` does with its words.
 ghost use Rattle.std.specs.Prelude.{IfErr};
-ghost use Rattle.command_words.specs.command_faults.Ends.{DoneMeansZeroOr};
+ghost use Rattle.process_words.specs.command_words.command_faults.Ends.{DoneMeansZeroOr};
 ghost use Rattle.clap.specs.Matches.{found_of};
 ghost use Rattle.process_words.specs.NodeWords.{AreUpWordsRefused};
 
 use clap::ArgMatches;
-use command_words::program::Runtime;
-use command_words::refusal::Refusal;
+use process_words::command_words::program::Runtime;
+use process_words::command_words::refusal::Refusal;
 use process_words::options::ended;
 pub use process_words::up::UP;
 use process_words::up::asked;

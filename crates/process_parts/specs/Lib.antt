@@ -1,6 +1,6 @@
 pub use Rattle.node_keeping.specs as node_keeping
 pub use Rattle.network_file.specs as network_file
-pub use Rattle.node_texts.specs as node_texts
+pub use Rattle.node_keeping.specs.node_texts as node_texts
 pub mod Rights
 pub mod Start
 pub mod Texts

@@ -1,6 +1,6 @@
 //! The folder of a network: it is made if it is missing, and a node takes its place in it.
 ghost use Rattle.std.specs.Prelude.{◌≡◌, ◌<◌, ◌≤◌, ◌⊎◌, ◌+◌, None, IfOk, IfErr, is_ok, true, length};
-ghost use Rattle.node_texts.specs.Names.{longest_socket_name};
+ghost use Rattle.node_keeping.specs.node_texts.Names.{longest_socket_name};
 ghost use Rattle.process_parts.specs.declared.fault.NodeFault.TheVariants.{LongName, Memory};
 ghost use Rattle.process_parts.specs.declared.fault.NodeFault.TheVariants.{Folder, RightsStay, Lock, Running};
 ghost use Rattle.process_parts.specs.declared.fault.NodeFault.TheVariants.{Links, Clients, Looks};
@@ -11,8 +11,8 @@ use crate::fault::NodeFault;
 use crate::rights::Rights;
 use crate::start::Stage;
 use mio::net::UnixListener;
+use node_keeping::node_texts::{LONGEST_SOCKET_NAME, NodePaths, links_name, longest_socket_name};
 use node_keeping::{FileId, FileSight, sight_of};
-use node_texts::{LONGEST_SOCKET_NAME, NodePaths, links_name, longest_socket_name};
 use std::alloc::Global;
 use std::fs::{DirBuilder, File, Metadata, OpenOptions, Permissions};
 use std::io::ErrorKind;

@@ -16,3 +16,5 @@
 pub mod node;
 pub mod options;
 pub mod up;
+
+pub use command_words;

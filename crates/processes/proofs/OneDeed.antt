@@ -1,7 +1,7 @@
 -- One deed of an account: what it asks of the node, and what it makes of it.
 use Rattle.std.proofs.Common.{◌≡◌, List, ◌∷◌, IsTrue}
 use Rattle.std.specs.List.{Contains}
-use Rattle.data_link.specs.Port.{frame_of}
+use Rattle.data_link.specs.link_port.Port.{frame_of}
 use Rattle.lock_desk.specs.Desk.{is_number}
 use Rattle.node_core.specs.Site.{Site}
 use Rattle.node_core.specs.State.{LocalState}

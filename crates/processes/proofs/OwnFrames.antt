@@ -10,7 +10,7 @@ use Rattle.topology.specs.Ranges.{frame_fits, ranges_of}
 use Rattle.topology.specs.declared.frame.Frame.{Frame}
 use Rattle.topology.specs.declared.frame.Ranges.{Ranges}
 use Rattle.link_model.specs.declared.item.Item.TheVariants as item
-use Rattle.data_link.specs.Port.{PortState, frame_of, port_fits}
+use Rattle.data_link.specs.link_port.Port.{PortState, frame_of, port_fits}
 use Rattle.node_core.specs.Site.{site_of}
 use Rattle.node_core.specs.State.{LocalState, IsNodeInRange}
 use Rattle.node_core.specs.Step.{heard, item_fits, taken}

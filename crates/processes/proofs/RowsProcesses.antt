@@ -4,7 +4,7 @@ use Rattle.std.proofs.lemmas.Grind.{common_steps}
 use Rattle.topology.specs.Network.{are_joined, bound_of}
 use Rattle.topology.specs.Eccentricity.{sharp_of}
 use Rattle.topology.specs.declared.frame.Frame.{Frame}
-use Rattle.data_link.specs.Port.{frame_of}
+use Rattle.data_link.specs.link_port.Port.{frame_of}
 use Rattle.lock_desk.specs.Desk.{DeskState, no_desk}
 use Rattle.node_core.specs.Site.{site_of}
 use Rattle.run_model.specs.World.{World}

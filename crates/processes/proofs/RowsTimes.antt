@@ -5,7 +5,7 @@ use Rattle.std.specs.List.{AllByRecursion, Contains}
 use Rattle.topology.specs.Network.{are_joined}
 use Rattle.topology.specs.declared.frame.Frame.{Frame}
 use Rattle.topology.specs.declared.frame.Ranges.{Ranges}
-use Rattle.data_link.specs.Port.{frame_of}
+use Rattle.data_link.specs.link_port.Port.{frame_of}
 use Rattle.link_model.specs.declared.item.Item.TheVariants as item
 use Rattle.lock_desk.specs.Desk.{lends}
 use Rattle.node_core.specs.Site.{site_of}

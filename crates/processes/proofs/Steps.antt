@@ -8,7 +8,7 @@ use Rattle.topology.specs.Laws.{NeighboursAreJoined, JoinedBack}
 use Rattle.topology.specs.declared.frame.Frame.{Frame}
 use Rattle.link_model.specs.declared.item.Item.{Item}
 use Rattle.link_model.specs.declared.item.Item.TheVariants as item
-use Rattle.data_link.specs.Port.{frame_of}
+use Rattle.data_link.specs.link_port.Port.{frame_of}
 use Rattle.lock_desk.specs.Desk.{ask_fault, is_number, is_stranger, after_leave}
 use Rattle.lock_desk.specs.declared.fault.AskFault.{AskFault}
 use Rattle.node_core.specs.Site.{site_of}

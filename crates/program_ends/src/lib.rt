@@ -19,6 +19,8 @@ mod path_fault_line;
 mod streams;
 
 pub use arguments::begin;
+pub use command_faults;
 pub use ends::{LINE_REFUSED, fails, fault_status, print_status, shows};
+pub use fault_hints;
 pub use fault_line::FaultLine;
 pub use path_fault_line::PathFaultLine;

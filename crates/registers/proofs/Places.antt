@@ -4,9 +4,9 @@ use Rattle.std.proofs.Math.Path.{fun_ext}
 use Rattle.std.proofs.lemmas.Grind.{common_steps}
 use Rattle.std.proofs.lemmas.List.{length-set}
 use Rattle.std.proofs.lemmas.List.Elements.{All-set, All-contains}
-use Rattle.data_link.specs.topology.At.{at}
-use Rattle.data_link.specs.topology.declared.frame.Ranges.{Ranges}
-use Rattle.data_link.specs.Port.{PortState, PortView, port_fits}
+use Rattle.link_port.specs.topology.At.{at}
+use Rattle.link_port.specs.topology.declared.frame.Ranges.{Ranges}
+use Rattle.link_port.specs.Port.{PortState, PortView, port_fits}
 use Rattle.registers.specs.Registers.{RegistersView, IsPortOf, IsRegisters, port_of, value_of}
 
 -- the registers with another port at place w, and with another value there

@@ -19,10 +19,9 @@
 //! contracts); none changes more than one port, but for `rewire`.
 #![tactic(auto)]
 
-pub mod laws;
 mod registers;
 
-pub use data_link::{
-    Frame, Heard, Item, Net, OutOfRange, Payload, Ranges, copy_move, privileged, root_move,
+pub use link_port::{
+    Frame, Heard, Net, OutOfRange, Payload, Ranges, copy_move, privileged, root_move,
 };
 pub use registers::Registers;

@@ -2,7 +2,7 @@
 use Rattle.std.proofs.Common.{◌≡◌, ◌<◌, ℕ, false, List, [], ◌∷◌, ◌++◌, Option, None, Some, Contains, slice_get, slice_index_or, refl, inl, inr, ap, sym, subst, ◌∙◌, append-nil}
 use Rattle.topology.specs.declared.frame.Frame.{Frame}
 use Rattle.topology.specs.declared.frame.Ranges.{Ranges}
-use Rattle.data_link.specs.Port.{frame_of}
+use Rattle.data_link.specs.link_port.Port.{frame_of}
 use Rattle.node_core.specs.View.{site_in, state_of}
 use Rattle.node_core.specs.declared.ticked.Ticked.{Ticked}
 use Rattle.pace.specs.Plans.{port_of}

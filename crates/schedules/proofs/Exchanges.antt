@@ -5,7 +5,7 @@ use Rattle.std.proofs.lemmas.Bool.Decides.{nat_tests}
 use Rattle.std.specs.Prelude.{◌⊎◌, if◌then◌else◌, is_some}
 use Rattle.std.specs.List.{AllByRecursion, flat_map, range_with_len}
 use Rattle.topology.specs.Network.{Network, are_joined, neighbours_of}
-use Rattle.link_model.specs.HandOver.{takes_item}
+use Rattle.damage_tool.specs.link_model.HandOver.{takes_item}
 use Rattle.configuration.specs.run_model.World.{World}
 use Rattle.configuration.specs.run_model.Step.{refusal, step, changed, sent}
 use Rattle.configuration.specs.run_model.Run.{run}

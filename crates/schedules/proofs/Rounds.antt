@@ -6,7 +6,7 @@ use Rattle.std.proofs.lemmas.List.{append-nil}
 use Rattle.std.specs.Prelude.{◌⊎◌, ◌==◌, is_none}
 use Rattle.std.specs.List.{flat_map, range_with_len}
 use Rattle.topology.specs.Network.{Network}
-use Rattle.lock_desk.specs.Desk.{DeskState, desk_ticked}
+use Rattle.damage_tool.specs.lock_desk.Desk.{DeskState, desk_ticked}
 use Rattle.configuration.specs.node_core.Site.{Site, site_of}
 use Rattle.configuration.specs.node_core.State.{LocalState}
 use Rattle.configuration.specs.node_core.Step.{ticked, recomputed}

@@ -1,7 +1,7 @@
 -- What a round of two nodes is, and when it is no sweep.
 use Rattle.std.proofs.Common.{◌≡◌, true, false, [], ◌∷◌, ◌++◌, refl}
 use Rattle.topology.specs.Network.{Network}
-use Rattle.link_model.specs.declared.item.Item.TheVariants.{Noise}
+use Rattle.damage_tool.specs.link_model.declared.item.Item.TheVariants.{Noise}
 use Rattle.configuration.specs.run_model.World.{World}
 use Rattle.configuration.specs.run_model.Start.{default_world}
 use Rattle.configuration.specs.run_model.Run.{run}

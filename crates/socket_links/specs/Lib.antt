@@ -1,3 +1,4 @@
+pub use Rattle.frame_codec.specs as frame_codec
 pub mod Counts
 pub mod Pipes
 pub mod Writing

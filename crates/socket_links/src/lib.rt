@@ -25,6 +25,7 @@ mod pipe;
 mod writing;
 
 pub use byte_streams::Fused as FusedPipe;
+pub use frame_codec;
 pub use link::{Offer, Pull, SocketLink};
 pub use memory::MemoryPipe;
 pub use pipe::{Pipe, ReadAnswer, WriteAnswer};

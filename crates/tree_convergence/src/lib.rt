@@ -18,3 +18,5 @@
 #![tactic(auto)]
 
 pub mod laws;
+
+pub use run_model::{euler_ring, lock_desk};

@@ -7,7 +7,7 @@ use Rattle.topology.specs.declared.frame.Frame.{Frame as FrameType}
 use Rattle.run_model.specs.node_core.Site.{site_of}
 use Rattle.run_model.specs.node_core.State.{LocalState}
 use Rattle.run_model.specs.node_core.Step.{ticked, taken}
-use Rattle.run_model.specs.data_link.Port.{frame_of}
+use Rattle.run_model.specs.link_port.Port.{frame_of}
 use Rattle.link_model.specs.declared.item.Item.{Item}
 use Rattle.link_model.specs.declared.item.Item.TheVariants.{Noise, Frame}
 use Rattle.run_model.specs.World.{World}

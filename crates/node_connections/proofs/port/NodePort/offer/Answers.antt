@@ -1,6 +1,6 @@
 use Rattle.std.proofs.Common.{◌∷◌, ◌++◌, true, false, refl, []}
 use Rattle.byte_lines.specs.Lines.{newline}
-use Rattle.frame_codec.specs.Spelling.{spelling}
+use Rattle.socket_links.specs.frame_codec.Spelling.{spelling}
 use Rattle.socket_links.specs.declared.link.Offer.TheVariants as offer
 use Rattle.node_connections.proofs.Pushing.{goes-on, offered-on, offers-line, stays-on}
 use Rattle.node_connections.proofs.port.NodePort.offer.Goals as goal

@@ -1,5 +1,5 @@
 use Rattle.std.proofs.Common.{rules, Contains}
-use Rattle.data_link.specs.Port.{PortView, port_after}
+use Rattle.link_port.specs.Port.{PortView, port_after}
 use Rattle.registers.specs.Registers.{IsPortOf}
 use Rattle.registers.proofs.Places.{registers-with_port, port_changed}
 use Rattle.registers.proofs.registers.Registers.hear.Goals as goal

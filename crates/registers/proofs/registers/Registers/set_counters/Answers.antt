@@ -1,5 +1,5 @@
 use Rattle.std.proofs.Common.{rules}
-use Rattle.data_link.specs.Port.{PortView, counters_fit}
+use Rattle.link_port.specs.Port.{PortView, counters_fit}
 use Rattle.registers.proofs.Places.{registers-written, port_changed_on_ok}
 use Rattle.registers.proofs.registers.Registers.set_counters.Goals as goal
 

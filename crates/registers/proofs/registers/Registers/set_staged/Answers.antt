@@ -1,6 +1,6 @@
 use Rattle.std.proofs.Common.{rules}
-use Rattle.data_link.specs.topology.Ranges.{payload_fits}
-use Rattle.data_link.specs.Port.{PortView}
+use Rattle.link_port.specs.topology.Ranges.{payload_fits}
+use Rattle.link_port.specs.Port.{PortView}
 use Rattle.registers.proofs.Places.{registers-written, port_changed_on_ok}
 use Rattle.registers.proofs.registers.Registers.set_staged.Goals as goal
 

@@ -1,15 +1,15 @@
 //! One end of an edge.
 ghost use Rattle.std.specs.Prelude.{◌≡◌, ◌↔◌, ◌<◌, IsTrue, IsOk, OnOk, OnErr};
-ghost use Rattle.link_model.specs.topology.Ranges.{frame_fits, payload_fits, ranges_of};
-ghost use Rattle.data_link.specs.Heard.{heard_of};
-ghost use Rattle.data_link.specs.Port.{counters_fit, default_port, frame_of, port_after, port_fits};
+ghost use Rattle.topology.specs.Ranges.{frame_fits, payload_fits, ranges_of};
+ghost use Rattle.link_port.specs.Heard.{heard_of};
+ghost use Rattle.link_port.specs.Port.{counters_fit, default_port, frame_of, port_after, port_fits};
 
 use crate::fault::OutOfRange;
 use crate::heard::Heard;
 use k_state::{copy_move, root_move};
-use link_model::topology::{Frame, Net, Payload, Ranges};
 use std::alloc::Allocator;
 use std::marker::Model;
+use topology::{Frame, Net, Payload, Ranges};
 
 /// What a node keeps of one neighbour: the number of its staged payload, the last number that it
 /// accepted, the staged payload, and the copy of the neighbour's payload. Each field is in its
@@ -25,7 +25,7 @@ pub struct Port {
 
 impl Model for Port {
     ghost use Rattle.std.specs.Prelude.{IsTrue};
-    ghost use Rattle.data_link.specs.Port.{PortView, port_fits};
+    ghost use Rattle.link_port.specs.Port.{PortView, port_fits};
 
     ghost Value = { PortView };
 

@@ -1,9 +1,9 @@
 -- A port: what a node keeps of one neighbour to exchange numbered frames with it.
 use Rattle.std.specs.Prelude.{ℕ, Bool, ◌&&◌, ◌==◌, nat_lt, None, if◌then◌else◌}
-use Rattle.link_model.specs.topology.Ranges.{payload_fits}
-use Rattle.link_model.specs.topology.declared.frame.Frame.{Frame}
-use Rattle.link_model.specs.topology.declared.frame.Payload.{Payload}
-use Rattle.link_model.specs.topology.declared.frame.Ranges.{Ranges}
+use Rattle.topology.specs.Ranges.{payload_fits}
+use Rattle.topology.specs.declared.frame.Frame.{Frame}
+use Rattle.topology.specs.declared.frame.Payload.{Payload}
+use Rattle.topology.specs.declared.frame.Ranges.{Ranges}
 use Rattle.k_state.specs.Machine.{root_moved}
 
 -- The number under which the staged payload goes out, the last number that was accepted from the

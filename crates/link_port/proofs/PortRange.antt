@@ -1,11 +1,11 @@
 -- A port stays in range.
 use Rattle.std.proofs.Common.{arith, rules, IsTrue}
-use Rattle.link_model.specs.topology.Ranges.{frame_fits, payload_fits}
-use Rattle.link_model.specs.topology.declared.frame.Frame.{Frame}
-use Rattle.link_model.specs.topology.declared.frame.Payload.{Payload}
-use Rattle.link_model.specs.topology.declared.frame.Ranges.{Ranges}
-use Rattle.data_link.specs.Port.{PortState, port_acked, port_heard, port_fits}
-use Rattle.data_link.specs.Laws.{PortStaysInRange}
+use Rattle.topology.specs.Ranges.{frame_fits, payload_fits}
+use Rattle.topology.specs.declared.frame.Frame.{Frame}
+use Rattle.topology.specs.declared.frame.Payload.{Payload}
+use Rattle.topology.specs.declared.frame.Ranges.{Ranges}
+use Rattle.link_port.specs.Port.{PortState, port_acked, port_heard, port_fits}
+use Rattle.link_port.specs.Laws.{PortStaysInRange}
 
 port_acked-fits : (r : Ranges) (p : PortState) (f : Frame) (present : Payload) → IsTrue (port_fits r p) → IsTrue (payload_fits r present)
     → IsTrue (port_fits r (port_acked r.counter p f present))

@@ -1,0 +1,2 @@
+mod PortRange
+mod Rows
