@@ -1,9 +1,9 @@
 -- What becomes of a looker.
 use Rattle.std.specs.Prelude.{◌≡◌, ℕ, Bool, false, ◌==◌, List, length, Option}
-use Rattle.socket_links.specs.Counts.{Counts}
-use Rattle.socket_links.specs.Pipes.{Writes}
-use Rattle.socket_links.specs.declared.pipe.WriteAnswer.{WriteAnswer}
-use Rattle.socket_links.specs.declared.pipe.WriteAnswer.TheVariants.{Wrote, Later, Failed}
+use Rattle.node_connections.specs.socket_links.Counts.{Counts}
+use Rattle.node_connections.specs.socket_links.Pipes.{Writes}
+use Rattle.node_connections.specs.socket_links.declared.pipe.WriteAnswer.{WriteAnswer}
+use Rattle.node_connections.specs.socket_links.declared.pipe.WriteAnswer.TheVariants.{Wrote, Later, Failed}
 
 -- a write took all of these bytes
 abbrev pub is_whole : WriteAnswer → List ℕ → Bool

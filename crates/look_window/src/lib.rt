@@ -28,8 +28,6 @@ mod line;
 mod lookers;
 mod window;
 
-pub use counted::counted_machine;
-pub use line::{ProcessSaid, line_of_node};
 pub use lookers::{COMERS, LOOKERS, is_let_in, show};
 pub use turn_watch::USUAL_LIMIT;
 pub use window::Window;

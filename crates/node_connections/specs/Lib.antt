@@ -1,3 +1,4 @@
+pub use Rattle.socket_links.specs as socket_links
 pub mod Doors
 pub mod Greetings
 pub mod Arrivals

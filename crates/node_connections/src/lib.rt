@@ -27,4 +27,5 @@ pub mod port;
 
 pub use doors::{Door, Doors};
 pub use memory::{Reserved, reserve};
+pub use socket_links;
 pub use socket_links::Pipe;

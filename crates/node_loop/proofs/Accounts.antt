@@ -2,12 +2,12 @@
 -- neighbour the frames that were accepted.
 use Rattle.std.proofs.Common.{◌≡◌, ◌+◌, ℕ, List, ◌∷◌, ◌++◌, ◌∙◌, All, Option, ap, arith, append-nil, refl, []}
 use Rattle.std.proofs.lemmas.List.Elements.{All-head, All-tail}
-use Rattle.socket_links.specs.Counts.{Counts}
+use Rattle.node_connections.specs.socket_links.Counts.{Counts}
 use Rattle.node_core.specs.declared.ticked.Ticked.{Ticked}
-use Rattle.node_loop.specs.Deeds.{Deed, IsLeave, IsOfClient, IsSend, IsTake, Takes, Asks, Leaves, Ticks, Sends, sent_to, taken_from, ticks_in}
+use Rattle.node_service.specs.Deeds.{Deed, IsLeave, IsOfClient, IsSend, IsTake, Takes, Asks, Leaves, Ticks, Sends, sent_to, taken_from, ticks_in}
 use Rattle.node_loop.specs.Moments.{Moment}
 use Rattle.node_loop.specs.Turns.{Attends, Turns}
-use Rattle.node_loop.proofs.Became.{leave-kinds, sent-join, taken-join}
+use Rattle.node_service.proofs.Became.{leave-kinds, sent-join, taken-join}
 
 -- deeds that add nothing to a part of the account leave it as that of no deed
 none-of : {X : Type 0} (kind : Deed → Type 0) (part : List Deed → X) → ((d : Deed) (ds : List Deed) → kind d → part (d ∷ ds) ≡ part ds)

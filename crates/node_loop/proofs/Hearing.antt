@@ -9,13 +9,13 @@ use Rattle.topology.specs.declared.frame.Ranges.{Ranges}
 use Rattle.link_model.specs.declared.item.Item.TheVariants as item
 use Rattle.node_core.specs.Step.{taken}
 use Rattle.node_core.specs.View.{NodeView, site_in, state_of}
-use Rattle.socket_links.specs.Counts.{Counts}
+use Rattle.node_connections.specs.socket_links.Counts.{Counts}
 use Rattle.node_connections.specs.declared.port.NodePort.{NodePort}
-use Rattle.node_loop.specs.Deeds.{Became, IsTake, Takes, taken_from}
+use Rattle.node_service.specs.Deeds.{Became, IsTake, Takes, taken_from}
 use Rattle.node_connections.specs.Hearing.{Comes, Pulls}
 use Rattle.node_loop.specs.Hearing.{Hears, TakesAt}
 use Rattle.node_connections.specs.Ports.{AtBoth}
-use Rattle.node_loop.proofs.Became.{joins, one, stays, taken-join}
+use Rattle.node_service.proofs.Became.{joins, one, stays, taken-join}
 use Rattle.node_connections.proofs.Places.{apart, below-or-last, none-below, past}
 use Rattle.node_connections.proofs.Hearing.{Same, both-join, both-same, both-set, comes-end, others-set, pulls-same}
 

@@ -4,16 +4,16 @@ use Rattle.slab.specs.Slab.{get}
 use Rattle.lock_desk.specs.declared.act.DeskAct.TheVariants.{Quiet}
 use Rattle.node_core.specs.View.{NodeView, state_of}
 use Rattle.node_core.specs.declared.ticked.Ticked.{Ticked}
-use Rattle.socket_links.specs.Counts.{Counts}
+use Rattle.node_connections.specs.socket_links.Counts.{Counts}
 use Rattle.node_connections.specs.declared.clients.Client.{Client}
 use Rattle.node_connections.specs.declared.clients.Clients.{Clients}
 use Rattle.node_connections.specs.Clients.{answers_of, IsReported}
-use Rattle.node_loop.specs.Deeds.{Became, IsOfClient}
+use Rattle.node_service.specs.Deeds.{Became, IsOfClient}
 use Rattle.node_connections.specs.Ends.{EndsAt}
 use Rattle.node_loop.specs.Moments.{Moment}
-use Rattle.node_loop.specs.NotesView.{NotesView}
+use Rattle.node_service.specs.NotesView.{NotesView}
 use Rattle.node_loop.specs.Said.{AttendSays, HasAnswered, TurnSays}
-use Rattle.node_loop.specs.Services.{lines_of}
+use Rattle.node_service.specs.Services.{lines_of}
 use Rattle.node_connections.proofs.RowsEnds.{ends_not-quiet, not-written, still-there}
 
 module _ {P A : Type 0} (gave took : P → Option (List ℕ)) (counts : P → Counts) (old new : Clients P A) (a b : Client P) where

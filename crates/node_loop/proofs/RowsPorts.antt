@@ -8,11 +8,11 @@ use Rattle.lock_desk.specs.Desk.{DeskState, no_desk}
 use Rattle.lock_desk.specs.declared.act.DeskAct.TheVariants.{Granted, Lost}
 use Rattle.node_core.specs.View.{NodeView, site_in}
 use Rattle.pace.specs.declared.port.PortPace.{PortPace}
-use Rattle.socket_links.specs.Counts.{Counts}
-use Rattle.socket_links.specs.Links.{unsent}
+use Rattle.node_connections.specs.socket_links.Counts.{Counts}
+use Rattle.node_connections.specs.socket_links.Links.{unsent}
 use Rattle.node_connections.specs.declared.port.NodePort.{NodePort}
-use Rattle.node_loop.specs.Answers.{grants}
-use Rattle.node_loop.specs.Deeds.{IsSend, IsTake, Sends, Ticks, taken_from}
+use Rattle.node_service.specs.Answers.{grants}
+use Rattle.node_service.specs.Deeds.{IsSend, IsTake, Sends, Ticks, taken_from}
 use Rattle.node_connections.specs.Hearing.{Comes, Pulls, Wires}
 use Rattle.node_loop.specs.Hearing.{Hears, Listens, TakesAt}
 use Rattle.node_loop.specs.Moments.{Moment}

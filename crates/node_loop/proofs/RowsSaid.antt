@@ -13,18 +13,19 @@ use Rattle.node_core.specs.Site.{Site}
 use Rattle.node_core.specs.State.{LocalState}
 use Rattle.node_core.specs.View.{NodeView, site_in, state_of}
 use Rattle.node_core.specs.declared.ticked.Ticked.{Ticked}
-use Rattle.socket_links.specs.Counts.{Counts}
+use Rattle.node_connections.specs.socket_links.Counts.{Counts}
 use Rattle.node_connections.specs.declared.clients.Client.{Client}
 use Rattle.node_connections.specs.declared.clients.Clients.{Clients}
-use Rattle.node_loop.specs.Answers.{answer_text, lock_answer}
+use Rattle.node_service.specs.Answers.{answer_text, lock_answer}
 use Rattle.node_connections.specs.Clients.{answers_of, is_connected, IsReported}
-use Rattle.node_loop.specs.Deeds.{Became, Deed, IsLeaveOfGone, IsOfClient, Leaves}
+use Rattle.node_service.specs.Deeds.{Became, Deed, IsLeaveOfGone, IsOfClient, Leaves}
 use Rattle.node_loop.specs.Moments.{Moment}
 use Rattle.node_loop.specs.Noting.{AttendIsNoted, DidListen, TurnIsNoted}
-use Rattle.node_loop.specs.NotesView.{NotesView}
-use Rattle.node_loop.specs.Said.{answers_to, AttendSays, HasAnswered, ListensTo, TurnSays}
+use Rattle.node_service.specs.NotesView.{NotesView}
+use Rattle.node_service.specs.Serving.{answers_to}
+use Rattle.node_loop.specs.Said.{AttendSays, HasAnswered, ListensTo, TurnSays}
 use Rattle.node_connections.specs.Said.{IsSaid, SaidAt}
-use Rattle.node_loop.specs.Services.{lines_of}
+use Rattle.node_service.specs.Services.{lines_of}
 use Rattle.node_connections.proofs.BeingRead.{read-gone}
 use Rattle.node_connections.proofs.Ends.{at-silent}
 use Rattle.node_connections.proofs.Heard.{unheard-same}

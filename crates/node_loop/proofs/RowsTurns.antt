@@ -1,7 +1,7 @@
 -- Small examples of ticks, plans, turns and answers, and some that look like them and are none.
 use Rattle.std.proofs.Common.{◌≡◌, ℕ, List, Option, None, Some, codes, refl, arith, ◌≢◌, true, false, ◌∷◌, All, ap, ◌∙◌, inl, []}
 use Rattle.lock_desk.specs.declared.fault.AskFault.TheVariants.{Full}
-use Rattle.node_loop.specs.Answers.{lock_answer, after_line, answer_text}
+use Rattle.node_service.specs.Answers.{lock_answer, after_line, answer_text}
 use Rattle.std.proofs.lemmas.Grind.{common_steps}
 use Rattle.std.proofs.lemmas.List.Elements.{All-nil, All-cons, All-head, All-tail}
 use Rattle.topology.specs.declared.frame.Frame.{Frame}
@@ -15,8 +15,8 @@ use Rattle.node_core.specs.Step.{taken}
 use Rattle.node_core.specs.View.{NodeView, site_in, state_of}
 use Rattle.node_core.specs.declared.ticked.Ticked.{Ticked}
 use Rattle.pace.specs.declared.pace.Plan.{Plan}
-use Rattle.socket_links.specs.Counts.{Counts}
-use Rattle.node_loop.specs.Deeds.{Acts, Became, Deed, IsLeave, IsOfClient, IsTake, Leads, ticks_in, Takes, Asks, Leaves, Ticks, Sends}
+use Rattle.node_connections.specs.socket_links.Counts.{Counts}
+use Rattle.node_service.specs.Deeds.{Acts, Became, Deed, IsLeave, IsOfClient, IsTake, Leads, ticks_in, Takes, Asks, Leaves, Ticks, Sends}
 use Rattle.node_loop.specs.Moments.{Moment}
 use Rattle.node_loop.specs.Speaking.{IsPlanOf, outlook_of, sent_if}
 use Rattle.node_loop.specs.Turns.{Attends, Turns}

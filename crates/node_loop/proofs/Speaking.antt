@@ -7,15 +7,15 @@ use Rattle.topology.specs.declared.frame.Frame.{Frame}
 use Rattle.node_core.specs.link_port.Port.{frame_of}
 use Rattle.node_core.specs.View.{site_in, state_of}
 use Rattle.pace.specs.Plans.{port_of}
-use Rattle.socket_links.specs.Counts.{Counts}
+use Rattle.node_connections.specs.socket_links.Counts.{Counts}
 use Rattle.node_core.specs.Site.{Site}
 use Rattle.node_core.specs.State.{LocalState}
-use Rattle.node_loop.specs.Deeds.{Deed, IsSend, Leads, Sends, sent_to}
+use Rattle.node_service.specs.Deeds.{Deed, IsSend, Leads, Sends, sent_to}
 use Rattle.node_connections.specs.Ports.{AtBoth}
 use Rattle.node_loop.specs.Moments.{Moment}
-use Rattle.node_loop.specs.Noting.{sends_if}
+use Rattle.node_service.specs.Noting.{sends_if}
 use Rattle.node_loop.specs.Speaking.{Speaks, SpeaksTo, sent_if}
-use Rattle.node_loop.proofs.Became.{leads-join, sent-join}
+use Rattle.node_service.proofs.Became.{leads-join, sent-join}
 use Rattle.node_connections.proofs.Places.{apart, below-or-last, none-below, past}
 
 -- a port and what is kept of it stay

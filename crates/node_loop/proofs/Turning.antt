@@ -5,8 +5,8 @@ use Rattle.node_core.specs.State.{LocalState}
 use Rattle.node_core.specs.Step.{ticked}
 use Rattle.node_core.specs.View.{NodeView, site_in, state_of}
 use Rattle.node_core.specs.declared.ticked.Ticked.{Ticked}
-use Rattle.node_loop.specs.Deeds.{Acts, Became, Deed, IsLeave, IsOfClient, IsTake, Leads, Ticks}
-use Rattle.node_loop.proofs.Became.{leads-join}
+use Rattle.node_service.specs.Deeds.{Acts, Became, Deed, IsLeave, IsOfClient, IsTake, Leads, Ticks}
+use Rattle.node_service.proofs.Became.{leads-join}
 
 -- what is spoken and who leaves then
 spoken-leads : (site at : Site) (sends leaves : List Deed) (s last : LocalState) → at ≡ site → Leads at sends s s → Leads at leaves s last → Leads site (sends ++ leaves) s last

@@ -2,9 +2,9 @@
 use Rattle.std.specs.Prelude.{◌≡◌, ◌≢◌, ℕ, List, slice_get, Option, []}
 use Rattle.topology.specs.declared.frame.Frame.{Frame}
 use Rattle.node_core.specs.View.{NodeView, site_in}
-use Rattle.socket_links.specs.Counts.{Counts}
+use Rattle.node_connections.specs.socket_links.Counts.{Counts}
 use Rattle.node_connections.specs.declared.port.NodePort.{NodePort}
-use Rattle.node_loop.specs.Deeds.{Became, IsOfClient, IsTake, taken_from}
+use Rattle.node_service.specs.Deeds.{Became, IsOfClient, IsTake, taken_from}
 use Rattle.node_connections.specs.Ports.{AtBoth}
 use Rattle.node_loop.specs.Moments.{Moment}
 use Rattle.node_loop.specs.Remembering.{Remembers}

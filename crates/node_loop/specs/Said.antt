@@ -1,45 +1,19 @@
 -- What clients are answered in a turn, and between two: just that, and nothing else, is said to them.
-use Rattle.std.specs.Prelude.{◌≡◌, ℕ, List, ◌∷◌, ◌++◌, All, Option, map, []}
+use Rattle.std.specs.Prelude.{◌≡◌, ℕ, List, All, Option, map, []}
 use Rattle.slab.specs.Slab.{get}
-use Rattle.lock_desk.specs.declared.client_line.ClientLine.{ClientLine}
-use Rattle.node_core.specs.Site.{Site}
-use Rattle.node_core.specs.State.{LocalState}
 use Rattle.node_core.specs.View.{NodeView, site_in, state_of}
 use Rattle.node_core.specs.declared.ticked.Ticked.{Ticked}
-use Rattle.socket_links.specs.Counts.{Counts}
+use Rattle.node_connections.specs.socket_links.Counts.{Counts}
 use Rattle.node_connections.specs.declared.clients.Clients.{Clients}
-use Rattle.node_loop.specs.Answers.{answer_text}
 use Rattle.node_connections.specs.Clients.{answers_of, is_connected, IsReported}
-use Rattle.node_loop.specs.Deeds.{Became, IsLeaveOfGone, IsOfClient}
+use Rattle.node_service.specs.Deeds.{Became, IsLeaveOfGone, IsOfClient}
 use Rattle.node_connections.specs.Ends.{EndsAt}
 use Rattle.node_connections.specs.Lives.{Admits, AllRead}
 use Rattle.node_loop.specs.Moments.{Moment}
-use Rattle.node_loop.specs.Noting.{AttendIsNoted, Did, DidListen, TurnIsNoted}
-use Rattle.node_loop.specs.NotesView.{NotesView}
-use Rattle.node_loop.specs.Services.{AreGone, deeds_of_all, lines_of, Service}
+use Rattle.node_loop.specs.Noting.{AttendIsNoted, DidListen, TurnIsNoted}
+use Rattle.node_service.specs.NotesView.{NotesView}
+use Rattle.node_service.specs.Services.{AreGone, deeds_of_all, lines_of, Service}
 use Rattle.node_connections.specs.Said.{IsHeard, IsSaid, WritesOut}
-
--- the answers to these lines of the client with ticket t, one after the other; each with the state in
--- which the node was
-abbrev pub answers_to : Site → ℕ → List (ClientLine × LocalState) → List ℕ
-answers_to site t [] = []
-answers_to site t (asked ∷ rest) = answer_text site t asked.0 asked.1 ++ answers_to site t rest
-
-module _ {P A : Type 0} (took : P → Option (List ℕ)) where
-  -- By some services a node became what it is; just their deeds were noted, and only tickets of clients that
-  -- are gone left. Each client had such lines and answers, and those answers, and nothing else, were said to it.
-  pub record Serves (served : ℕ → List ClientLine → List ℕ → Type 0) (before after : NodeView)
-      (noted notes : NotesView) (old new : Clients P A) : Type 0 where
-    pub services : List Service
-    pub did : Did IsOfClient before after noted notes
-    pub deeds_are : did.became.deeds ≡ deeds_of_all services
-    pub gone : AreGone (is_connected new) services
-    pub lines_are : (t : ℕ)
-        → served t (map (λ asked. asked.0) (lines_of t services (state_of before)))
-        (answers_to (site_in before) t (lines_of t services (state_of before)))
-    pub said : (t : ℕ)
-        → IsSaid took (answers_to (site_in before) t (lines_of t services (state_of before)))
-        t old new
 
 module _ {P A : Type 0} (gave took : P → Option (List ℕ)) (counts : P → Counts) where
   -- Clients came, or none did; and then each was read, and served by these deeds of the node: its lines are

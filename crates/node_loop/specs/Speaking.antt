@@ -14,8 +14,8 @@ use Rattle.pace.specs.declared.node.Outlook.{Outlook}
 use Rattle.pace.specs.declared.pace.Plan.{Plan}
 use Rattle.pace.specs.declared.port.PortPace.{PortPace}
 use Rattle.pace.specs.declared.port.PortSight.{PortSight}
-use Rattle.socket_links.specs.Counts.{Counts}
-use Rattle.node_loop.specs.Deeds.{Deed, IsSend, Leads, sent_to}
+use Rattle.node_connections.specs.socket_links.Counts.{Counts}
+use Rattle.node_service.specs.Deeds.{Deed, IsSend, Leads, sent_to}
 use Rattle.node_connections.specs.Ports.{AtBoth}
 use Rattle.node_loop.specs.Moments.{Moment}
 use Rattle.node_connections.specs.declared.port.NodePort.{NodePort}

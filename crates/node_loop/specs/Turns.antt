@@ -3,8 +3,8 @@ use Rattle.std.specs.Prelude.{◌≡◌, ℕ, List, ◌++◌, ◌∷◌, Option}
 use Rattle.node_core.specs.View.{site_in, state_of}
 use Rattle.node_core.specs.declared.ticked.Ticked.{Ticked}
 use Rattle.pace.specs.declared.pace.Plan.{Plan}
-use Rattle.socket_links.specs.Counts.{Counts}
-use Rattle.node_loop.specs.Deeds.{Acts, Became, Deed, IsLeave, Leads, Ticks}
+use Rattle.node_connections.specs.socket_links.Counts.{Counts}
+use Rattle.node_service.specs.Deeds.{Acts, Became, Deed, IsLeave, Leads, Ticks}
 use Rattle.node_loop.specs.Hearing.{Listens}
 use Rattle.node_loop.specs.Moments.{Moment}
 use Rattle.node_loop.specs.Remembering.{Remembers}

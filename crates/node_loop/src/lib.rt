@@ -34,15 +34,12 @@
 //! without `wait` burns a core.
 #![tactic(auto)]
 
-mod answer;
-mod notes;
 mod run;
-mod service;
 mod sight;
 mod turned;
 
 pub use node_connections::{Door, Doors};
 pub use node_core::Node;
-pub use notes::Notes;
+pub use node_service::Notes;
 pub use run::{NodeRun, Unmade};
 pub use turned::Turned;

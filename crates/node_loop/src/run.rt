@@ -16,13 +16,13 @@ mod pacing;
 mod pulling;
 mod speaking;
 
-use crate::notes::Notes;
 use crate::turned::Turned;
 use node_connections::clients::Clients;
 use node_connections::lobby::Lobby;
 use node_connections::port::NodePort;
 use node_connections::{Doors, reserve};
 use node_core::{Node, Ticked};
+use node_service::Notes;
 use pace::{Manner, Pace};
 use state_writing::Store;
 use std::alloc::{AllocError, Allocator, Global};
@@ -65,7 +65,7 @@ pub struct NodeRun<D: Doors, S: Store + Drop, A: Allocator + Copy = Global> {
 }
 
 impl<D: Doors, S: Store + Drop, A: Allocator + Copy> NodeRun<D, S, A> {
-    ghost use Rattle.node_loop.specs.Clients.{AreConnected};
+    ghost use Rattle.node_service.specs.Clients.{AreConnected};
     ghost use Rattle.node_connections.specs.Lives.{StillLive};
     ghost use Rattle.node_loop.specs.Noting.{AttendIsNoted, TurnIsNoted};
     ghost use Rattle.node_loop.specs.Said.{AttendSays, TurnSays};

@@ -9,9 +9,9 @@ ghost use Rattle.node_loop.specs.Speaking.{outlook_of, sight_at};
 
 use euler_ring::{TreeNeighbours, tree_neighbours};
 use node_connections::port::NodePort;
+use node_connections::socket_links::Pipe;
 use node_core::Node;
 use pace::{Outlook, PortSight};
-use socket_links::Pipe;
 use std::alloc::Allocator;
 use topology::{Frame, Net, Payload, laws as topology_laws};
 

@@ -1,6 +1,6 @@
 //! What a turn answers.
 ghost use Rattle.std.specs.Prelude.{◌≡◌, is_some};
-ghost use Rattle.node_loop.specs.Answers.{grants};
+ghost use Rattle.node_service.specs.Answers.{grants};
 
 use lock_desk::DeskAct;
 use node_core::Ticked;

@@ -23,7 +23,6 @@
 //! owner can enter it.
 #![tactic(auto)]
 
-mod journal;
 pub mod node;
 mod observer;
 mod start;

@@ -1,14 +1,11 @@
 //! What watches a node while it runs.
-ghost use Rattle.std.specs.Prelude.{◌≡◌, ◌↔◌, ◌||◌, ◌+◌, None, IfOk, IfSome, IsSome, false, not, is_some, length, min};
-ghost use Rattle.std.specs.Prelude.{slice_index_or};
-ghost use Rattle.record_files.specs.node_recorder.Quiet.{is_quiet};
-ghost use Rattle.record_files.specs.Noted.{is_linked, link_changes, RecordsTurn};
+ghost use Rattle.std.specs.Prelude.{◌≡◌, ◌↔◌, None, IfOk, IfSome, IsSome, not, is_some};
+ghost use Rattle.record_files.specs.Noted.{HasTurn};
 
-use crate::journal::Journal;
 use look_window::Window;
 use node_folder::node_state_file::Store;
 use node_folder::{ClientSight, Stopwatch};
-use node_log::Event;
+use node_journal::{Event, Journal};
 use node_loop::{Doors, NodeRun, Notes, Turned};
 use record_files::Tape;
 use record_files::process_parts::{NodeFault, NodeWords};
@@ -111,17 +108,15 @@ impl<'a, 'w, R: Files<File = File> + Clock + Eprint + AllocGlobal> Observer<'a, 
     )
         ensures off { self.old.tape ≡ None → self.new.tape ≡ None }
         // A record that has not stopped has the turn.
-        ensures recorded { IfSome self.old.tape (λ old. old.recorder.pages.is_stopped ≡ false
-            → IfSome self.new.tape (λ new. RecordsTurn (min (old.start + now) 18446744073709551615)
-            self.old.notes.deeds (not self.old.notes.is_torn)
-            (not (is_quiet self.old.notes.deeds || is_some turned.now.saved)) run.now.node
-            (link_changes (λ id. slice_index_or old.linked id false) (is_linked run.now.ports.items)
-            (min (length run.now.ports.items) 64)) old.recorder new.recorder)) }
+        ensures recorded { IfSome self.old.tape (λ old. IfSome self.new.tape (λ new.
+            HasTurn old.start now old.linked self.old.notes.deeds (not self.old.notes.is_torn)
+            (is_some turned.now.saved) run.now.node run.now.ports.items old.recorder new.recorder)) }
         ensures others { (self.new.window ≡ self.old.window) × (self.new.watch ≡ self.old.watch)
             × (self.new.notes ≡ self.old.notes) }
     {
+        let (act, ended) = (turned.ticked.act, self.watch.last());
         self.journal
-            .turn_ended(run, turned, clients, self.watch.last());
+            .turn_ended(run.node(), run.net(), run.ports(), act, clients, ended);
         self.record(run, turned.is_to_look(), now);
     }
 
@@ -146,12 +141,9 @@ impl<'a, 'w, R: Files<File = File> + Clock + Eprint + AllocGlobal> Observer<'a, 
     )
         ensures off { self.old.tape ≡ None → self.new ≡ self.old }
         // A record that has not stopped has the turn.
-        ensures recorded { IfSome self.old.tape (λ old. old.recorder.pages.is_stopped ≡ false
-            → IfSome self.new.tape (λ new. RecordsTurn (min (old.start + now) 18446744073709551615)
-            self.old.notes.deeds (not self.old.notes.is_torn)
-            (not (is_quiet self.old.notes.deeds || must_settle)) run.now.node
-            (link_changes (λ id. slice_index_or old.linked id false) (is_linked run.now.ports.items)
-            (min (length run.now.ports.items) 64)) old.recorder new.recorder)) }
+        ensures recorded { IfSome self.old.tape (λ old. IfSome self.new.tape (λ new.
+            HasTurn old.start now old.linked self.old.notes.deeds (not self.old.notes.is_torn)
+            must_settle run.now.node run.now.ports.items old.recorder new.recorder)) }
         ensures others { (self.new.journal ≡ self.old.journal) × (self.new.window ≡ self.old.window)
             × (self.new.watch ≡ self.old.watch) × (self.new.notes ≡ self.old.notes) }
     {

@@ -38,4 +38,4 @@ pub use file_store::FileStore;
 pub use memory_store::MemoryStore;
 pub use reading::decode;
 pub use starting::{StartFault, Started, start};
-pub use state_writing::{LOADED_BYTES, MOST_BYTES, Node, Store, StoreFault, encode};
+pub use state_writing::{LOADED_BYTES, MOST_BYTES, Node, NodeState, Store, StoreFault, encode};

@@ -36,6 +36,7 @@ pub use node_keeping::{
     AfterSave, Complaint, Deed, FileId, FileSight, Keeper, Lost, Seen, Sights, StopSight, UpCourse,
     UpSights, after_save, looks_for_stop,
 };
+pub use node_log;
 pub use record_size::{RecordSize, USUAL_SIZE};
 pub use rights::Rights;
 pub use start::Stage;

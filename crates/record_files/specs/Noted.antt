@@ -1,5 +1,5 @@
 -- What becomes of a turn in a node's record.
-use Rattle.std.specs.Prelude.{◌≡◌, ◌⊎◌, ◌∷◌, [], ℕ, Bool, true, false, List, Option, None, Some, flat_map, slice_get}
+use Rattle.std.specs.Prelude.{◌≡◌, ◌⊎◌, ◌∷◌, ◌+◌, ◌||◌, [], ℕ, Bool, true, false, not, List, Option, None, Some, flat_map, length, min, slice_get, slice_index_or}
 use Rattle.std.specs.List.{range_with_len}
 use Rattle.node_recorder.specs.node_follower.node_core.View.{NodeView}
 use Rattle.node_connections.specs.LinkSights.{link_at}
@@ -7,6 +7,7 @@ use Rattle.node_connections.specs.declared.port.NodePort.{NodePort}
 use Rattle.node_recorder.specs.flight_recorder.Recorder.{after_failure, after_write}
 use Rattle.node_recorder.specs.flight_recorder.flight_records.declared.entry.Deed.{Deed}
 use Rattle.node_recorder.specs.flight_recorder.flight_records.declared.entry.Deed.TheVariants.{Connects, Disconnects}
+use Rattle.node_recorder.specs.Quiet.{is_quiet}
 use Rattle.node_recorder.specs.Turns.{Records}
 use Rattle.node_recorder.specs.declared.recorder.NodeRecorder.{NodeRecorder}
 use Rattle.turn_watch.specs.declared.links.LinkSight.{LinkSight}
@@ -52,3 +53,15 @@ pub record RecordsTurn {A : Type 0} (now : ℕ) (deeds : List Deed) (has_all may
   pub turn : Records now deeds has_all may_wait node old turned
   pub connections : RecordsEach now may_wait node links turned linked
   pub ends : IsWrittenOrNot linked new
+
+module _ {A P : Type 0} (start now : ℕ) (linked : List Bool) (deeds : List Deed) (has_all must_settle : Bool)
+    (node : NodeView) (ports : List (NodePort P)) where
+  -- A record that has not stopped has the turn that began `now` microseconds after the node's clock stood at 0,
+  -- which was at the time `start`: its deeds, and then each connection that began or ended, since the node had
+  -- those of `linked`, with one of at most 64 nodes. Times end at 2^64 - 1. A deed may wait to be written only
+  -- after a turn that was not quiet, and if none must settle.
+  abbrev pub HasTurn : NodeRecorder A → NodeRecorder A → Type 0
+  HasTurn old new =
+      old.pages.is_stopped ≡ false
+      → RecordsTurn (min (start + now) 18446744073709551615) deeds has_all (not (is_quiet deeds || must_settle))
+      node (link_changes (λ id. slice_index_or linked id false) (is_linked ports) (min (length ports) 64)) old new

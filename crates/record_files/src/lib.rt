@@ -24,11 +24,6 @@ mod pages;
 mod tape;
 mod writing;
 
-pub use instants::micros_now;
-pub use kept_network::{KeepWords, NotKept, keep_network};
-pub use names::RecordNames;
 pub use node_recorder;
-pub use pages::first_pages;
 pub use process_parts;
 pub use tape::Tape;
-pub use writing::RecordFiles;

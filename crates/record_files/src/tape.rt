@@ -9,7 +9,7 @@ ghost use Rattle.node_recorder.specs.node_follower.Following.{FitsNetwork};
 ghost use Rattle.node_recorder.specs.Quiet.{is_quiet};
 ghost use Rattle.node_recorder.specs.Turns.{Records};
 ghost use Rattle.record_files.specs.Noted.{is_linked, link_changes, IsWrittenOrNot, RecordsEach};
-ghost use Rattle.record_files.specs.Noted.{RecordsTurn};
+ghost use Rattle.record_files.specs.Noted.{HasTurn};
 ghost use Rattle.record_files.specs.Files.{file_bytes, AreFirstPages};
 
 use crate::instants::micros_now;
@@ -104,12 +104,8 @@ impl<'a, R: Files<File = File> + Clock + Eprint + AllocGlobal> Tape<'a, R> {
         ensures settled { self.old.recorder.pages.is_stopped ≡ false
             → IsTrue (is_quiet deeds.now || must_settle) → self.new.recorder.backlog ≡ nothing }
         // The deeds are recorded, and then the connections that began or ended since it was seen last.
-        ensures noted { self.old.recorder.pages.is_stopped ≡ false
-            → RecordsTurn (min (self.old.start + now) 18446744073709551615) deeds.now
-            has_all (not (is_quiet deeds.now || must_settle)) node.now
-            (link_changes (λ id. slice_index_or self.old.linked id false)
-            (is_linked ports.now) (min (length ports.now) 64))
-            self.old.recorder self.new.recorder }
+        ensures noted { HasTurn self.old.start now self.old.linked deeds.now has_all must_settle
+            node.now ports.now self.old.recorder self.new.recorder }
         ensures linked { self.old.recorder.pages.is_stopped ≡ false
             → (id : ℕ) → id < min (length ports.now) 64
             → slice_index_or self.new.linked id false ≡ is_linked ports.now id }

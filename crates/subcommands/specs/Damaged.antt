@@ -5,7 +5,7 @@ use Rattle.rand_pcg.specs.Lcg.{Lcg}
 use Rattle.rand_pcg.specs.Pcg.{pcg32_of_seed}
 use Rattle.topology.specs.Network.{Network, neighbours_of}
 use Rattle.topology.specs.Ranges.{ranges_of}
-use Rattle.node_core.specs.State.{default_node}
+use Rattle.node_state_file.specs.node_core.State.{default_node}
 use Rattle.node_state_file.specs.Spelling.{written}
 use Rattle.command_parts.specs.schedules.damage_tool.Draws.{draw_junk}
 use Rattle.command_parts.specs.schedules.damage_tool.Scrambled.{node_scrambled}

@@ -7,8 +7,7 @@ ghost use Rattle.subcommands.specs.Faults.{IsUnsaved};
 ghost use Rattle.command_parts.specs.command_faults.declared.fault.Fault.TheVariants.{NoNode, Memory};
 
 use command_parts::{Fault, PathFault, read_network, scramble_node};
-use node_core::NodeState;
-use node_state_file::{FileStore, MOST_BYTES, Store, StoreFault, encode};
+use node_state_file::{FileStore, MOST_BYTES, NodeState, Store, StoreFault, encode};
 use rand_core::SeedableRng;
 use rand_pcg::Lcg64Xsh32;
 use std::alloc::Global;

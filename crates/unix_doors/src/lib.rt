@@ -22,6 +22,7 @@ mod seats;
 
 pub use clock::Stopwatch;
 pub use doors::UnixDoors;
+pub use node_connections;
 pub use node_connections::Doors;
 pub use notify::tell_ready;
 pub use pipe::UnixPipe;

@@ -1,12 +1,12 @@
 //! A Unix socket as a pipe.
 ghost use Rattle.std.specs.Prelude.{◌≡◌, ◌↔◌, ◌⊎◌, IsTrue};
 ghost use Rattle.std.specs.declared.io.ErrorKind.TheVariants.{WouldBlock, Interrupted};
-ghost use Rattle.socket_links.specs.Counts.{Counts};
+ghost use Rattle.node_connections.specs.socket_links.Counts.{Counts};
 
 use crate::seats::Seat;
 use libc::net::{SO_SNDBUF, SOL_SOCKET, setsockopt};
 use mio::net::UnixStream;
-use socket_links::{Pipe, ReadAnswer, WriteAnswer};
+use node_connections::socket_links::{Pipe, ReadAnswer, WriteAnswer};
 use std::io::{self, ErrorKind, Read, Write};
 use std::os::fd::AsRawFd;
 

@@ -2,10 +2,9 @@
 ghost use Rattle.std.specs.Prelude.{◌≡◌, ◌<◌, IfSome, Some, Contains, slice_get};
 ghost use Rattle.node_core.specs.View.{site_in};
 
-use crate::notes::Notes;
 use crate::run::NodeRun;
-use crate::service;
 use node_connections::{Door, Doors, lobby};
+use node_service::{Notes, service};
 use state_writing::Store;
 use std::alloc::Allocator;
 
@@ -13,10 +12,10 @@ use std::alloc::Allocator;
 const COMERS: usize = 64;
 
 impl<D: Doors, S: Store + Drop, A: Allocator + Copy> NodeRun<D, S, A> {
-    ghost use Rattle.node_loop.specs.Clients.{AreConnected};
+    ghost use Rattle.node_service.specs.Clients.{AreConnected};
     ghost use Rattle.node_connections.specs.Hearing.{AreWired, IsWiredAt};
     ghost use Rattle.node_connections.specs.Lives.{Admits, StillLive};
-    ghost use Rattle.node_loop.specs.Noting.{emptied};
+    ghost use Rattle.node_service.specs.Noting.{emptied};
     ghost use Rattle.node_loop.specs.Remembering.{Remembers};
     ghost use Rattle.node_loop.specs.Said.{ListensTo};
     ghost use Rattle.node_loop.specs.Moments.{moment_of};

@@ -3,12 +3,12 @@ ghost use Rattle.std.specs.Prelude.{◌≡◌, false};
 ghost use Rattle.std.specs.Prelude.{IsTrue};
 ghost use Rattle.node_core.specs.View.{site_in};
 
-use crate::notes::Notes;
 use crate::run::NodeRun;
 use crate::sight;
 use node_connections::Doors;
+use node_connections::socket_links::Pull;
 use node_core::Item;
-use socket_links::Pull;
+use node_service::Notes;
 use state_writing::Store;
 use std::alloc::Allocator;
 

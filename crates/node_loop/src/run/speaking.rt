@@ -9,24 +9,24 @@ ghost use Rattle.node_core.specs.View.{site_in, state_of};
 ghost use Rattle.node_connections.specs.Ports.{AtBoth};
 ghost use Rattle.node_loop.specs.Speaking.{SpeaksTo, sent_if};
 
-use crate::notes::Notes;
 use crate::run::NodeRun;
-use crate::service;
 use crate::sight::{self, NODES};
 use node_connections::Doors;
 use node_connections::port::NodePort;
+use node_connections::socket_links::Pipe;
 use node_core::Ticked;
+use node_service::{Notes, service};
 use pace::Pace;
-use socket_links::Pipe;
 use state_writing::Store;
 use std::alloc::Allocator;
 use topology::Frame;
 
 impl<D: Doors, S: Store + Drop, A: Allocator + Copy> NodeRun<D, S, A> {
-    ghost use Rattle.node_loop.specs.Clients.{AreConnected};
+    ghost use Rattle.node_service.specs.Clients.{AreConnected};
     ghost use Rattle.node_connections.specs.Clients.{is_connected, IsReported};
-    ghost use Rattle.node_loop.specs.Deeds.{IsLeaveOfGone};
-    ghost use Rattle.node_loop.specs.Noting.{after_all, sends_if, DidAct, DidSpeak};
+    ghost use Rattle.node_service.specs.Deeds.{IsLeaveOfGone};
+    ghost use Rattle.node_service.specs.Noting.{after_all, sends_if, DidAct};
+    ghost use Rattle.node_loop.specs.Noting.{DidSpeak};
     ghost use Rattle.node_connections.specs.Ends.{EndsByWrite};
     ghost use Rattle.node_connections.specs.Heard.{NothingHeard};
     ghost use Rattle.node_connections.specs.Lives.{AllGoOut, LiveOn};

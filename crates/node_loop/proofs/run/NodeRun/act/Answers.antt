@@ -1,7 +1,7 @@
 use Rattle.std.proofs.Common.{ap, refl}
 use Rattle.node_connections.proofs.Lives.{still-join}
 use Rattle.node_loop.specs.Moments.{moment_of}
-use Rattle.node_loop.specs.Noting.{emptied}
+use Rattle.node_service.specs.Noting.{emptied}
 use Rattle.node_loop.proofs.Noting.{turn-grown}
 use Rattle.node_loop.proofs.Turning.{turn-leads}
 use Rattle.node_loop.proofs.run.NodeRun.act.Goals as goal

@@ -2,16 +2,17 @@ use Rattle.std.proofs.Common.{◌≡◌, ◌∙◌, ◌++◌, ℕ, List, refl, s
 use Rattle.lock_desk.specs.declared.client_line.ClientLine.{ClientLine}
 use Rattle.node_connections.specs.Hearing.{AreWired}
 use Rattle.node_connections.specs.Lives.{Admits, AllRead, LiveOn}
-use Rattle.node_loop.specs.Noting.{DidHear, emptied}
+use Rattle.node_service.specs.Noting.{emptied}
+use Rattle.node_loop.specs.Noting.{DidHear}
 use Rattle.node_connections.specs.Said.{IsServed}
-use Rattle.node_loop.specs.Said.{Serves}
+use Rattle.node_service.specs.Serving.{Serves}
 use Rattle.node_connections.proofs.Ends.{and-nothing}
 use Rattle.node_connections.proofs.Hearing.{wired-join}
 use Rattle.node_connections.proofs.Lives.{still-live}
-use Rattle.node_loop.proofs.Noting.{grown}
+use Rattle.node_service.proofs.Noting.{grown}
 use Rattle.node_loop.proofs.Remembering.{remembers-equal, remembers-join}
 use Rattle.node_connections.proofs.Saying.{nothing-same}
-use Rattle.node_loop.proofs.Serving.{serves-goes, serves-join}
+use Rattle.node_service.proofs.Serving.{serves-goes, serves-join}
 use Rattle.node_loop.proofs.run.NodeRun.listen.Goals as goal
 
 pub returns-clause-listens : goal.returns-clause-listens

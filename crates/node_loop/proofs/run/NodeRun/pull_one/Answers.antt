@@ -2,8 +2,8 @@ use Rattle.std.proofs.Common.{◌≡◌, ◌<◌, ◌∷◌, Contains, length, a
 use Rattle.std.specs.Prelude.{slice_set}
 use Rattle.node_core.specs.Site.{Site, site_of}
 use Rattle.topology.specs.Ranges.{ranges_of}
-use Rattle.socket_links.specs.Links.{Pulled}
-use Rattle.socket_links.specs.declared.link.Pull.TheVariants as pull
+use Rattle.node_connections.specs.socket_links.Links.{Pulled}
+use Rattle.node_connections.specs.socket_links.declared.link.Pull.TheVariants as pull
 use Rattle.node_connections.specs.Hearing.{Comes, Pulls}
 use Rattle.node_connections.proofs.Hearing.{both-set, others-set, frame-came, later-came, broken-came, pulls-same}
 use Rattle.node_loop.proofs.Hearing.{counted-set, takes-none, takes-one, takes-set}

@@ -4,10 +4,10 @@ use Rattle.node_connections.specs.Lives.{AllGoOut, LiveOn}
 use Rattle.node_core.specs.link_port.Port.{frame_of}
 use Rattle.node_core.specs.View.{NodeView, state_of}
 use Rattle.node_connections.specs.Clients.{is_connected}
-use Rattle.node_loop.specs.Deeds.{Deed, IsLeaveOfGone}
-use Rattle.node_loop.specs.Noting.{after_all, sends_if, Did}
-use Rattle.node_loop.proofs.Became.{are-leaves}
-use Rattle.node_loop.proofs.Noting.{grown}
+use Rattle.node_service.specs.Deeds.{Deed, IsLeaveOfGone}
+use Rattle.node_service.specs.Noting.{after_all, sends_if, Did}
+use Rattle.node_service.proofs.Became.{are-leaves}
+use Rattle.node_service.proofs.Noting.{grown}
 use Rattle.node_connections.proofs.Served.{AllEndByWrite}
 use Rattle.node_loop.proofs.Speaking.{spoken-start, spoken-next, spoken-end}
 use Rattle.node_connections.specs.Said.{NothingSaid}

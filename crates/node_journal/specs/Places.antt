@@ -1,0 +1,15 @@
+-- Whether a node is in its place on the tree.
+use Rattle.std.specs.Prelude.{ℕ, Bool, true, false, ◌==◌, ◌&&◌, nat_lt, Option, None, Some}
+use Rattle.node_core.specs.link_port.topology.Network.{Network}
+use Rattle.node_core.specs.link_port.topology.Tree.{distance_of, parent_of}
+
+-- two ids, or two times none
+abbrev pub same_id : Option ℕ → Option ℕ → Bool
+same_id None None = true
+same_id (Some v) (Some w) = v == w
+same_id _ _ = false
+
+-- a node of the network has the distance and the parent that the network gives it
+abbrev pub is_in_place : Network → ℕ → ℕ → Option ℕ → Bool
+is_in_place net id distance parent =
+    nat_lt id net.nodes && (distance == distance_of net id) && same_id parent (parent_of net id)

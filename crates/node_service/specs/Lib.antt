@@ -1,0 +1,7 @@
+pub mod Deeds
+pub mod Answers
+pub mod Clients
+pub mod NotesView
+pub mod Noting
+pub mod Services
+pub mod Serving
