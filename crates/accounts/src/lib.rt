@@ -13,4 +13,4 @@
 
 pub mod laws;
 
-pub use node_core;
+pub use node_core::{Frame, Item, Node, Payload};

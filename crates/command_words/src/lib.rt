@@ -18,5 +18,4 @@ pub mod program;
 pub mod refusal;
 
 pub use line::{asks_for_lock, asks_for_version, ends, is_of_service, matches_of, say_version};
-pub use program_ends::begin;
-pub use program_ends::fault_hints::{explain_id, explain_network, explain_swap};
+pub use program_ends::{begin, explain_id, explain_network, explain_swap};

@@ -9,9 +9,10 @@ use crate::program::{ABOUT, NAME, Runtime, VERSION};
 use crate::refusal::{Refusal, status};
 use clap::{ArgMatches, Command};
 use command_grammar::{Grammar, Program, parser};
-use program_ends::command_faults::Fault;
-use program_ends::fault_hints::{explain_network, explain_reading, explain_writing};
-use program_ends::{fails, fault_status, print_status, shows};
+use program_ends::{
+    Fault, explain_network, explain_reading, explain_writing, fails, fault_status, print_status,
+    shows,
+};
 use std::alloc::{AllocError, Global};
 use std::convert::AsStr;
 use std::process::ExitCode;

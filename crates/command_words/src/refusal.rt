@@ -4,9 +4,10 @@ ghost use Rattle.std.specs.Process.{exit_status};
 ghost use Rattle.command_words.specs.Ends.{status_of};
 
 use command_grammar::WordFault;
-use program_ends::command_faults::{Fault, PathFault};
-use program_ends::fault_hints::{explain_network, explain_writing};
-use program_ends::{LINE_REFUSED, PathFaultLine, fails, fault_status};
+use program_ends::{
+    Fault, LINE_REFUSED, PathFault, PathFaultLine, explain_network, explain_writing, fails,
+    fault_status,
+};
 use recovery_times::TimeFault;
 use std::fmt;
 use std::process::ExitCode;

@@ -43,6 +43,6 @@ mod whole;
 pub use configuration::Configuration;
 pub use links::Links;
 pub use pair_table::PairTable;
-pub use run_model::{Event, EventFault, Happened, Harm, Item, Node, link_model};
+pub use run_model::{Event, EventFault, Frame, Happened, Harm, Item, NoItem, Node, Payload};
 pub use sight::{Sight, serves_after, touched_sight};
 pub use whole::serves;

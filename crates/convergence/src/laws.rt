@@ -14,18 +14,18 @@ ghost use Rattle.convergence.specs.Service.{WaitingAreServed};
 ghost use Rattle.run_model.specs.Headline.{Headline};
 
 use crate::ring_laws;
+use run_model::laws as run_model_laws;
 use tree_convergence::laws as tree_convergence_laws;
 pub use tree_convergence::laws::links;
-use tree_convergence::lock_desk::laws as lock_desk_laws;
 
 /// All that this crate knows about the layers below. Each law here is proved only from these.
 pub fn below()
     ensures { Below }
 {
     topology::laws::tree();
-    lock_desk_laws::loans_need_privilege();
-    lock_desk_laws::waiting_tickets_are_served();
-    lock_desk_laws::one_loan_a_stay();
+    run_model_laws::loans_need_privilege();
+    run_model_laws::waiting_tickets_are_served();
+    run_model_laws::one_loan_a_stay();
     ring_laws::below();
     tree_convergence_laws::links();
     tree_convergence_laws::payloads();

@@ -12,7 +12,6 @@ ghost use Rattle.convergence.specs.Legs.{EachTour};
 use k_state::laws as k_state_laws;
 use run_model::laws as run_model_laws;
 use topology::laws as topology_laws;
-use tree_convergence::euler_ring::laws as euler_ring_laws;
 use tree_convergence::laws as tree_convergence_laws;
 
 /// The legs of the tour: each goes on from the one before, and the first from the last; each node
@@ -22,9 +21,9 @@ pub fn legs()
     ensures { EachTour }
 {
     topology_laws::joined();
-    euler_ring_laws::round_a_node();
-    euler_ring_laws::true_view();
-    euler_ring_laws::the_tour();
+    run_model_laws::round_a_node();
+    run_model_laws::true_view();
+    run_model_laws::the_tour();
 }
 
 /// All that this crate knows about the layers below, and about the tour. The laws below are proved
@@ -40,7 +39,7 @@ pub fn below()
     k_state_laws::parallel_copies();
     k_state_laws::privilege();
     k_state_laws::ages();
-    euler_ring_laws::true_view();
+    run_model_laws::true_view();
     run_model_laws::runs();
     run_model_laws::in_range();
     run_model_laws::sweep_numbers();

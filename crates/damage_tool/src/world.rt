@@ -10,8 +10,7 @@ ghost use Rattle.damage_tool.specs.Appended.{appended};
 
 use crate::draws::{PortDraw, draw_below, draw_parent, draw_payload, draw_port, draw_to};
 use rand_pcg::Lcg64Xsh32;
-use run_model::link_model::Item;
-use run_model::{Event, Harm};
+use run_model::{Event, Harm, Item};
 use std::alloc::{AllocError, Allocator};
 use topology::{Frame, Net, Ranges};
 

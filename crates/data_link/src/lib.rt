@@ -17,7 +17,6 @@
 
 pub mod laws;
 
-pub use link_model;
 pub use link_model::topology::Net;
 pub use link_model::{Frame, Item, Payload, Ranges};
 pub use link_port::{Heard, OutOfRange, Port, copy_move, privileged, root_move};

@@ -5,8 +5,7 @@ ghost use Rattle.std.specs.List.{join_with_byte};
 ghost use Rattle.events_text.specs.EventLaws.{event_words, harm_words, payload_words, word_or_none};
 ghost use Rattle.events_text.specs.EventLaws.{yes_or_no_word};
 
-use run_model::link_model::Item;
-use run_model::{Event, Harm};
+use run_model::{Event, Harm, Item};
 use std::fmt;
 use topology::{Frame, Payload};
 

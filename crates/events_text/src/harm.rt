@@ -6,8 +6,7 @@ ghost use Rattle.events_text.specs.EventLine.{frame_of};
 use super::numbers::{three_numbers, two_numbers};
 use super::payload::payload;
 use line_words::Words;
-use run_model::Harm;
-use run_model::link_model::{Frame, Item};
+use run_model::{Frame, Harm, Item};
 
 /// The harm that its kind and the words after it name: `staged V W D P X` and `copy V W D P X`, or
 /// `junk U V`, `empty U V`, `join U V` and `part U V`, or one of those below.

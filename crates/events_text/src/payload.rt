@@ -4,7 +4,7 @@ ghost use Rattle.line_words.specs.Words.{other_words};
 ghost use Rattle.events_text.specs.EventLine.{payload_of};
 
 use line_words::Words;
-use run_model::link_model::Payload;
+use run_model::Payload;
 
 /// The next three words, as a payload: a distance, a parent or `none`, and a ring value.
 pub fn payload(words: &mut Words) -> Option<Payload>

@@ -2,8 +2,7 @@
 ghost use Rattle.std.specs.Prelude.{◌≡◌, ◌↔◌, IsTrue, option_map};
 ghost use Rattle.fault_hints.specs.Kinds.{kind_text, unmade_text, AreSwapped, MayWait};
 
-use network_file::NetworkFault;
-use network_file::topology::NetFault;
+use network_file::{NetFault, NetworkFault};
 use network_hints::hint;
 use std::fmt::Display;
 use std::fs::{Metadata, OpenOptions};

@@ -36,8 +36,8 @@ mod visited;
 mod world;
 
 pub use configuration::{
-    Configuration, Event, EventFault, Happened, Harm, Links, Node, link_model, serves,
-    serves_after, touched_sight,
+    Configuration, Event, EventFault, Frame, Happened, Harm, Item, Links, NoItem, Node, Payload,
+    serves, serves_after, touched_sight,
 };
 pub use judge::Judge;
 pub use parts::Parts;

@@ -2,7 +2,7 @@
 ghost use Rattle.std.specs.Prelude.{◌≡◌, ◌<◌, length, nat_lt};
 ghost use Rattle.look_window.specs.Lookers.{IsShown, is_whole};
 
-use node_connections::socket_links::{Pipe, WriteAnswer};
+use node_connections::{Pipe, WriteAnswer};
 
 /// How many lookers are shown a line between two turns.
 pub const LOOKERS: u8 = 64;

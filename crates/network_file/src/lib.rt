@@ -16,4 +16,4 @@ mod reading;
 
 pub use fault::NetworkFault;
 pub use reading::{network_of, read_network};
-pub use topology;
+pub use topology::NetFault;

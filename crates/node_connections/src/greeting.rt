@@ -3,8 +3,7 @@ ghost use Rattle.std.specs.Prelude.{◌≡◌, ◌<◌, ◌++◌, ◌∷◌, [],
 ghost use Rattle.byte_lines.specs.Lines.{newline};
 ghost use Rattle.socket_links.specs.frame_codec.Spelling.{hello};
 
-use socket_links::frame_codec::encode_hello;
-use socket_links::{Pipe, WriteAnswer};
+use socket_links::{Pipe, WriteAnswer, encode_hello};
 
 /// The bytes of a hello with its newline.
 const HELLO: usize = 6;

@@ -27,5 +27,4 @@ pub mod port;
 
 pub use doors::{Door, Doors};
 pub use memory::{Reserved, reserve};
-pub use socket_links;
-pub use socket_links::Pipe;
+pub use socket_links::{Pipe, Pull, ReadAnswer, WriteAnswer};

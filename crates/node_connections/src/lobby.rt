@@ -3,8 +3,7 @@ ghost use Rattle.std.specs.Prelude.{◌≡◌, ◌≢◌, ◌<◌, ◌≤◌, �
 ghost use Rattle.slab.specs.Slab.{get, slab_len};
 
 use slab::Slab;
-use socket_links::frame_codec::decode_hello;
-use socket_links::{Pipe, ReadAnswer};
+use socket_links::{Pipe, ReadAnswer, decode_hello};
 use std::alloc::{AllocError, Allocator, Global};
 use topology::Net;
 

@@ -35,9 +35,7 @@ mod own;
 mod status;
 mod ticked;
 
-pub use data_link::{Item, link_model};
-pub use euler_ring;
-pub use lock_desk;
+pub use data_link::Item;
 pub use lock_desk::{AskFault, DeskAct, Stranger};
 pub use node::{Node, NodeState};
 pub use registers::{Frame, Net, OutOfRange, Payload, Ranges};

@@ -30,7 +30,7 @@ mod sights;
 pub use doors::ProcessDoors;
 pub use names::{Name, NameFiles, Names, Whom};
 pub use network_news::{FileNews, found_in};
-pub use node_state_file;
+pub use node_state_file::{FileStore, Started, Store, start};
 pub use note::{Note, NoteLine};
 pub use opening::{FolderOpener, Opener};
 pub use place::{Seat, check_words, take_place};

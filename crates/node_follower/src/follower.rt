@@ -12,7 +12,7 @@ ghost use Rattle.lock_desk.specs.Desk.{after_leave};
 ghost use Rattle.node_follower.specs.Following.{account_of, is_own_account, FitsNetwork};
 ghost use Rattle.node_follower.specs.Following.{AreSame, AreSameAlone, AreSameAt};
 
-use accounts::node_core::{Frame, Item, Node, Payload};
+use accounts::{Frame, Item, Node, Payload};
 use flight_records::Deed;
 use std::alloc::{AllocError, Allocator, Global};
 use std::marker::Model;

@@ -4,7 +4,7 @@ ghost use Rattle.flight_records.specs.declared.entry.StatePart.TheVariants.{Star
 ghost use Rattle.accounts.specs.node_core.View.{site_in, state_of};
 ghost use Rattle.node_follower.specs.Parts.{loan_part, own_part, port_part};
 
-use accounts::node_core::Node;
+use accounts::Node;
 use flight_records::StatePart;
 use std::alloc::Allocator;
 

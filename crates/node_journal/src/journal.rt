@@ -4,13 +4,10 @@ ghost use Rattle.node_core.specs.View.{site_in, state_of};
 ghost use Rattle.node_journal.specs.Places.{is_in_place};
 
 use node_core::{DeskAct, Net, Node};
-use process_parts::NodeWords;
-use process_parts::node_log::{Event, LogLine, NodeLog, TurnSight};
+use process_parts::{Event, LogLine, NodeLog, NodeWords, TurnSight};
 use std::env;
 use std::rt::Env;
-use unix_doors::ClientSight;
-use unix_doors::node_connections::Pipe;
-use unix_doors::node_connections::port::{NodePort, link_at};
+use unix_doors::{ClientSight, NodePort, Pipe, link_at};
 
 /// A node's log, which goes to standard error.
 #[derive(Drop)]

@@ -14,4 +14,4 @@
 mod journal;
 
 pub use journal::Journal;
-pub use process_parts::node_log::Event;
+pub use process_parts::Event;

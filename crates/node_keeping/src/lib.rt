@@ -25,6 +25,9 @@ mod sight;
 
 pub use course::{UpCourse, UpSights, UpStage};
 pub use keeper::{Deed, Keeper, LOOKS_BEFORE_KILL, LOOKS_BEFORE_START, Seen, Stage};
-pub use node_texts;
+pub use node_texts::{
+    CapacityLine, End, EndLine, LONGEST_SOCKET_NAME, NodePaths, ProcessPart, SOCKET_FRAMES,
+    links_name, longest_socket_name,
+};
 pub use saved::{AfterSave, Complaint, Lost, Sights, StopSight, after_save, looks_for_stop};
 pub use sight::{FileId, FileSight, sight_of};

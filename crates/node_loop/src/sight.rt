@@ -8,8 +8,8 @@ ghost use Rattle.pace.specs.Plans.{is_tree, sight_of};
 ghost use Rattle.node_loop.specs.Speaking.{outlook_of, sight_at};
 
 use euler_ring::{TreeNeighbours, tree_neighbours};
+use node_connections::Pipe;
 use node_connections::port::NodePort;
-use node_connections::socket_links::Pipe;
 use node_core::Node;
 use pace::{Outlook, PortSight};
 use std::alloc::Allocator;

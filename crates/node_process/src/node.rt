@@ -7,10 +7,9 @@ ghost use Rattle.node_process.specs.Ends.{end_fault, ends_by};
 use crate::observer::Observer;
 use crate::start::start_node;
 use look_window::{COMERS, is_let_in, show};
-use node_folder::node_state_file::{FileStore, Store};
 use node_folder::{
-    FileNews, FolderOpener, Names, Opener, ProcessDoors, Seat, Stopwatch, check_words, found_in,
-    remove_own_sockets, say_news, see, take_place,
+    FileNews, FileStore, FolderOpener, Names, Opener, ProcessDoors, Seat, Stopwatch, Store,
+    check_words, found_in, remove_own_sockets, say_news, see, take_place,
 };
 use node_loop::{Doors, NodeRun};
 use record_files::process_parts::{

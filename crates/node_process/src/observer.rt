@@ -3,8 +3,7 @@ ghost use Rattle.std.specs.Prelude.{◌≡◌, ◌↔◌, None, IfOk, IfSome, Is
 ghost use Rattle.record_files.specs.Noted.{HasTurn};
 
 use look_window::Window;
-use node_folder::node_state_file::Store;
-use node_folder::{ClientSight, Stopwatch};
+use node_folder::{ClientSight, Stopwatch, Store};
 use node_journal::{Event, Journal};
 use node_loop::{Doors, NodeRun, Notes, Turned};
 use record_files::Tape;

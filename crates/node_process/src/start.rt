@@ -6,8 +6,7 @@ ghost use Rattle.record_files.specs.process_parts.Start.{may_end};
 ghost use Rattle.record_files.specs.process_parts.declared.fault.NodeFault.TheVariants.{Memory};
 ghost use Rattle.record_files.specs.process_parts.declared.start.Stage.TheVariants.{Held, Ready};
 
-use node_folder::node_state_file::{Started, Store, start};
-use node_folder::{Names, Opener, Seat, say_ready};
+use node_folder::{Names, Opener, Seat, Started, Store, say_ready, start};
 use node_loop::{Doors, Node, NodeRun};
 use record_files::process_parts::{NodeFault, NodeWords, Stage};
 use std::alloc::Global;

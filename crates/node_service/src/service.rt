@@ -19,7 +19,7 @@ use crate::answer::{ANSWER, answer};
 use crate::notes::Notes;
 use lock_desk::{ClientLine, DeskAct};
 use node_connections::clients::{Clients, PIECE, PLACES};
-use node_connections::socket_links::{Pipe, ReadAnswer};
+use node_connections::{Pipe, ReadAnswer};
 use node_core::{Node, Ticked};
 use std::alloc::Allocator;
 

@@ -2,9 +2,7 @@
 use crate::{node, up};
 use clap::ArgMatches;
 use command_grammar::Grammar;
-use process_words::command_words::program::Runtime;
-use process_words::command_words::refusal::Refusal;
-use process_words::command_words::{asks_for_version, ends, matches_of, say_version};
+use process_words::{Refusal, Runtime, asks_for_version, ends, matches_of, say_version};
 use std::convert::AsStr;
 use std::process::ExitCode;
 

@@ -5,11 +5,10 @@ ghost use Rattle.clap.specs.Matches.{found_of};
 ghost use Rattle.process_words.specs.NodeWords.{AreNodeWordsRefused};
 
 use clap::ArgMatches;
-use process_words::command_words::program::Runtime;
-use process_words::command_words::refusal::Refusal;
 pub use process_words::node::NODE;
 use process_words::node::asked;
 use process_words::options::ended;
+use process_words::{Refusal, Runtime};
 use std::process::ExitCode;
 
 /// Does what the words of `node` say.

@@ -5,11 +5,10 @@ ghost use Rattle.clap.specs.Matches.{found_of};
 ghost use Rattle.process_words.specs.NodeWords.{AreUpWordsRefused};
 
 use clap::ArgMatches;
-use process_words::command_words::program::Runtime;
-use process_words::command_words::refusal::Refusal;
 use process_words::options::ended;
 pub use process_words::up::UP;
 use process_words::up::asked;
+use process_words::{Refusal, Runtime};
 use std::process::ExitCode;
 use up_process::OwnProgram;
 

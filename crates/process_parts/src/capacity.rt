@@ -1,5 +1,5 @@
 //! A network whose links hold too few frames for sockets.
-use node_keeping::node_texts::{CapacityLine, SOCKET_FRAMES};
+use node_keeping::{CapacityLine, SOCKET_FRAMES};
 
 /// Warns if links hold fewer frames than a socket may.
 pub fn warn_of_capacity<R: Eprint>(rt: &R, capacity: u16) {

@@ -11,8 +11,9 @@ use crate::fault::NodeFault;
 use crate::rights::Rights;
 use crate::start::Stage;
 use mio::net::UnixListener;
-use node_keeping::node_texts::{LONGEST_SOCKET_NAME, NodePaths, links_name, longest_socket_name};
-use node_keeping::{FileId, FileSight, sight_of};
+use node_keeping::{
+    FileId, FileSight, LONGEST_SOCKET_NAME, NodePaths, links_name, longest_socket_name, sight_of,
+};
 use std::alloc::Global;
 use std::fs::{DirBuilder, File, Metadata, OpenOptions, Permissions};
 use std::io::ErrorKind;

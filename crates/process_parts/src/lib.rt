@@ -31,12 +31,11 @@ pub use folder::{
     make_folder, make_sockets, new_file, remove, set_mode, sight_at,
 };
 pub use network_file::{NetworkFault, network_of, read_network};
-pub use node_keeping::node_texts::{End, EndLine, NodePaths, ProcessPart};
 pub use node_keeping::{
-    AfterSave, Complaint, Deed, FileId, FileSight, Keeper, Lost, Seen, Sights, StopSight, UpCourse,
-    UpSights, after_save, looks_for_stop,
+    AfterSave, Complaint, Deed, End, EndLine, FileId, FileSight, Keeper, Lost, NodePaths,
+    ProcessPart, Seen, Sights, StopSight, UpCourse, UpSights, after_save, looks_for_stop,
 };
-pub use node_log;
+pub use node_log::{Event, LogLine, NodeLog, TurnSight};
 pub use record_size::{RecordSize, USUAL_SIZE};
 pub use rights::Rights;
 pub use start::Stage;

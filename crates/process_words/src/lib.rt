@@ -17,4 +17,6 @@ pub mod node;
 pub mod options;
 pub mod up;
 
-pub use command_words;
+pub use command_words::program::Runtime;
+pub use command_words::refusal::Refusal;
+pub use command_words::{asks_for_version, ends, matches_of, say_version};

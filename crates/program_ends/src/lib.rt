@@ -19,8 +19,10 @@ mod path_fault_line;
 mod streams;
 
 pub use arguments::begin;
-pub use command_faults;
+pub use command_faults::{Fault, PathFault};
 pub use ends::{LINE_REFUSED, fails, fault_status, print_status, shows};
-pub use fault_hints;
+pub use fault_hints::{
+    explain_id, explain_network, explain_reading, explain_swap, explain_writing,
+};
 pub use fault_line::FaultLine;
 pub use path_fault_line::PathFaultLine;

@@ -14,7 +14,10 @@ ghost use Rattle.run_model.specs.Laws.{MomentStays, MomentMoves, VisitsGoOn};
 
 use link_model::topology::laws as topology_laws;
 use node_core::laws as node_core_laws;
-pub use node_core::laws::{payloads, six_sweeps, stays_stable, sweeps, turns_stable};
+pub use node_core::laws::{
+    loans_need_privilege, one_loan_a_stay, payloads, round_a_node, six_sweeps, stays_stable,
+    sweeps, the_tour, true_view, turns_stable, waiting_tickets_are_served,
+};
 
 /// A refused event changes nothing. A list without damage leaves the network unchanged, and every
 /// list its nodes, root, capacity and lease. The run of two lists is the run of the second from

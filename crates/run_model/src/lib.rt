@@ -24,7 +24,6 @@ pub mod laws;
 
 pub use event::{Event, EventFault, Harm};
 pub use happened::Happened;
-pub use link_model;
 pub use link_model::topology::Net;
 pub use link_model::{Frame, Item, Link, NoItem, Payload};
-pub use node_core::{AskFault, Node, NodeState, OutOfRange, Stranger, euler_ring, lock_desk};
+pub use node_core::{AskFault, Node, NodeState, OutOfRange, Stranger};

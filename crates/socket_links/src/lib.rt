@@ -25,7 +25,7 @@ mod pipe;
 mod writing;
 
 pub use byte_streams::Fused as FusedPipe;
-pub use frame_codec;
+pub use frame_codec::{decode_hello, encode_hello};
 pub use link::{Offer, Pull, SocketLink};
 pub use memory::MemoryPipe;
 pub use pipe::{Pipe, ReadAnswer, WriteAnswer};

@@ -18,5 +18,3 @@
 #![tactic(auto)]
 
 pub mod laws;
-
-pub use run_model::{euler_ring, lock_desk};

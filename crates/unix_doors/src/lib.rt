@@ -22,8 +22,8 @@ mod seats;
 
 pub use clock::Stopwatch;
 pub use doors::UnixDoors;
-pub use node_connections;
-pub use node_connections::Doors;
+pub use node_connections::port::{NodePort, link_at};
+pub use node_connections::{Doors, Pipe};
 pub use notify::tell_ready;
 pub use pipe::UnixPipe;
 pub use seats::ClientSight;

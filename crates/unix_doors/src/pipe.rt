@@ -6,7 +6,7 @@ ghost use Rattle.node_connections.specs.socket_links.Counts.{Counts};
 use crate::seats::Seat;
 use libc::net::{SO_SNDBUF, SOL_SOCKET, setsockopt};
 use mio::net::UnixStream;
-use node_connections::socket_links::{Pipe, ReadAnswer, WriteAnswer};
+use node_connections::{Pipe, ReadAnswer, WriteAnswer};
 use std::io::{self, ErrorKind, Read, Write};
 use std::os::fd::AsRawFd;
 

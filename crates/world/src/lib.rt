@@ -55,9 +55,8 @@ pub mod simulation;
 pub mod streams;
 
 pub use events_text::{EventLine, EventReader, TextLine};
-pub use judge::link_model::{Frame, Item, NoItem, Payload};
 pub use judge::{
-    Configuration, Event, EventFault, Happened, Harm, Judge, Links, Node, Parts, Stretch, Tally,
-    World,
+    Configuration, Event, EventFault, Frame, Happened, Harm, Item, Judge, Links, NoItem, Node,
+    Parts, Payload, Stretch, Tally, World,
 };
 pub use topology::{Net, NetFault};

@@ -12,9 +12,8 @@ ghost use Rattle.node_connections.specs.LinkSights.{link_at};
 ghost use Rattle.node_connections.specs.Loose.{AreKept, AreLoose};
 
 use crate::run::NodeRun;
-use node_connections::Doors;
 use node_connections::port::{NodePort, link_at};
-use node_connections::socket_links::Pipe;
+use node_connections::{Doors, Pipe};
 use node_core::Node;
 use state_writing::{Store, StoreFault, encode};
 use std::alloc::Allocator;

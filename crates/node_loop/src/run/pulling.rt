@@ -5,8 +5,7 @@ ghost use Rattle.node_core.specs.View.{site_in};
 
 use crate::run::NodeRun;
 use crate::sight;
-use node_connections::Doors;
-use node_connections::socket_links::Pull;
+use node_connections::{Doors, Pull};
 use node_core::Item;
 use node_service::Notes;
 use state_writing::Store;

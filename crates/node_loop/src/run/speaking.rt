@@ -11,9 +11,8 @@ ghost use Rattle.node_loop.specs.Speaking.{SpeaksTo, sent_if};
 
 use crate::run::NodeRun;
 use crate::sight::{self, NODES};
-use node_connections::Doors;
 use node_connections::port::NodePort;
-use node_connections::socket_links::Pipe;
+use node_connections::{Doors, Pipe};
 use node_core::Ticked;
 use node_service::{Notes, service};
 use pace::Pace;
