@@ -1,5 +1,4 @@
 -- What is noted of deeds one after the other.
-use Rattle.std.specs.Prelude.{[]}
 use Rattle.std.proofs.Common.{◌≡◌, ℕ, Bool, List, Option, ◌∷◌, ◌++◌, ◌+◌, refl, subst, append_assoc}
 use Rattle.topology.specs.declared.frame.Frame.{Frame}
 use Rattle.node_connections.specs.socket_links.Counts.{Counts}
@@ -8,6 +7,7 @@ use Rattle.node_service.specs.Deeds.{Deed, Ticks}
 use Rattle.node_connections.specs.declared.port.NodePort.{NodePort}
 use Rattle.node_service.specs.NotesView.{NotesView}
 use Rattle.node_service.specs.Noting.{after_all}
+use Rattle.node_service.proofs.Noting.{grown}
 use Rattle.node_loop.specs.Noting.{DidTake}
 use Rattle.node_loop.specs.Moments.{Moment}
 use Rattle.node_loop.proofs.Speaking.{SpokenTo}

@@ -1,5 +1,5 @@
 -- What is noted of the deeds of a turn.
-use Rattle.std.specs.Prelude.{◌≡◌, ℕ, Bool, List, ◌++◌, All, Option, []}
+use Rattle.std.specs.Prelude.{◌≡◌, ℕ, Bool, List, ◌++◌, All, Option}
 use Rattle.node_core.specs.View.{NodeView}
 use Rattle.node_core.specs.declared.ticked.Ticked.{Ticked}
 use Rattle.topology.specs.declared.frame.Frame.{Frame}
@@ -8,6 +8,7 @@ use Rattle.node_service.specs.Deeds.{Deed, Became, IsLeave}
 use Rattle.node_loop.specs.Hearing.{Hears, Listens, TakesAt}
 use Rattle.node_loop.specs.Moments.{Moment}
 use Rattle.node_service.specs.NotesView.{NotesView}
+use Rattle.node_service.specs.Noting.{after_all, emptied}
 use Rattle.node_loop.specs.Speaking.{Speaks}
 use Rattle.node_loop.specs.Turns.{Attends, Turns}
 use Rattle.node_connections.specs.declared.port.NodePort.{NodePort}

@@ -1,5 +1,5 @@
 -- What clients are answered in a turn, and between two: just that, and nothing else, is said to them.
-use Rattle.std.specs.Prelude.{◌≡◌, ℕ, List, All, Option, map, []}
+use Rattle.std.specs.Prelude.{◌≡◌, ℕ, List, All, Option, map}
 use Rattle.slab.specs.Slab.{get}
 use Rattle.node_core.specs.View.{NodeView, site_in, state_of}
 use Rattle.node_core.specs.declared.ticked.Ticked.{Ticked}
@@ -12,6 +12,7 @@ use Rattle.node_connections.specs.Lives.{Admits, AllRead}
 use Rattle.node_loop.specs.Moments.{Moment}
 use Rattle.node_loop.specs.Noting.{AttendIsNoted, DidListen, TurnIsNoted}
 use Rattle.node_service.specs.NotesView.{NotesView}
+use Rattle.node_service.specs.Serving.{answers_to}
 use Rattle.node_service.specs.Services.{AreGone, deeds_of_all, lines_of, Service}
 use Rattle.node_connections.specs.Said.{IsHeard, IsSaid, WritesOut}
 
