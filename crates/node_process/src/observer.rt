@@ -59,7 +59,8 @@ impl<'a, 'w, R: Files<File = File> + Clock + Eprint + AllocGlobal> Observer<'a, 
     /// Waits until something may have come to the node. If its next turn is due then, answers when that
     /// begins; else the node does what it must between turns.
     pub fn awaits_turn<D: Doors, S: Store + Drop>(&mut self, run: &mut NodeRun<D, S>) -> Option<u64>
-        ensures off { self.old.tape ≡ None → self.new.tape ≡ None }
+        // A record neither begins nor ends.
+        ensures keeps { is_some self.new.tape ≡ is_some self.old.tape }
         ensures journal { self.new.journal ≡ self.old.journal }
         // Until a turn begins nothing is noted.
         ensures due { IsSome result → (self.new.tape ≡ self.old.tape) × (self.new.window ≡ self.old.window)
@@ -105,7 +106,7 @@ impl<'a, 'w, R: Files<File = File> + Clock + Eprint + AllocGlobal> Observer<'a, 
         clients: ClientSight,
         now: u64,
     )
-        ensures off { self.old.tape ≡ None → self.new.tape ≡ None }
+        ensures keeps { is_some self.new.tape ≡ is_some self.old.tape }
         // A record that has not stopped has the turn.
         ensures recorded { IfSome self.old.tape (λ old. IfSome self.new.tape (λ new.
             HasTurn old.start now old.linked self.old.notes.deeds (not self.old.notes.is_torn)
@@ -122,7 +123,7 @@ impl<'a, 'w, R: Files<File = File> + Clock + Eprint + AllocGlobal> Observer<'a, 
     /// The node did something that is no turn, and began it at this time.
     pub fn attended<D: Doors, S: Store + Drop>(&mut self, run: &NodeRun<D, S>, now: u64)
         ensures journal { self.new.journal ≡ self.old.journal }
-        ensures off { self.old.tape ≡ None → self.new.tape ≡ None }
+        ensures keeps { is_some self.new.tape ≡ is_some self.old.tape }
     {
         let ended = self.watch.now();
         self.window.attended(run.node(), ended);
@@ -139,6 +140,7 @@ impl<'a, 'w, R: Files<File = File> + Clock + Eprint + AllocGlobal> Observer<'a, 
         now: u64,
     )
         ensures off { self.old.tape ≡ None → self.new ≡ self.old }
+        ensures keeps { is_some self.new.tape ≡ is_some self.old.tape }
         // A record that has not stopped has the turn.
         ensures recorded { IfSome self.old.tape (λ old. IfSome self.new.tape (λ new.
             HasTurn old.start now old.linked self.old.notes.deeds (not self.old.notes.is_torn)
@@ -155,6 +157,7 @@ impl<'a, 'w, R: Files<File = File> + Clock + Eprint + AllocGlobal> Observer<'a, 
     /// The node may have other neighbours from now on.
     pub fn rewired<D: Doors, S: Store + Drop>(&mut self, words: &NodeWords<'_>, run: &NodeRun<D, S>)
         ensures off { self.old.tape ≡ None → self.new ≡ self.old }
+        ensures keeps { is_some self.new.tape ≡ is_some self.old.tape }
     {
         if let Some(tape) = &mut self.tape {
             tape.rewired(words, run.net(), run.node());
@@ -163,7 +166,7 @@ impl<'a, 'w, R: Files<File = File> + Clock + Eprint + AllocGlobal> Observer<'a, 
 
     /// The node ends.
     pub fn ends(&mut self, now: u64)
-        ensures off { self.old.tape ≡ None → self.new.tape ≡ None }
+        ensures keeps { is_some self.new.tape ≡ is_some self.old.tape }
     {
         self.journal.say(Event::Ends, now);
         if let Some(tape) = &mut self.tape {
