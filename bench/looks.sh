@@ -44,7 +44,7 @@ def note():
     modules = "".join(f"mod {name} {{\n{plain(name)}\n}}\n" for name in ("turns", "loans", "links", "rounds", "notes"))
     main = """
 fn main() {
-    let mut notes = notes::Notes::begin(0, 2_200);
+    let mut notes = notes::TurnNotes::begin(0, 2_200);
     for turn in 0..20_000_000u64 {
         let desk = loans::DeskSight { has_granted: turn % 7 == 0, lends: turn % 3 == 0 };
         notes.turn_ended(std::hint::black_box(turn * 2_100 + turn % 13 * 20), std::hint::black_box(desk));

@@ -10,12 +10,12 @@ use Rattle.lock_words.specs.Needed.{whole_texts}
 use Rattle.lock_words.specs.Words.{limit_of, text_if}
 use Rattle.lock_words.specs.declared.whole.StandIns.{StandIns}
 use Rattle.command_words.specs.Refused.{IsIdRefused, IsMissing}
-use Rattle.client_words.specs.declared.lock.Surroundings.{Surroundings}
+use Rattle.client_words.specs.declared.lock.OmittedWords.{OmittedWords}
 use Rattle.command_words.specs.declared.refusal.Refusal.{Refusal}
 use Rattle.command_words.specs.declared.refusal.Refusal.TheVariants.{Word, Limit, NoWords}
 
 -- the words of the line, with the texts of the two variables for what they leave out
-abbrev pub AreWhole : {X : Type 0} → (X → List ℕ) → List X → Surroundings → List (List ℕ) → Type 0
+abbrev pub AreWhole : {X : Type 0} → (X → List ℕ) → List X → OmittedWords → List (List ℕ) → Type 0
 AreWhole text words surroundings whole =
     (instead : StandIns)
     × (text_if instead.folder ≡ option_map string_bytes surroundings.folder)

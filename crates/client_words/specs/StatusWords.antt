@@ -11,11 +11,11 @@ use Rattle.lock_words.specs.Words.{texts}
 use Rattle.client_words.specs.Interval.{interval}
 use Rattle.command_words.specs.declared.refusal.Refusal.{Refusal}
 use Rattle.command_words.specs.declared.refusal.Refusal.TheVariants.{Word, Fault}
-use Rattle.client_words.specs.declared.status.Shown.{Shown}
-use Rattle.client_words.specs.declared.status.Shown.TheVariants as shown
-use Rattle.status_command.specs.declared.Form.{Form}
-use Rattle.status_command.specs.declared.Form.TheVariants.{Json, Lines}
-use Rattle.status_command.specs.declared.Part.TheVariants.{Links, Premises}
+use Rattle.client_words.specs.declared.status.ShownStatus.{ShownStatus}
+use Rattle.client_words.specs.declared.status.ShownStatus.TheVariants as shown
+use Rattle.status_command.specs.declared.AnswerForm.{AnswerForm}
+use Rattle.status_command.specs.declared.AnswerForm.TheVariants.{Json, Lines}
+use Rattle.status_command.specs.declared.LinePart.TheVariants.{Links, Premises}
 
 -- the words are the decimal spellings of these ids, in the same order
 abbrev pub AreIds : List (Bor (List ℕ)) → List ℕ → Type 0
@@ -30,7 +30,7 @@ AreIdsRefused words (Word (NoNumber asked)) =
 AreIdsRefused words _ = ⊥
 
 -- `--json` asks for JSON, and else lines are shown
-abbrev pub IsFormOf : Found → Form → Type 0
+abbrev pub IsFormOf : Found → AnswerForm → Type 0
 IsFormOf found Json = IsFlag found (codes "json") true
 IsFormOf found Lines = IsFlag found (codes "json") false
 
@@ -41,7 +41,7 @@ IsIntervalOf found every =
     × (every ≡ interval word)
 
 -- what is shown: the first of `--check`, `--premises`, `--links` and `--watch` that is given; without them, the nodes once
-abbrev pub IsAskedFor : Found → Shown → Type 0
+abbrev pub IsAskedFor : Found → ShownStatus → Type 0
 IsAskedFor found (shown.Check file) = first_value found (codes "check") ≡ Some file.now
 IsAskedFor found (shown.Part Premises) =
     (first_value found (codes "check") ≡ None) × IsFlag found (codes "premises") true

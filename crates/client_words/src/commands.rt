@@ -1,5 +1,5 @@
 //! What the lines of `lock`, `status` and `stop` do.
-use crate::lock::Surroundings;
+use crate::lock::OmittedWords;
 use crate::{lock, status, stop};
 use clap::ArgMatches;
 use command_grammar::Grammar;
@@ -31,7 +31,7 @@ pub fn run_words<R: Runtime, S: AsStr>(rt: &R, words: &[S]) -> ExitCode {
     if !asks_for_lock(words) {
         return run_whole(rt, words);
     }
-    let surroundings = Surroundings::of(rt);
+    let surroundings = OmittedWords::of(rt);
     match surroundings.whole_words(rt.alloc(), words) {
         Ok(whole) => run_whole(rt, whole.as_slice()),
         Err(refusal) => refusal::status(rt, Err(refusal), true, None),

@@ -154,15 +154,15 @@ const KEEPING_GUARD: [&str; 5] = ["lock", "--guard-keeping", "--", ".", "0"];
 
 /// What stands in for omitted words.
 #[derive(Drop)]
-pub struct Surroundings {
+pub struct OmittedWords {
     folder: Option<String>,
     node: Option<String>,
 }
 
-impl Surroundings {
+impl OmittedWords {
     /// The stand-ins of the environment. An empty variable counts as none.
-    pub fn of<R: Env + AllocGlobal>(rt: &R) -> Surroundings {
-        Surroundings {
+    pub fn of<R: Env + AllocGlobal>(rt: &R) -> OmittedWords {
+        OmittedWords {
             folder: variable(rt, FOLDER_VARIABLE),
             node: variable(rt, NODE_VARIABLE),
         }

@@ -10,7 +10,9 @@ use command_grammar::{FREE, Grammar, Parameter, WordFault, word};
 use command_words::program::{DIR, ID, Runtime};
 use command_words::refusal::Refusal;
 use recovery_times::micros_of;
-use status_command::{Form, Notice, Part, Watch, check, looks, refused, status, watch};
+use status_command::{
+    AnswerForm, LinePart, StatusNotice, Watch, check, looks, refused, status, watch,
+};
 use std::alloc::Global;
 use std::process::ExitCode;
 
@@ -128,24 +130,24 @@ pub fn run<R: Runtime>(rt: &R, given: &ArgMatches) -> Result<ExitCode, Refusal> 
 
 /// What `status` shows.
 #[derive(Clone, Copy)]
-enum Shown<'a> {
+enum ShownStatus<'a> {
     /// Whether each node is in its place in the network of this file, for a monitor.
     Check(&'a str),
     /// What nodes say of their turns, or of their links.
-    Part(Part),
+    Part(LinePart),
     /// The nodes repeatedly, after so many milliseconds each; none if the word spells no such time.
-    Watch(Option<u64>, Form),
+    Watch(Option<u64>, AnswerForm),
     /// The nodes once.
-    Once(Form),
+    Once(AnswerForm),
 }
 
 /// Shows what the flags ask for, and returns the exit status.
-fn show<R: Runtime>(rt: &R, shown: Shown<'_>, folder: &str, nodes: &[u16]) -> u8 {
+fn show<R: Runtime>(rt: &R, shown: ShownStatus<'_>, folder: &str, nodes: &[u16]) -> u8 {
     match shown {
-        Shown::Check(file) => check::run(rt, folder, file),
-        Shown::Part(part) => looks::run(rt, folder, nodes, part),
-        Shown::Watch(None, _) => refused(rt, Notice::NoInterval),
-        Shown::Watch(Some(every), form) => {
+        ShownStatus::Check(file) => check::run(rt, folder, file),
+        ShownStatus::Part(part) => looks::run(rt, folder, nodes, part),
+        ShownStatus::Watch(None, _) => refused(rt, StatusNotice::NoInterval),
+        ShownStatus::Watch(Some(every), form) => {
             let watch = Watch {
                 folder,
                 nodes,
@@ -154,35 +156,35 @@ fn show<R: Runtime>(rt: &R, shown: Shown<'_>, folder: &str, nodes: &[u16]) -> u8
             };
             watch::run(rt, &watch)
         }
-        Shown::Once(form) => status::run(rt, folder, nodes, form),
+        ShownStatus::Once(form) => status::run(rt, folder, nodes, form),
     }
 }
 
 /// What the flags ask for.
-fn asked<'a>(given: &ArgMatches<'a>) -> Shown<'a>
+fn asked<'a>(given: &ArgMatches<'a>) -> ShownStatus<'a>
     ensures { IsAskedFor (found_of given.now) result }
 {
     if let Some(file) = given.get_str("check") {
-        Shown::Check(file)
+        ShownStatus::Check(file)
     } else if given.get_flag("premises") {
-        Shown::Part(Part::Premises)
+        ShownStatus::Part(LinePart::Premises)
     } else if given.get_flag("links") {
-        Shown::Part(Part::Links)
+        ShownStatus::Part(LinePart::Links)
     } else if given.get_flag("watch") {
-        Shown::Watch(interval(given.get_str("every")), form(given))
+        ShownStatus::Watch(interval(given.get_str("every")), form(given))
     } else {
-        Shown::Once(form(given))
+        ShownStatus::Once(form(given))
     }
 }
 
 /// The form in which the nodes are shown.
-fn form(given: &ArgMatches) -> Form
+fn form(given: &ArgMatches) -> AnswerForm
     ensures { IsFormOf (found_of given.now) result }
 {
     if given.get_flag("json") {
-        Form::Json
+        AnswerForm::Json
     } else {
-        Form::Lines
+        AnswerForm::Lines
     }
 }
 

@@ -2,14 +2,14 @@
 use Rattle.std.specs.Prelude.{◌≡◌, ◌⊎◌, Bool, Some, codes}
 use Rattle.clap.specs.declared.parser.matches.Found.{Found}
 use Rattle.command_grammar.specs.Given.{IsGiven, IsFlag, IsRefused}
-use Rattle.subcommands.specs.declared.measure.Plan.{Plan}
+use Rattle.subcommands.specs.declared.measure.MeasurePlan.{MeasurePlan}
 use Rattle.command_line.specs.Scheduling.{IsSchedulerOf, IsSchedulerRefused}
 use Rattle.command_words.specs.declared.refusal.Refusal.{Refusal}
 use Rattle.command_words.specs.declared.refusal.Refusal.TheVariants.{Word}
 
 -- the numbers of `--runs` and `--seed`, or their defaults; the order of the events; a table with
 -- `--table`
-abbrev pub IsPlanOf : Found → Bool → Plan → Type 0
+abbrev pub IsPlanOf : Found → Bool → MeasurePlan → Type 0
 IsPlanOf found progress plan =
     IsGiven found (codes "runs") 1 1000000 (Some plan.runs)
     × IsGiven found (codes "seed") 0 4294967295 (Some plan.seed)

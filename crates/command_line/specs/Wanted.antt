@@ -4,7 +4,7 @@ use Rattle.clap.specs.declared.parser.matches.Found.{Found}
 use Rattle.command_grammar.specs.Given.{IsFlag, IsGivenOr, IsRefused}
 use Rattle.command_words.specs.declared.refusal.Refusal.{Refusal}
 use Rattle.command_words.specs.declared.refusal.Refusal.TheVariants.{Word, Window, Kind, Schedule, NoCommand, Fault, Time, Limit, NoWords}
-use Rattle.run_film.specs.declared.text.Wanted.{Wanted as WantedFilm}
+use Rattle.run_film.specs.declared.text.WantedFilm.{WantedFilm}
 use Rattle.run_picture.specs.declared.command.Wanted.{Wanted}
 use Rattle.run_picture.specs.run_recording.declared.window.Window.{Window as Moments}
 

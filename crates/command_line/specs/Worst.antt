@@ -5,7 +5,7 @@ use Rattle.command_grammar.specs.Given.{IsGiven, IsRefused}
 use Rattle.command_grammar.specs.declared.words.WordFault.{WordFault}
 use Rattle.subcommands.specs.declared.worst.Extent.{Extent}
 use Rattle.subcommands.specs.declared.worst.Extent.TheVariants.{Searches, Minutes}
-use Rattle.subcommands.specs.declared.worst.Plan.{Plan}
+use Rattle.subcommands.specs.declared.worst.SearchPlan.{SearchPlan}
 
 -- the minutes of `--minutes`; without it, the number of `--searches`, which has a default
 abbrev pub IsExtentOf : Found → Extent → Type 0
@@ -14,7 +14,7 @@ IsExtentOf found (Searches searches) =
     IsGiven found (codes "minutes") 1 10080 None × IsGiven found (codes "searches") 1 1000000 (Some searches)
 
 -- how long it searches, and the numbers of `--seed` and `--steps`, which have defaults
-abbrev pub IsSearchOf : Found → Bool → Plan → Type 0
+abbrev pub IsSearchOf : Found → Bool → SearchPlan → Type 0
 IsSearchOf found progress plan =
     IsExtentOf found plan.extent
     × IsGiven found (codes "seed") 0 4294967295 (Some plan.seed)

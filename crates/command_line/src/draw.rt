@@ -141,11 +141,11 @@ pub fn run<R: Files + Input + Clock + Print + Eprint + AllocGlobal>(
 ///
 /// # Errors
 /// If a word spells no number in its range, or the window ends before it begins.
-fn wanted_film(given: &ArgMatches) -> Result<run_film::Wanted, Refusal>
+fn wanted_film(given: &ArgMatches) -> Result<run_film::WantedFilm, Refusal>
     ensures ok { IfOk result (IsFilmOf (found_of given.now)) }
     ensures err { IfErr result (IsFilmRefused (found_of given.now)) }
 {
-    Ok(run_film::Wanted {
+    Ok(run_film::WantedFilm {
         window: window(given)?,
         seconds: number_if_given(given, SECONDS)?.unwrap_or(20) as u16,
         page: given.get_flag("page"),

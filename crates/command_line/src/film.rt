@@ -1,6 +1,6 @@
 //! `draw FILE EVENTS --film`: a film of the run that a list of events makes on a network.
 
-use run_film::{Wanted, film_text, page_text};
+use run_film::{WantedFilm, film_text, page_text};
 use run_picture::command::{Drawn, Draws};
 use run_picture::{Net, Source};
 use std::alloc::Global;
@@ -8,7 +8,7 @@ use subcommands::{Fault, simulation_fault};
 
 /// The film that is asked for.
 #[derive(Clone, Copy)]
-pub struct Film(pub Wanted);
+pub struct Film(pub WantedFilm);
 
 impl Draws for Film {
     fn drawn<S: Source>(self, alloc: Global, net: &Net, source: &mut S) -> Result<Drawn, Fault> {

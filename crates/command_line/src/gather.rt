@@ -7,7 +7,7 @@ ghost use Rattle.command_line.specs.Gather.{IsStretchOf, IsStretchRefused};
 use clap::ArgMatches;
 use command_grammar::{FREE, Grammar, Number, Parameter, WordFault, number_if_given, word};
 use command_words::refusal::Refusal;
-use gather_command::{Stretch, command};
+use gather_command::{TimeStretch, command};
 use std::process::ExitCode;
 use std::rt::Files;
 
@@ -131,15 +131,15 @@ pub fn run<R: Files + Print + Eprint + AllocGlobal>(
 ///
 /// # Errors
 /// If a word spells no number in its range.
-fn stretch(given: &ArgMatches) -> Result<Stretch, WordFault<'static>>
+fn stretch(given: &ArgMatches) -> Result<TimeStretch, WordFault<'static>>
     ensures ok { IfOk result (IsStretchOf (found_of given.now)) }
     ensures err { IfErr result (IsStretchRefused (found_of given.now)) }
 {
     if let Some(seconds) = number_if_given(given, FROM)? {
-        return Ok(Stretch::From(seconds as u32));
+        return Ok(TimeStretch::From(seconds as u32));
     }
     match number_if_given(given, LAST)? {
-        Some(seconds) => Ok(Stretch::Last(seconds as u32)),
-        None => Ok(Stretch::Whole),
+        Some(seconds) => Ok(TimeStretch::Last(seconds as u32)),
+        None => Ok(TimeStretch::Whole),
     }
 }

@@ -16,7 +16,7 @@ use std::process::ExitCode;
 use std::rt::Files;
 use std::thread::Threads;
 use std::time::Clock;
-use subcommands::measure::{Form, Plan};
+use subcommands::measure::{Form, MeasurePlan};
 use subcommands::{PathFault, Scheduler, measure, measure_plot};
 
 /// What `measure` takes.
@@ -167,7 +167,7 @@ fn form(given: &ArgMatches) -> Form
 fn plot<R: Files + Print + Eprint + Clock + AllocGlobal + Threads + Sync>(
     rt: &R,
     file: &str,
-    plan: Plan,
+    plan: MeasurePlan,
     path: &str,
 ) -> Result<ExitCode, Refusal>
     ensures { DoneMeansZeroOr 1 result }
@@ -182,11 +182,11 @@ fn plot<R: Files + Print + Eprint + Clock + AllocGlobal + Threads + Sync>(
 ///
 /// # Errors
 /// If a word spells no number in its range, or the order of the events is unknown or takes no share.
-fn plan(given: &ArgMatches, progress: bool) -> Result<Plan, Refusal>
+fn plan(given: &ArgMatches, progress: bool) -> Result<MeasurePlan, Refusal>
     ensures ok { IfOk result (IsPlanOf (found_of given.now) progress) }
     ensures err { IfErr result (IsPlanRefused (found_of given.now)) }
 {
-    Ok(Plan {
+    Ok(MeasurePlan {
         runs: given_number(given, RUNS)? as u32,
         seed: given_number(given, SEED)? as u32,
         scheduler: given_scheduler(given)?,

@@ -11,7 +11,7 @@ use command_grammar::{
 use command_words::program::{FILE, Runtime, SEED};
 use command_words::refusal::Refusal;
 use std::process::ExitCode;
-use subcommands::worst::{self, Extent, Plan};
+use subcommands::worst::{self, Extent, SearchPlan};
 
 /// What `worst` takes.
 pub const WORST: Grammar<'static> = Grammar {
@@ -111,11 +111,11 @@ pub fn run<R: Runtime>(rt: &R, given: &ArgMatches, progress: bool) -> Result<Exi
 ///
 /// # Errors
 /// If a word spells no number in its range.
-fn plan(given: &ArgMatches, progress: bool) -> Result<Plan, WordFault<'static>>
+fn plan(given: &ArgMatches, progress: bool) -> Result<SearchPlan, WordFault<'static>>
     ensures ok { IfOk result (IsSearchOf (found_of given.now) progress) }
     ensures err { IfErr result (IsSearchRefused (found_of given.now)) }
 {
-    Ok(Plan {
+    Ok(SearchPlan {
         extent: extent(given)?,
         seed: given_number(given, SEED)? as u32,
         steps: given_number(given, STEPS)? as u32,

@@ -37,5 +37,5 @@ mod usual;
 
 pub use event_line::EventLine;
 pub use line::parse_line;
-pub use reader::{EventReader, Taken};
+pub use reader::{EventReader, PieceTaken};
 pub use text_line::TextLine;

@@ -29,7 +29,7 @@ impl Model for EventReader {
 
 /// What a reader took of a piece.
 #[derive(Clone, Copy)]
-pub struct Taken {
+pub struct PieceTaken {
     /// How many bytes it took.
     pub used: usize,
     /// The line that ended with them; none if it took the whole piece and no line ended.
@@ -49,7 +49,7 @@ impl EventReader {
 
     /// Takes a piece of the text up to the end of the next line in it, or all of it if no line
     /// ends there.
-    pub fn take(&mut self, piece: &[u8]) -> Taken
+    pub fn take(&mut self, piece: &[u8]) -> PieceTaken
         ensures used { result.used ≤ length piece.now }
         ensures all { IfNone result.line (result.used ≡ length piece.now) }
         ensures some { OnSome result.line (0 < result.used) }
@@ -62,13 +62,13 @@ impl EventReader {
             ≡ ended_lines bytes ++ option_to_list result.line }
     {
         if let Some((event, used)) = self.take_usual(piece) {
-            return Taken {
+            return PieceTaken {
                 used,
                 line: Some(TextLine::Said(event)),
             };
         }
         let byte_lines::Taken { used, line } = self.half.take(piece, &TextLines);
-        Taken { used, line }
+        PieceTaken { used, line }
     }
 
     /// Takes the line in front of a piece, if none is under way and it is a usual one: `send U

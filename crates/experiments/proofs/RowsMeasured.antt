@@ -22,7 +22,7 @@ use Rattle.experiments.specs.declared.measured_run.Recovery.{Recovery}
 use Rattle.experiments.specs.declared.measured_run.Scheduler.TheVariants as scheduler
 use Rattle.experiments.specs.declared.plan.Order.TheVariants as order
 use Rattle.experiments.specs.declared.plan.PlanFault.TheVariants.{Memory, Sink}
-use Rattle.experiments.specs.declared.summary.Summary.{Summary}
+use Rattle.experiments.specs.declared.summary.ThreeNumberSummary.{ThreeNumberSummary}
 use Rattle.experiments.specs.Plan.{CountsSinkFailures, harms_of, planned}
 use Rattle.experiments.specs.Recovery.{counted_from, FailedLast, IsLastNow}
 use Rattle.experiments.specs.Scheduled.{HasEnough, leave_at, leaves, plain, stretch_of, stretches}
@@ -254,5 +254,5 @@ sums-none = refl
 sums_not-none : ¬ IsSummaryOf (4 ∷ []) None
 sums_not-none none = grind (arith, none)
 
-sums_not-nothing : (s : Summary) → ¬ IsSummaryOf [] (Some s)
+sums_not-nothing : (s : ThreeNumberSummary) → ¬ IsSummaryOf [] (Some s)
 sums_not-nothing s sums = omega (arith, sums.some)

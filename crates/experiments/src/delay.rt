@@ -5,7 +5,7 @@ ghost use Rattle.experiments.specs.Delays.{is_harm, IsReplayed};
 ghost use Rattle.experiments.specs.Watched.{GoesOn};
 
 use crate::measured_run::happen;
-use crate::watch::Watch;
+use crate::watch::ServiceWatch;
 use judge::World;
 use run_model::{Event, laws as run_model_laws};
 use schedules::EventSink;
@@ -52,7 +52,7 @@ pub fn replay<A: Allocator + Copy, N: Allocator + Copy>(
     }
     let mut start = World::new(alloc, net)?;
     happen(&mut start, harms);
-    let mut watch = Watch::new(start);
+    let mut watch = ServiceWatch::new(start);
     watch_all(events, &mut watch);
     Ok(Some(Delay {
         sweeps: watch.served_after(),
@@ -61,10 +61,10 @@ pub fn replay<A: Allocator + Copy, N: Allocator + Copy>(
 }
 
 /// Gives the watch all events.
-fn watch_all<A: Allocator + Copy>(events: &[Event], watch: &mut Watch<A>)
+fn watch_all<A: Allocator + Copy>(events: &[Event], watch: &mut ServiceWatch<A>)
     ensures { GoesOn watch.old.judge watch.old.last events.now watch.new.judge watch.new.last }
 {
-    schedules::laws::taking::<Watch<A>>();
+    schedules::laws::taking::<ServiceWatch<A>>();
     for event in events {
         // A watch never fails.
         let _taken = watch.take(event);

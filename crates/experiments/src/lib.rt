@@ -1,6 +1,6 @@
 //! Experiments: how fast a network recovers in fact, beside what the theorem allows.
 //!
-//! A [`Watch`] lets events happen, one by one, and keeps after how many sweeps the network has
+//! A [`ServiceWatch`] lets events happen, one by one, and keeps after how many sweeps the network has
 //! served ever since. [`measure_run`] watches one run: a world that is scrambled by a seed, and a
 //! schedule up to the sharper bound. [`measure_layers`] also says when each layer of the proof stood
 //! for good. [`summary_of`] gives the least, the median and the most of many.
@@ -42,5 +42,5 @@ pub use layers::Layers;
 pub use measured_run::{Recovery, Scheduler, measure_run};
 pub use plan::{Order, PlanFault, give_plan};
 pub use schedules::{Chances, EventSink};
-pub use summary::{Summary, summary_of};
-pub use watch::Watch;
+pub use summary::{ThreeNumberSummary, summary_of};
+pub use watch::ServiceWatch;

@@ -9,7 +9,7 @@ ghost use Rattle.experiments.specs.Scheduled.{plain_steps, stretch_of, lent_at, 
 ghost use Rattle.experiments.specs.Watched.{GoesOn, GoesOnBy, GoesOnScheduled};
 ghost use Rattle.experiments.specs.Runs.{IsRunWatched};
 
-use crate::watch::Watch;
+use crate::watch::ServiceWatch;
 use judge::{Configuration, World};
 use rand_core::SeedableRng;
 use rand_pcg::Lcg64Xsh32;
@@ -89,7 +89,7 @@ pub(crate) fn watched_run<A: Allocator + Copy>(
     scheduler: Scheduler,
     seed: u64,
     layered: bool,
-) -> Result<Watch<A>, AllocError>
+) -> Result<ServiceWatch<A>, AllocError>
     ensures { IfOk result (λ watch. IsRunWatched net.now scheduler seed layered watch.judge watch.last) }
 {
     run_model_laws::runs();
@@ -104,7 +104,7 @@ pub(crate) fn watched_run<A: Allocator + Copy>(
     schedules_laws::edges();
     let _known_nodes = net.nodes();
     let start = scrambled_world(alloc, net, seed)?;
-    let mut watch = Watch::begin(start, layered);
+    let mut watch = ServiceWatch::begin(start, layered);
     let mut generator = Lcg64Xsh32::seed_from_u64(seed);
     give_stretches(net, scheduler, &mut generator, &mut watch);
     Ok(watch)
@@ -141,7 +141,7 @@ fn give_stretches<A: Allocator + Copy>(
     net: &Net<A>,
     scheduler: Scheduler,
     generator: &mut Lcg64Xsh32,
-    watch: &mut Watch<A>,
+    watch: &mut ServiceWatch<A>,
 )
     ensures { GoesOnScheduled scheduler net.now generator.old watch.old.judge watch.old.last
         watch.new.judge watch.new.last }
@@ -162,7 +162,7 @@ fn give_stretch<A: Allocator + Copy>(
     scheduler: Scheduler,
     before: u64,
     generator: &mut Lcg64Xsh32,
-    watch: &mut Watch<A>,
+    watch: &mut ServiceWatch<A>,
 )
     ensures watched { GoesOn watch.old.judge watch.old.last
         (stretch_of scheduler net.now before generator.old).0 watch.new.judge watch.new.last }
@@ -183,7 +183,7 @@ fn give_stretch<A: Allocator + Copy>(
 }
 
 /// One round.
-fn give_one_round<A: Allocator + Copy>(net: &Net<A>, watch: &mut Watch<A>)
+fn give_one_round<A: Allocator + Copy>(net: &Net<A>, watch: &mut ServiceWatch<A>)
     ensures { GoesOn watch.old.judge watch.old.last (round net.now) watch.new.judge
         watch.new.last }
 {
@@ -197,7 +197,7 @@ fn give_one_slow_round<A: Allocator + Copy>(
     slow: Slow,
     share: u16,
     round: u64,
-    watch: &mut Watch<A>,
+    watch: &mut ServiceWatch<A>,
 )
     ensures { GoesOn watch.old.judge watch.old.last (slow_round net.now slow share round)
         watch.new.judge watch.new.last }
@@ -207,7 +207,11 @@ fn give_one_slow_round<A: Allocator + Copy>(
 }
 
 /// As many random steps as there are nodes and four times the edges.
-fn give_steps<A: Allocator + Copy>(net: &Net<A>, generator: &mut Lcg64Xsh32, watch: &mut Watch<A>)
+fn give_steps<A: Allocator + Copy>(
+    net: &Net<A>,
+    generator: &mut Lcg64Xsh32,
+    watch: &mut ServiceWatch<A>,
+)
     ensures watched { GoesOn watch.old.judge watch.old.last
         (plain_steps net.now (net.now.nodes + 4 * length net.now.edges) generator.old).0
         watch.new.judge watch.new.last }
@@ -222,7 +226,7 @@ fn give_steps<A: Allocator + Copy>(net: &Net<A>, generator: &mut Lcg64Xsh32, wat
 }
 
 /// Whoever has the lock gives it back.
-fn leave_all<A: Allocator + Copy>(watch: &mut Watch<A>)
+fn leave_all<A: Allocator + Copy>(watch: &mut ServiceWatch<A>)
     ensures { GoesOnBy leaves watch.old.judge watch.old.last watch.new.judge watch.new.last }
 {
     for node in 0..watch.configuration().net().nodes() {
@@ -231,7 +235,7 @@ fn leave_all<A: Allocator + Copy>(watch: &mut Watch<A>)
 }
 
 /// Whoever has the lock at a node gives it back; at no node nothing happens.
-fn leave<A: Allocator + Copy>(node: u16, watch: &mut Watch<A>)
+fn leave<A: Allocator + Copy>(node: u16, watch: &mut ServiceWatch<A>)
     ensures { GoesOnBy (λ w. leave_at w node) watch.old.judge watch.old.last watch.new.judge
         watch.new.last }
 {

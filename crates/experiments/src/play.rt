@@ -4,7 +4,7 @@ ghost use Rattle.experiments.specs.Delays.{is_harm};
 ghost use Rattle.experiments.specs.Moves.{AreMoves};
 
 use crate::trial::Trial;
-use crate::watch::Watch;
+use crate::watch::ServiceWatch;
 use judge::World;
 use rand::SeedableRng;
 use rand::seq::SliceRandom;
@@ -54,7 +54,7 @@ fn push_link(moves: &mut Vec<Event>, from: u16, to: u16) -> Result<(), AllocErro
 /// A run that is watched, and its events.
 #[derive(Drop)]
 pub(crate) struct Playing {
-    watch: Watch,
+    watch: ServiceWatch,
     /// What has happened.
     pub(crate) events: Vec<Event>,
     /// How many events there had been when the number of sweeps after which it serves last rose.
@@ -73,7 +73,7 @@ impl Playing {
             let _answer = world.step(harm);
         }
         Ok(Playing {
-            watch: Watch::new(world),
+            watch: ServiceWatch::new(world),
             events: Vec::new(alloc),
             late: 0,
             passes: 0,

@@ -26,7 +26,7 @@ pub(crate) struct LastFailures {
 /// Lets events happen from a world on, counts their sweeps, and keeps after how many of them the
 /// network last did not serve. It may look at the layers of the proof, too.
 #[derive(Drop)]
-pub struct Watch<A: Allocator + Copy = Global> {
+pub struct ServiceWatch<A: Allocator + Copy = Global> {
     judge: Judge<A>,
     last: LastFailures,
     /// Whether it serves now. It is kept so that an event need be asked of the node alone that it
@@ -34,7 +34,7 @@ pub struct Watch<A: Allocator + Copy = Global> {
     serves: bool,
 }
 
-impl<A: Allocator + Copy> Model for Watch<A> {
+impl<A: Allocator + Copy> Model for ServiceWatch<A> {
     ghost use Rattle.std.specs.Prelude.{◌↔◌, IsTrue};
     ghost use Rattle.judge.specs.configuration.ConfigurationView.{world_of};
     ghost use Rattle.run_model.specs.Headline.{IsServing};
@@ -47,18 +47,18 @@ impl<A: Allocator + Copy> Model for Watch<A> {
     ghost invariant = { λ w. IsTrue w.serves ↔ IsServing (world_of w.judge.configuration) };
 }
 
-impl<A: Allocator + Copy> Watch<A> {
+impl<A: Allocator + Copy> ServiceWatch<A> {
     /// A watch over what happens from a world on.
-    pub fn new(world: World<A>) -> Watch<A>
+    pub fn new(world: World<A>) -> ServiceWatch<A>
         ensures { IsWatched (beginning (world_of world) false) [] result.judge
             result.last }
     {
-        Watch::begin(world, false)
+        ServiceWatch::begin(world, false)
     }
 
     /// A watch that also looks at the layers, or does not. It looks at them after each event until all of
     /// them stand. They stand then until something is damaged, so it looks again only after a harm.
-    pub(crate) fn begin(world: World<A>, layered: bool) -> Watch<A>
+    pub(crate) fn begin(world: World<A>, layered: bool) -> ServiceWatch<A>
         ensures { IsWatched (beginning (world_of world) layered) [] result.judge
             result.last }
     {
@@ -70,7 +70,7 @@ impl<A: Allocator + Copy> Watch<A> {
             serving: last_failure(serves, sweeps, None),
             layers: first_layers(now, sweeps, layered),
         };
-        Watch {
+        ServiceWatch {
             judge,
             last,
             serves,
@@ -137,7 +137,7 @@ fn next_layers<A: Allocator + Copy>(
     }
 }
 
-impl<A: Allocator + Copy> EventSink for Watch<A> {
+impl<A: Allocator + Copy> EventSink for ServiceWatch<A> {
     ghost use Rattle.experiments.specs.Watched.{GoesOn, goes-nowhere, goes-both};
 
     ghost takes = { λ a events b. GoesOn a.judge a.last events b.judge b.last };

@@ -94,33 +94,33 @@ pub fn join_last(stills: &mut [Still], moment: &Still)
 }
 
 /// What a still shows of one node or edge.
-trait Part: Copy {
+trait StillPart: Copy {
     /// Whether both are the same.
     fn is_same(self, other: Self) -> bool
         ensures { IsTrue result → self ≡ other };
 }
 
-impl Part for Look {
+impl StillPart for Look {
     fn is_same(self, other: Look) -> bool {
         self.is(other)
     }
 }
 
-impl Part for Place {
+impl StillPart for Place {
     fn is_same(self, other: Place) -> bool {
         self.is(other)
     }
 }
 
 /// Edges are the same only if their ends are in the same order.
-impl Part for (u16, u16) {
+impl StillPart for (u16, u16) {
     fn is_same(self, other: (u16, u16)) -> bool {
         self.0 == other.0 && self.1 == other.1
     }
 }
 
 /// Whether the parts are the same, in the same order.
-fn are_same<T: Part, const N: usize>(parts: &[T; N], others: &[T; N]) -> bool
+fn are_same<T: StillPart, const N: usize>(parts: &[T; N], others: &[T; N]) -> bool
     ensures { IsTrue result → parts.now ≡ others.now }
 {
     for k in 0..N {

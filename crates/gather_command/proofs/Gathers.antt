@@ -15,7 +15,7 @@ use Rattle.gather_command.specs.declared.fault.FlawKind.{FlawKind}
 use Rattle.gather_command.specs.declared.fault.GatherFault.{GatherFault}
 use Rattle.gather_command.specs.declared.fault.GatherFault.TheVariants as fault
 use Rattle.gather_command.specs.declared.damage.Difference.{Difference}
-use Rattle.gather_command.specs.declared.summary.Summary.{Summary}
+use Rattle.gather_command.specs.declared.summary.RecordingSummary.{RecordingSummary}
 use Rattle.gather_command.specs.View.{NodeRecordView}
 use Rattle.gather_command.specs.WeavingView.{WeavingView}
 use Rattle.gather_command.specs.declared.records.Opened.{Opened}
@@ -171,7 +171,7 @@ module _ {K : Type 0} (R : ℕ → Side → List Entry → Option FlawKind → T
 -- ---- all is gathered
 
 pub gathered-whole : {K : Type 0} (C : Type 0) (takes : K → List Event → K → Type 0) (failures : K → ℕ) (net : Network)
-    (nodes : List NodeRecordView) (start final : WeavingView) (before after : K) (summary : Summary)
+    (nodes : List NodeRecordView) (start final : WeavingView) (before after : K) (summary : RecordingSummary)
     (differences : List Difference) (flaws : List Flaw) → IsAtStart net nodes start
     → IsWovenOut C takes failures net start before summary differences flaws final after
     → IsGatheredWhole C takes net nodes before summary differences flaws after
@@ -193,7 +193,7 @@ gathered-whole C takes failures net nodes start final before after summary diffe
     }
 
 pub gathered : {K : Type 0} (C : Type 0) (R : ℕ → Side → List Entry → Option FlawKind → Type 0)
-    (takes : K → List Event → K → Type 0) (net : Network) (nodes : List NodeRecordView) (before after : K) (summary : Summary)
+    (takes : K → List Event → K → Type 0) (net : Network) (nodes : List NodeRecordView) (before after : K) (summary : RecordingSummary)
     (differences : List Difference) (flaws : List Flaw) → AreOpened C R (network_mark net) 0 nodes → length nodes ≡ net.nodes
     → IsGatheredWhole C takes net nodes before summary differences flaws after
     → IsGathered R takes net before summary differences flaws after

@@ -16,7 +16,7 @@ use Rattle.gather_command.specs.declared.fault.Flaw.{Flaw}
 use Rattle.gather_command.specs.declared.fault.FlawKind.{FlawKind}
 use Rattle.gather_command.specs.declared.fault.GatherFault.{GatherFault}
 use Rattle.gather_command.specs.declared.damage.Difference.{Difference}
-use Rattle.gather_command.specs.declared.summary.Summary.{Summary}
+use Rattle.gather_command.specs.declared.summary.RecordingSummary.{RecordingSummary}
 use Rattle.gather_command.specs.View.{NodeRecordView, heads_in}
 use Rattle.gather_command.specs.declared.records.Opened.{Opened}
 use Rattle.gather_command.specs.Reading.{Reads, Begins, OpensNoMore}
@@ -98,7 +98,7 @@ from-then-on instant w left same (inr (v, e, (turn, head, number), late)) = inr 
 pub gathered-of : {K : Type 0} (C : Type 0) (takes : K → List Event → K → Type 0) (failures : K → ℕ)
     (takes_both : (a b c : K) (xs ys : List Event) → takes a xs b → takes b ys c → takes a (xs ++ ys) c)
     (net : Network) (instant : ℕ) (nodes : List NodeRecordView) (start final : WeavingView) (before after : K)
-    (summary : Summary) (differences : List Difference) (flaws : List Flaw) → IsAtStart net nodes start
+    (summary : RecordingSummary) (differences : List Difference) (flaws : List Flaw) → IsAtStart net nodes start
     → IsWovenFrom C takes failures net instant start before summary differences flaws final after
     → IsGatheredOf C takes net instant nodes before summary differences flaws after
 gathered-of C takes failures takes_both net instant nodes start final before after summary differences flaws at x =
@@ -149,7 +149,7 @@ gathered-of C takes failures takes_both net instant nodes start final before aft
 
 -- the sink failed no less often
 pub from-counted : {K : Type 0} (C : Type 0) (takes : K → List Event → K → Type 0) (failures : K → ℕ) (net : Network) (instant : ℕ)
-    (start final : WeavingView) (before after : K) (summary : Summary) (differences : List Difference) (flaws : List Flaw)
+    (start final : WeavingView) (before after : K) (summary : RecordingSummary) (differences : List Difference) (flaws : List Flaw)
     → IsWovenFrom C takes failures net instant start before summary differences flaws final after
     → failures before ≤ failures after
 from-counted C takes failures net instant start final before after summary differences flaws x =
@@ -179,7 +179,7 @@ fault-before before after rest C same mark n why (v, l, x) =
 -- from an instant that the entries say
 pub gathered-from : {K : Type 0} (C : Type 0) (R : ℕ → Side → List Entry → Option FlawKind → Type 0)
     (takes : K → List Event → K → Type 0) (net : Network) (BeginsAt : List (List Entry) → ℕ → Type 0) (instant : ℕ)
-    (nodes : List NodeRecordView) (before after : K) (summary : Summary) (differences : List Difference) (flaws : List Flaw)
+    (nodes : List NodeRecordView) (before after : K) (summary : RecordingSummary) (differences : List Difference) (flaws : List Flaw)
     → AreOpened C R (network_mark net) 0 nodes → length nodes ≡ net.nodes
     → ((entries : List (List Entry)) → heads_of entries ≡ heads_in nodes → BeginsAt entries instant)
     → IsGatheredOf C takes net instant nodes before summary differences flaws after

@@ -9,7 +9,7 @@ use Rattle.record_gathering.specs.Counts.{with_event, with_events, nothing}
 use Rattle.record_gathering.specs.Laws.{FactsJoin}
 use Rattle.record_gathering.specs.Facts.{facts_of, edge_facts, states_below, links_below, fact_events, queues_with, set_events, set_queues}
 use Rattle.record_gathering.specs.declared.facts.Fact.{Fact}
-use Rattle.record_gathering.specs.declared.found.Found.{Found}
+use Rattle.record_gathering.specs.declared.found.EventCounts.{EventCounts}
 use Rattle.record_gathering.specs.configuration.run_model.World.{World}
 use Rattle.record_gathering.specs.configuration.run_model.Run.{run}
 use Rattle.record_gathering.specs.configuration.run_model.Start.{world_with_spares}
@@ -58,7 +58,7 @@ module _ {K : Type 0} (takes : K → List Event → K → Type 0) (failures : K 
         record {
           world = y.world ∙ ap (λ (v : World). run v more) x.world ∙ sym (join w first more) ∙ ap (run w) (sym all);
           queues = y.queues ∙ ap (λ (r : List (List ℕ)). set_queues r ys) x.queues ∙ sym (facts.queues q xs ys);
-          found = y.found ∙ ap (λ (f : Found). with_events f more) x.found ∙ sym (fold-append with_event a.found first more)
+          found = y.found ∙ ap (λ (f : EventCounts). with_events f more) x.found ∙ sym (fold-append with_event a.found first more)
               ∙ ap (with_events a.found) (sym all);
           taken = subst (λ (l : List Event). takes s l u) (sym all) (takes_both s t u first more x.taken y.taken);
           counted = omega (arith, x.counted, y.counted);
@@ -93,7 +93,7 @@ module _ {K : Type 0} (takes : K → List Event → K → Type 0) (failures : K 
         record {
           world = world;
           nodes = nodes-stay stays start (gathered d.gathering) (events_to net w) world;
-          found = has.found ∙ ap (λ (f : Found). with_events f (events_in a fs)) fresh.found ∙ ap (with_events nothing) are;
+          found = has.found ∙ ap (λ (f : EventCounts). with_events f (events_in a fs)) fresh.found ∙ ap (with_events nothing) are;
           taken = subst (λ (l : List Event). takes s l v) are has.taken;
           counted = has.counted;
         }

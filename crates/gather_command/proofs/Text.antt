@@ -9,11 +9,11 @@ use Rattle.flight_recorder.specs.declared.recorder.Side.{Side}
 use Rattle.gather_command.specs.declared.damage.Difference.{Difference}
 use Rattle.gather_command.specs.declared.fault.Flaw.{Flaw}
 use Rattle.gather_command.specs.declared.fault.FlawKind.{FlawKind}
-use Rattle.gather_command.specs.declared.summary.Summary.{Summary}
+use Rattle.gather_command.specs.declared.summary.RecordingSummary.{RecordingSummary}
 use Rattle.gather_command.specs.Weave.{events_of}
 use Rattle.gather_command.specs.Gathered.{IsGathered}
-use Rattle.gather_command.specs.declared.stretch.Stretch.{Stretch}
-use Rattle.gather_command.specs.declared.stretch.Stretch.TheVariants as stretch
+use Rattle.gather_command.specs.declared.stretch.TimeStretch.{TimeStretch}
+use Rattle.gather_command.specs.declared.stretch.TimeStretch.TheVariants as stretch
 use Rattle.gather_command.specs.Scene.{events_to}
 use Rattle.gather_command.specs.Part.{IsPart, IsGatheredFrom, IsGatheredAs}
 
@@ -26,7 +26,7 @@ grows-kept (Some xs) (Some ys) (Some zs) es grown kept = kept ∙ grown
 
 -- a sink that has taken the same events
 gathered-later : {K : Type 0} (R : ℕ → Side → List Entry → Option FlawKind → Type 0) (takes : K → List Event → K → Type 0)
-    (net : Network) (before mid after : K) (summary : Summary) (differences : List Difference)
+    (net : Network) (before mid after : K) (summary : RecordingSummary) (differences : List Difference)
     (flaws : List Flaw) → ((es : List Event) → takes before es mid → takes before es after)
     → IsGathered R takes net before summary differences flaws mid → IsGathered R takes net before summary differences flaws after
 gathered-later R takes net before mid after summary differences flaws more x = record {
@@ -41,7 +41,7 @@ gathered-later R takes net before mid after summary differences flaws more x = r
 }
 
 part-later : {K : Type 0} (takes : K → List Event → K → Type 0) (net : Network) (instant : ℕ) (entries : List (List Entry))
-    (before mid after : K) (summary : Summary) (differences : List Difference)
+    (before mid after : K) (summary : RecordingSummary) (differences : List Difference)
     → ((es : List Event) → takes before es mid → takes before es after)
     → IsPart takes net instant entries before summary differences mid → IsPart takes net instant entries before summary differences after
 part-later takes net instant entries before mid after summary differences more x = record {
@@ -60,7 +60,7 @@ part-later takes net instant entries before mid after summary differences more x
 }
 
 from-later : {K : Type 0} (R : ℕ → Side → List Entry → Option FlawKind → Type 0) (takes : K → List Event → K → Type 0)
-    (net : Network) (BeginsAt : List (List Entry) → ℕ → Type 0) (before mid after : K) (summary : Summary)
+    (net : Network) (BeginsAt : List (List Entry) → ℕ → Type 0) (before mid after : K) (summary : RecordingSummary)
     (differences : List Difference) (flaws : List Flaw) → ((es : List Event) → takes before es mid → takes before es after)
     → IsGatheredFrom R takes net BeginsAt before summary differences flaws mid
     → IsGatheredFrom R takes net BeginsAt before summary differences flaws after
@@ -73,8 +73,8 @@ from-later R takes net BeginsAt before mid after summary differences flaws more 
   part = part-later takes net x.instant x.entries before mid after summary differences more x.part;
 }
 
-pub as-later : {K : Type 0} (s : Stretch) (R : ℕ → Side → List Entry → Option FlawKind → Type 0)
-    (takes : K → List Event → K → Type 0) (net : Network) (before mid after : K) (summary : Summary)
+pub as-later : {K : Type 0} (s : TimeStretch) (R : ℕ → Side → List Entry → Option FlawKind → Type 0)
+    (takes : K → List Event → K → Type 0) (net : Network) (before mid after : K) (summary : RecordingSummary)
     (differences : List Difference) (flaws : List Flaw) → ((es : List Event) → takes before es mid → takes before es after)
     → IsGatheredAs s R takes net before summary differences flaws mid → IsGatheredAs s R takes net before summary differences flaws after
 as-later stretch.Whole R takes net before mid after summary differences flaws more x =

@@ -12,7 +12,7 @@ use Rattle.gather_command.specs.declared.fault.FlawKind.{FlawKind}
 use Rattle.gather_command.specs.declared.fault.GatherFault.{GatherFault}
 use Rattle.gather_command.specs.declared.fault.GatherFault.TheVariants as fault
 use Rattle.gather_command.specs.declared.damage.Difference.{Difference}
-use Rattle.gather_command.specs.declared.summary.Summary.{Summary}
+use Rattle.gather_command.specs.declared.summary.RecordingSummary.{RecordingSummary}
 use Rattle.gather_command.specs.View.{NodeRecordView}
 use Rattle.gather_command.specs.Records.{AreRecordsOf, AreToCome, IsFault, flaws_in}
 use Rattle.gather_command.specs.Weave.{Moment, events_of, IsWoven}
@@ -24,7 +24,7 @@ use Rattle.gather_command.specs.Woven.{IsTurn, HasWoven}
 -- as it starts. A sink took the events of what was woven, and they are counted; the first differences are
 -- listed. `Reads` says how the files are read, and `takes` what the sink took.
 pub record IsGathered {K : Type 0} (Reads : ℕ → Side → List Entry → Option FlawKind → Type 0)
-    (takes : K → List Event → K → Type 0) (net : Network) (before : K) (summary : Summary)
+    (takes : K → List Event → K → Type 0) (net : Network) (before : K) (summary : RecordingSummary)
     (differences : List Difference) (flaws : List Flaw) (after : K) : Type 0 where
   pub entries : List (List Entry)
   pub moments : List Moment
@@ -36,7 +36,7 @@ pub record IsGathered {K : Type 0} (Reads : ℕ → Side → List Entry → Opti
   pub differences_are : differences ≡ (seen_of net.nodes moments).damage.shown
 
 -- the numbers, the first differences and the flaws of a weaving of all nodes' records
-pub record IsFinished (net : Network) (w : WeavingView) (summary : Summary) (differences : List Difference)
+pub record IsFinished (net : Network) (w : WeavingView) (summary : RecordingSummary) (differences : List Difference)
     (flaws : List Flaw) : Type 0 where
   pub numbers : summary ≡ numbers_of net.nodes w.seen
   pub differences_are : differences ≡ w.seen.damage.shown
@@ -44,7 +44,7 @@ pub record IsFinished (net : Network) (w : WeavingView) (summary : Summary) (dif
 
 -- All entries that were left were woven, and a sink took their events. This is what was seen.
 pub record IsWovenOut {K : Type 0} (Fails : Type 0) (takes : K → List Event → K → Type 0) (failures : K → ℕ) (net : Network)
-    (old : WeavingView) (before : K) (summary : Summary) (differences : List Difference) (flaws : List Flaw)
+    (old : WeavingView) (before : K) (summary : RecordingSummary) (differences : List Difference) (flaws : List Flaw)
     (new : WeavingView) (after : K) : Type 0 where
   pub moments : List Moment
   pub woven : HasWoven Fails takes failures old before moments new after
@@ -53,7 +53,7 @@ pub record IsWovenOut {K : Type 0} (Fails : Type 0) (takes : K → List Event �
 
 -- All that was to come of the records of all nodes was woven from the network as it starts.
 pub record IsGatheredWhole {K : Type 0} (Fails : Type 0) (takes : K → List Event → K → Type 0) (net : Network)
-    (nodes : List NodeRecordView) (before : K) (summary : Summary) (differences : List Difference) (flaws : List Flaw)
+    (nodes : List NodeRecordView) (before : K) (summary : RecordingSummary) (differences : List Difference) (flaws : List Flaw)
     (after : K) : Type 0 where
   pub entries : List (List Entry)
   pub moments : List Moment

@@ -1,7 +1,7 @@
 -- What is said of records, in lines: which files are refused or damaged, and the numbers of a recording.
 use Rattle.std.specs.Prelude.{ℕ, ◌==◌, if◌then◌else◌, List, [], ◌++◌, Option, Some, None, codes, decimal}
 use Rattle.flight_recorder.specs.Names.{record_name}
-use Rattle.record_gathering.specs.declared.found.Found.{Found}
+use Rattle.record_gathering.specs.declared.found.EventCounts.{EventCounts}
 use Rattle.record_gathering.specs.declared.fields.Field.{Field}
 use Rattle.record_gathering.specs.declared.fields.Field.TheVariants as field
 use Rattle.gather_command.specs.declared.damage.Difference.{Difference}
@@ -12,7 +12,7 @@ use Rattle.gather_command.specs.declared.fault.FlawKind.TheVariants as kind
 use Rattle.gather_command.specs.declared.fault.GatherFault.{GatherFault}
 use Rattle.gather_command.specs.declared.fault.GatherFault.TheVariants as fault
 use Rattle.gather_command.specs.declared.summary.Lasted.{Lasted}
-use Rattle.gather_command.specs.declared.summary.Summary.{Summary}
+use Rattle.gather_command.specs.declared.summary.RecordingSummary.{RecordingSummary}
 
 -- the path of a file of a record, in its folder
 abbrev pub file_name : List ℕ → RecordFile → List ℕ
@@ -42,13 +42,13 @@ abbrev pub flaw_line : List ℕ → Flaw → List ℕ
 flaw_line dir flaw = flaw_text flaw.kind (file_name dir flaw.file) (decimal flaw.instant)
 
 -- how much was gathered
-abbrev pub stretch_line : Summary → List ℕ
+abbrev pub stretch_line : RecordingSummary → List ℕ
 stretch_line s =
     codes "nodes " ++ (decimal s.nodes ++ (codes ", events " ++ (decimal s.found.events
     ++ (codes ", time " ++ (decimal s.stretch ++ codes " microseconds")))))
 
 -- what is wrong by the records, in numbers
-abbrev pub found_line : Found → List ℕ
+abbrev pub found_line : EventCounts → List ℕ
 found_line f =
     codes "frames lost " ++ (decimal f.lost ++ (codes ", harms " ++ (decimal f.harms
     ++ (codes ", frames that nobody sent " ++ decimal f.forged))))
@@ -61,7 +61,7 @@ lasted_text (Some l) =
     ++ (codes " at node " ++ decimal l.node))))
 
 -- how long turns, frames and loans took
-abbrev pub loans_line : Summary → List ℕ
+abbrev pub loans_line : RecordingSummary → List ℕ
 loans_line s =
     codes "longest turn " ++ (decimal s.longest_turn ++ (codes " microseconds, longest delay " ++ (decimal s.longest_delay
     ++ (codes ", loans " ++ (decimal s.loans ++ lasted_text s.longest_loan)))))

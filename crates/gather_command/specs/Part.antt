@@ -13,9 +13,9 @@ use Rattle.flight_recorder.specs.declared.recorder.Side.{Side}
 use Rattle.gather_command.specs.declared.fault.Flaw.{Flaw}
 use Rattle.gather_command.specs.declared.fault.FlawKind.{FlawKind}
 use Rattle.gather_command.specs.declared.damage.Difference.{Difference}
-use Rattle.gather_command.specs.declared.summary.Summary.{Summary}
-use Rattle.gather_command.specs.declared.stretch.Stretch.{Stretch}
-use Rattle.gather_command.specs.declared.stretch.Stretch.TheVariants as stretch
+use Rattle.gather_command.specs.declared.summary.RecordingSummary.{RecordingSummary}
+use Rattle.gather_command.specs.declared.stretch.TimeStretch.{TimeStretch}
+use Rattle.gather_command.specs.declared.stretch.TimeStretch.TheVariants as stretch
 use Rattle.gather_command.specs.View.{NodeRecordView}
 use Rattle.gather_command.specs.Records.{AreRecordsOf, AreToCome}
 use Rattle.gather_command.specs.Weave.{Moment, heads_of, events_of, IsLed, IsWoven}
@@ -46,7 +46,7 @@ IsSetThere takes failures net old before new after =
 -- Entries were woven up to the first one of an instant or later, and their events went nowhere. Then the
 -- network was set up as the world stood, and all other entries were woven from there.
 pub record IsWovenFrom {K : Type 0} (Fails : Type 0) (takes : K → List Event → K → Type 0) (failures : K → ℕ) (net : Network)
-    (instant : ℕ) (old : WeavingView) (before : K) (summary : Summary) (differences : List Difference) (flaws : List Flaw)
+    (instant : ℕ) (old : WeavingView) (before : K) (summary : RecordingSummary) (differences : List Difference) (flaws : List Flaw)
     (new : WeavingView) (after : K) : Type 0 where
   pub front : List Moment
   pub mid : WeavingView
@@ -61,7 +61,7 @@ pub record IsWovenFrom {K : Type 0} (Fails : Type 0) (takes : K → List Event �
 -- other entries, which were woven from there. They are counted, and the first differences of these entries
 -- are listed.
 pub record IsPart {K : Type 0} (takes : K → List Event → K → Type 0) (net : Network) (instant : ℕ)
-    (entries : List (List Entry)) (before : K) (summary : Summary) (differences : List Difference) (after : K) : Type 0 where
+    (entries : List (List Entry)) (before : K) (summary : RecordingSummary) (differences : List Difference) (after : K) : Type 0 where
   pub front : List Moment
   pub back : List Moment
   pub world : World
@@ -77,7 +77,7 @@ pub record IsPart {K : Type 0} (takes : K → List Event → K → Type 0) (net 
 
 -- A stretch was gathered of what was to come of the records of all nodes.
 pub record IsGatheredOf {K : Type 0} (Fails : Type 0) (takes : K → List Event → K → Type 0) (net : Network) (instant : ℕ)
-    (nodes : List NodeRecordView) (before : K) (summary : Summary) (differences : List Difference) (flaws : List Flaw)
+    (nodes : List NodeRecordView) (before : K) (summary : RecordingSummary) (differences : List Difference) (flaws : List Flaw)
     (after : K) : Type 0 where
   pub entries : List (List Entry)
   pub come : AreToCome Fails nodes entries flaws
@@ -87,7 +87,7 @@ pub record IsGatheredOf {K : Type 0} (Fails : Type 0) (takes : K → List Event 
 -- begins at an instant was gathered. `BeginsAt` says which instant it is.
 pub record IsGatheredFrom {K : Type 0} (Reads : ℕ → Side → List Entry → Option FlawKind → Type 0)
     (takes : K → List Event → K → Type 0) (net : Network) (BeginsAt : List (List Entry) → ℕ → Type 0) (before : K)
-    (summary : Summary) (differences : List Difference) (flaws : List Flaw) (after : K) : Type 0 where
+    (summary : RecordingSummary) (differences : List Difference) (flaws : List Flaw) (after : K) : Type 0 where
   pub entries : List (List Entry)
   pub instant : ℕ
   pub records : AreRecordsOf Reads (network_mark net) 0 entries flaws
@@ -102,8 +102,8 @@ pub record IsBeforeLast (Reads : ℕ → Side → List Entry → Option FlawKind
   pub before : instant ≡ before_last latest seconds
 
 -- a stretch of the records of all nodes was gathered
-abbrev pub IsGatheredAs : {K : Type 0} → Stretch → (ℕ → Side → List Entry → Option FlawKind → Type 0)
-    → (K → List Event → K → Type 0) → Network → K → Summary → List Difference → List Flaw → K → Type 0
+abbrev pub IsGatheredAs : {K : Type 0} → TimeStretch → (ℕ → Side → List Entry → Option FlawKind → Type 0)
+    → (K → List Event → K → Type 0) → Network → K → RecordingSummary → List Difference → List Flaw → K → Type 0
 IsGatheredAs stretch.Whole Reads takes net before summary differences flaws after =
     IsGathered Reads takes net before summary differences flaws after
 IsGatheredAs (stretch.From seconds) Reads takes net before summary differences flaws after =

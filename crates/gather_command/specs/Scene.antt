@@ -6,7 +6,7 @@ use Rattle.record_gathering.specs.View.{GatheringView, gathered}
 use Rattle.record_gathering.specs.Counts.{with_events, nothing}
 use Rattle.record_gathering.specs.Facts.{set_events, set_queues, set_up}
 use Rattle.record_gathering.specs.declared.facts.Fact.{Fact}
-use Rattle.record_gathering.specs.declared.found.Found.{Found}
+use Rattle.record_gathering.specs.declared.found.EventCounts.{EventCounts}
 use Rattle.record_gathering.specs.configuration.run_model.World.{World}
 use Rattle.record_gathering.specs.configuration.run_model.Start.{world_with_spares}
 use Rattle.record_gathering.specs.configuration.run_model.Run.{run}
@@ -15,7 +15,7 @@ use Rattle.record_gathering.specs.configuration.run_model.declared.event.Event.{
 -- the world so far, and how many events led there
 pub record SceneView : Type 0 where
   pub gathering : GatheringView
-  pub found : Found
+  pub found : EventCounts
 
 -- nothing is set yet
 pub record IsFresh (net : Network) (s : SceneView) : Type 0 where

@@ -9,12 +9,12 @@ use Rattle.record_gathering.specs.flight_records.declared.entry.Deed.TheVariants
 use Rattle.record_gathering.specs.flight_records.declared.entry.StatePart.{StatePart}
 use Rattle.record_gathering.specs.flight_records.declared.entry.StatePart.TheVariants.{Whole}
 use Rattle.record_gathering.specs.Counts.{one_more, with_entry, nothing}
-use Rattle.record_gathering.specs.declared.found.Found.{Found}
+use Rattle.record_gathering.specs.declared.found.EventCounts.{EventCounts}
 use Rattle.gather_command.specs.declared.watch.Loan.{Loan}
-use Rattle.gather_command.specs.declared.watch.Watched.{Watched}
+use Rattle.gather_command.specs.declared.watch.WatchedNode.{WatchedNode}
 use Rattle.gather_command.specs.declared.watch.Span.{Span}
 use Rattle.gather_command.specs.declared.summary.Lasted.{Lasted}
-use Rattle.gather_command.specs.declared.summary.Summary.{Summary}
+use Rattle.gather_command.specs.declared.summary.RecordingSummary.{RecordingSummary}
 use Rattle.gather_command.specs.Damage.{DamageView, no_damage, with_fields}
 use Rattle.gather_command.specs.Weave.{Moment}
 use Rattle.gather_command.specs.Delays.{DelaysView, no_delays, delays_after, since}
@@ -22,20 +22,20 @@ use Rattle.gather_command.specs.Delays.{DelaysView, no_delays, delays_after, sin
 -- what is watched of each node, and of all: the longest time from one tick of a node to its next one,
 -- how many loans began, and the longest one that ended
 pub record WatchView : Type 0 where
-  pub nodes : List Watched
+  pub nodes : List WatchedNode
   pub longest_turn : ℕ
   pub loans : ℕ
   pub longest_loan : Option Lasted
 
 -- nothing is known of a node
-abbrev pub unknown : Watched
+abbrev pub unknown : WatchedNode
 unknown = record { is_known = false; ticked = None; loan = None }
 
 -- nothing is known of so many nodes
 abbrev pub unwatched : ℕ → WatchView
 unwatched n = record { nodes = replicate n unknown; longest_turn = 0; loans = 0; longest_loan = None }
 
-abbrev pub watched_of : WatchView → ℕ → Watched
+abbrev pub watched_of : WatchView → ℕ → WatchedNode
 watched_of w v = slice_index_or w.nodes v unknown
 
 -- a node's whole state was noted
@@ -132,7 +132,7 @@ with_differences w d m = if (watched_of w m.node).is_known then with_fields d m.
 
 -- all that is seen of the entries that were woven
 pub record Seen : Type 0 where
-  pub found : Found
+  pub found : EventCounts
   pub damage : DamageView
   pub watch : WatchView
   pub delays : DelaysView
@@ -153,13 +153,13 @@ seen_after s m = record {
 -- If a list of events begins in the midst, so many events set up the world in front of it: of what was
 -- seen before, only which nodes' whole states were noted is kept. A loan of then counts from its node's next
 -- entry on. The frames that the events put under way are none that nobody sent, and were sent when they were.
-abbrev pub one_again : Watched → Watched
+abbrev pub one_again : WatchedNode → WatchedNode
 one_again n = record { is_known = n.is_known; ticked = None; loan = None }
 
 abbrev pub watched_again : WatchView → WatchView
 watched_again w = record { nodes = map one_again w.nodes; longest_turn = 0; loans = 0; longest_loan = None }
 
-abbrev pub seen_again : Seen → Found → Seen
+abbrev pub seen_again : Seen → EventCounts → Seen
 seen_again s found = record {
   found = record found { forged = 0 };
   damage = no_damage;
@@ -169,7 +169,7 @@ seen_again s found = record {
 }
 
 -- what a recording of so many nodes shows, in numbers
-abbrev pub numbers_of : ℕ → Seen → Summary
+abbrev pub numbers_of : ℕ → Seen → RecordingSummary
 numbers_of n s = record {
   nodes = n;
   stretch = length_of s.span;
@@ -185,5 +185,5 @@ numbers_of n s = record {
 abbrev pub seen_of : ℕ → List Moment → Seen
 seen_of n ms = fold seen_after (nothing_seen n) ms
 
-abbrev pub summary_of : ℕ → List Moment → Summary
+abbrev pub summary_of : ℕ → List Moment → RecordingSummary
 summary_of n ms = numbers_of n (seen_of n ms)

@@ -3,7 +3,7 @@ use Rattle.std.specs.Prelude.{◌≡◌, ℕ, ◌<◌, ◌≤◌, ◌⊎◌, Boo
 use Rattle.topology.specs.Network.{Network}
 use Rattle.record_pages.specs.byte_streams.Streams.{Rose}
 use Rattle.record_gathering.specs.View.{GatheringView, gathered}
-use Rattle.record_gathering.specs.declared.found.Found.{Found}
+use Rattle.record_gathering.specs.declared.found.EventCounts.{EventCounts}
 use Rattle.record_gathering.specs.configuration.run_model.World.{World}
 use Rattle.record_gathering.specs.configuration.run_model.Start.{world_with_spares}
 use Rattle.record_gathering.specs.configuration.run_model.declared.event.Event.{Event}
@@ -53,7 +53,7 @@ HasPassed Fails old v new =
     × (new ≡ record old { records = slice_set old.records v after })
 
 -- the same weaving in the world of a gathering that so many events set up
-abbrev pub moved_to : WeavingView → GatheringView → Found → WeavingView
+abbrev pub moved_to : WeavingView → GatheringView → EventCounts → WeavingView
 moved_to w g found = record {
   gathering = record w.gathering { configuration = g.configuration };
   records = w.records;

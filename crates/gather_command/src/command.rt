@@ -17,13 +17,13 @@ use crate::fault::{Flaw, GatherFault};
 use crate::folder::FolderRecords;
 use crate::gathered::Gathered;
 use crate::lines::{
-    DifferenceLine, DifferencesLine, FaultLine, FlawLine, FoundLine, LoansLine, StretchLine,
+    DifferenceLine, DifferencesLine, FlawLine, FoundLine, GatherFaultLine, LoansLine, StretchLine,
 };
 use crate::network::{NoneKeptLine, network_path};
 use crate::part::gather_stretch;
 use crate::records::Records;
-use crate::stretch::Stretch;
-use crate::summary::Summary;
+use crate::stretch::TimeStretch;
+use crate::summary::RecordingSummary;
 use command_parts::{EventText, Fault, NetworkFault, read_network};
 use std::alloc::Global;
 use std::fs;
@@ -50,7 +50,7 @@ pub fn run<R: Files + Print + Eprint + AllocGlobal>(
     rt: &R,
     dir: &str,
     network: Option<&str>,
-    stretch: Stretch,
+    stretch: TimeStretch,
 ) -> Result<ExitCode, Fault>
     ensures { DoneMeansZeroOr 1 result }
 {
@@ -153,7 +153,7 @@ fn print_events<R: Files + Print + Eprint + AllocGlobal>(
     rt: &R,
     dir: &str,
     net: &Net,
-    stretch: Stretch,
+    stretch: TimeStretch,
 ) -> Result<Gathered, PrintFault>
     ensures { IfErr result IsPrintFault }
 {
@@ -192,7 +192,7 @@ pub fn gather_text<R: Records, W: Write + Drop>(
     alloc: Global,
     net: &Net,
     records: &mut R,
-    stretch: Stretch,
+    stretch: TimeStretch,
     text: &mut EventText<W>,
 ) -> Result<Gathered, GatherFault>
     // The writer got the text of the events, if it shows its bytes.
@@ -228,7 +228,7 @@ fn say_gathered<R: Eprint>(rt: &R, dir: &str, gathered: &Gathered) {
 }
 
 /// Says what the records show, in numbers; so many differences are named.
-fn say_summary<R: Eprint>(rt: &R, summary: Summary, named: usize) {
+fn say_summary<R: Eprint>(rt: &R, summary: RecordingSummary, named: usize) {
     let (stretch, found, loans) = (
         StretchLine(summary),
         FoundLine(summary.found),
@@ -294,7 +294,7 @@ fn ended<R: Eprint>(rt: &R, dir: &str, fault: GatherFault) -> Result<ExitCode, F
         GatherFault::Memory => Err(Fault::Memory),
         GatherFault::Output => Err(Fault::Output),
         _ => {
-            let line = FaultLine { dir, fault };
+            let line = GatherFaultLine { dir, fault };
             let _ = eprintln!(rt; "tokentree: {line}");
             Ok(ExitCode::FAILURE)
         }

@@ -15,7 +15,7 @@ use crate::damage::Difference;
 use crate::fault::{Flaw, GatherFault};
 use crate::node_record::NodeRecord;
 use crate::records::Records;
-use crate::summary::Summary;
+use crate::summary::RecordingSummary;
 use crate::weaving::Weaving;
 use command_parts::EventSink;
 use node_recorder::network_mark;
@@ -28,7 +28,7 @@ use topology::Net;
 #[derive(Drop)]
 pub struct Gathered {
     /// What it shows, in numbers.
-    pub summary: Summary,
+    pub summary: RecordingSummary,
     /// The first fields that stood otherwise than what their nodes' records led to, 64 at most.
     pub differences: Vec<Difference>,
     /// The files that were not read to their ends.

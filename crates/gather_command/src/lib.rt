@@ -8,11 +8,11 @@
 //! ```
 //! let gathered = gather(alloc, &net, &mut FolderRecords::new(rt, "run"), &mut sink)?;
 //! println!("{}", StretchLine(gathered.summary));      // nodes 3, events 1200, time 5000000 microseconds
-//! let all = Stretch::Whole;
+//! let all = TimeStretch::Whole;
 //! let status = command::run(rt, "run", None, all)?;       // prints the events; 1 if a record is damaged
 //! ```
 //!
-//! [`gather_stretch`] gathers a [`Stretch`] of the records alone: what comes so many seconds after the
+//! [`gather_stretch`] gathers a [`TimeStretch`] of the records alone: what comes so many seconds after the
 //! earliest entry of all records, or before the latest one, and later. Its list begins with events that
 //! set up the network as it stood when the first entry of the stretch came next: edges that had joined or
 //! parted, each node's state, and what was under way. So whoever plays the list needs no more than the
@@ -55,10 +55,10 @@ pub use flight_recorder::Side;
 pub use folder::FolderRecords;
 pub use gathered::{Gathered, gather};
 pub use lines::{
-    DifferenceLine, DifferencesLine, FaultLine, FlawLine, FoundLine, LoansLine, StretchLine,
+    DifferenceLine, DifferencesLine, FlawLine, FoundLine, GatherFaultLine, LoansLine, StretchLine,
 };
 pub use part::gather_stretch;
 pub use record_gathering::Field;
 pub use records::{Opened, Records};
-pub use stretch::Stretch;
-pub use summary::{Lasted, Summary};
+pub use stretch::TimeStretch;
+pub use summary::{Lasted, RecordingSummary};

@@ -4,9 +4,9 @@ ghost use Rattle.flight_recorder.specs.Names.{side_number};
 
 use crate::damage::Difference;
 use crate::fault::{Flaw, FlawKind, GatherFault, RecordFile};
-use crate::summary::{Lasted, Summary};
+use crate::summary::{Lasted, RecordingSummary};
 use flight_recorder::Side;
-use record_gathering::{Field, Found};
+use record_gathering::{EventCounts, Field};
 use std::fmt;
 
 /// The number of a file of a record.
@@ -21,12 +21,12 @@ fn side_number(side: Side) -> u8
 
 /// The name of a file of a record, in its folder.
 #[derive(Clone, Copy)]
-struct Name<'a> {
+struct RecordFileName<'a> {
     dir: &'a str,
     file: RecordFile,
 }
 
-impl fmt::Display for Name<'_> {
+impl fmt::Display for RecordFileName<'_> {
     ghost use Rattle.std.specs.Prelude.{Some};
     ghost use Rattle.gather_command.specs.Lines.{file_name};
 
@@ -41,14 +41,14 @@ impl fmt::Display for Name<'_> {
 
 /// Why the records of a folder give no list of events, as a line without its end.
 #[derive(Clone, Copy)]
-pub struct FaultLine<'a> {
+pub struct GatherFaultLine<'a> {
     /// The folder.
     pub dir: &'a str,
     /// Why.
     pub fault: GatherFault,
 }
 
-impl fmt::Display for FaultLine<'_> {
+impl fmt::Display for GatherFaultLine<'_> {
     ghost use Rattle.std.specs.Prelude.{Some};
     ghost use Rattle.gather_command.specs.Lines.{fault_line};
 
@@ -58,15 +58,23 @@ impl fmt::Display for FaultLine<'_> {
         let dir = self.dir;
         match self.fault {
             GatherFault::Absent(node) => write!(f, "node {node} has no record in {dir}"),
-            GatherFault::Unreadable(file) => write!(f, "cannot read {}", Name { dir, file }),
+            GatherFault::Unreadable(file) => write!(
+                f,
+                "cannot read {}",
+                RecordFileName { dir, file }
+            ),
             GatherFault::NoRecord(file) => {
-                write!(f, "{} is no record of this version", Name { dir, file })
+                write!(
+                    f,
+                    "{} is no record of this version",
+                    RecordFileName { dir, file }
+                )
             }
             GatherFault::OtherNetwork(file) => {
-                write!(f, "{} is of another network", Name { dir, file })
+                write!(f, "{} is of another network", RecordFileName { dir, file })
             }
             GatherFault::OtherNode(file, node) => {
-                f.write(Name { dir, file })?;
+                f.write(RecordFileName { dir, file })?;
                 f.write_str(" is the record of node ")?;
                 f.write(node)
             }
@@ -93,7 +101,7 @@ impl fmt::Display for FlawLine<'_> {
     ghost output = { λ line. Some (flaw_line line.dir.now line.flaw) };
 
     fn fmt<W: fmt::Write>(&self, f: &mut fmt::Formatter<W>) -> fmt::Result {
-        let name = Name {
+        let name = RecordFileName {
             dir: self.dir,
             file: self.flaw.file,
         };
@@ -111,7 +119,7 @@ impl fmt::Display for FlawLine<'_> {
 
 /// How much was gathered, as a line without its end.
 #[derive(Clone, Copy)]
-pub struct StretchLine(pub Summary);
+pub struct StretchLine(pub RecordingSummary);
 
 impl fmt::Display for StretchLine {
     ghost use Rattle.std.specs.Prelude.{Some};
@@ -130,7 +138,7 @@ impl fmt::Display for StretchLine {
 
 /// What is wrong by the records, in numbers, as a line without its end.
 #[derive(Clone, Copy)]
-pub struct FoundLine(pub Found);
+pub struct FoundLine(pub EventCounts);
 
 impl fmt::Display for FoundLine {
     ghost use Rattle.std.specs.Prelude.{Some};
@@ -171,7 +179,7 @@ impl fmt::Display for LastedText {
 
 /// How long turns, frames and loans took, as a line without its end.
 #[derive(Clone, Copy)]
-pub struct LoansLine(pub Summary);
+pub struct LoansLine(pub RecordingSummary);
 
 impl fmt::Display for LoansLine {
     ghost use Rattle.std.specs.Prelude.{Some};

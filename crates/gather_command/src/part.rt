@@ -6,14 +6,14 @@ ghost use Rattle.gather_command.specs.Woven.{world_in, IsTurn, HasLed, IsOnePass
 ghost use Rattle.gather_command.specs.Woven.{IsBroken};
 ghost use Rattle.gather_command.specs.Gathered.{IsRefused};
 ghost use Rattle.gather_command.specs.Part.{IsGatheredOf, IsGatheredAs, IsWovenFrom, IsSetThere};
-ghost use Rattle.gather_command.specs.declared.stretch.Stretch.TheVariants.{From, Last};
+ghost use Rattle.gather_command.specs.declared.stretch.TimeStretch.TheVariants.{From, Last};
 
 use crate::fault::GatherFault;
 use crate::gathered::{Gathered, gather, open_all, weave_out};
 use crate::node_record::NodeRecord;
 use crate::records::Records;
 use crate::scene::set_up;
-use crate::stretch::{Stretch, after_first, before_last, earliest, latest};
+use crate::stretch::{TimeStretch, after_first, before_last, earliest, latest};
 use crate::weaving::Weaving;
 use command_parts::EventSink;
 use record_gathering::Event;
@@ -34,7 +34,7 @@ pub fn gather_stretch<R: Records, S: EventSink>(
     alloc: Global,
     net: &Net,
     records: &mut R,
-    stretch: Stretch,
+    stretch: TimeStretch,
     sink: &mut S,
 ) -> Result<Gathered, GatherFault>
     ensures gathered { IfOk result (λ g. IsGatheredAs stretch
@@ -46,9 +46,9 @@ pub fn gather_stretch<R: Records, S: EventSink>(
         (Begins (R.opens records.old) R.File.rest) S.failures net.now sink.old fault sink.new) }
 {
     match stretch {
-        Stretch::Whole => gather(alloc, net, records, sink),
-        Stretch::From(seconds) => gather_from(alloc, net, records, seconds, sink),
-        Stretch::Last(seconds) => gather_last(alloc, net, records, seconds, sink),
+        TimeStretch::Whole => gather(alloc, net, records, sink),
+        TimeStretch::From(seconds) => gather_from(alloc, net, records, seconds, sink),
+        TimeStretch::Last(seconds) => gather_last(alloc, net, records, seconds, sink),
     }
 }
 

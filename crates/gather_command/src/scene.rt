@@ -15,7 +15,7 @@ use command_parts::EventSink;
 use node_recorder::network_mark;
 use record_gathering::facts::{add_edges, add_links, add_state};
 use record_gathering::{
-    Configuration, Event, Fact, Found, Gathering, laws as record_gathering_laws,
+    Configuration, Event, EventCounts, Fact, Gathering, laws as record_gathering_laws,
 };
 use std::alloc::{AllocError, Global};
 use std::marker::Model;
@@ -26,7 +26,7 @@ use topology::Net;
 pub struct Scene {
     gathering: Gathering,
     /// How many events set it up, by their kinds.
-    found: Found,
+    found: EventCounts,
 }
 
 impl Model for Scene {
@@ -44,12 +44,12 @@ impl Scene {
     {
         Ok(Scene {
             gathering: Gathering::new(alloc, net, SPARE_PAIRS)?,
-            found: Found::new(),
+            found: EventCounts::new(),
         })
     }
 
     /// Its world, and how many events set it up.
-    pub fn into_parts(self) -> (Gathering, Found)
+    pub fn into_parts(self) -> (Gathering, EventCounts)
         ensures gathering { result.0 ≡ self.gathering }
         ensures found { result.1 ≡ self.found }
     {

@@ -5,24 +5,24 @@ ghost use Rattle.gather_command.specs.Watch.{is_whole, watched_after, seen_again
 
 use crate::damage::{Damage, Difference};
 use crate::delays::Delays;
-use crate::summary::Summary;
-use crate::watch::{Span, Watch, length_of, with_instant};
-use record_gathering::{Event, Field, Found};
+use crate::summary::RecordingSummary;
+use crate::watch::{RecordWatch, Span, length_of, with_instant};
+use record_gathering::{Event, EventCounts, Field};
 use record_pages::{Deed, Entry, Noted, StatePart};
 use std::alloc::{AllocError, Global};
 use std::marker::Model;
 
 /// What is seen of the entries that were woven.
 #[derive(Drop)]
-pub struct Sight {
-    found: Found,
+pub struct WovenSight {
+    found: EventCounts,
     damage: Damage,
-    watch: Watch,
+    watch: RecordWatch,
     delays: Delays,
     span: Option<Span>,
 }
 
-impl Model for Sight {
+impl Model for WovenSight {
     ghost use Rattle.gather_command.specs.Watch.{Seen};
 
     ghost Value = { Seen };
@@ -46,7 +46,7 @@ fn is_whole(noted: &Noted) -> bool
 }
 
 /// Watches a node, of whose record an entry was woven; after that the node lends to this ticket.
-fn watch_entry(watch: &mut Watch, node: u16, entry: &Entry, lent: Option<u16>)
+fn watch_entry(watch: &mut RecordWatch, node: u16, entry: &Entry, lent: Option<u16>)
     requires { node < length watch.old.nodes }
     ensures watched { watch.new ≡ watched_after watch.old node entry.now lent }
     ensures nodes { length watch.new.nodes ≡ length watch.old.nodes }
@@ -55,7 +55,7 @@ fn watch_entry(watch: &mut Watch, node: u16, entry: &Entry, lent: Option<u16>)
 }
 
 /// Watches the end of a state, a tick, and a loan that begins or ends.
-fn watch_parts(watch: &mut Watch, node: u16, entry: &Entry, lent: Option<u16>)
+fn watch_parts(watch: &mut RecordWatch, node: u16, entry: &Entry, lent: Option<u16>)
     requires { node < length watch.old.nodes }
     ensures { watch.new ≡ watched_after watch.old node entry.now lent }
 {
@@ -68,15 +68,15 @@ fn watch_parts(watch: &mut Watch, node: u16, entry: &Entry, lent: Option<u16>)
     watch.lends(node, lent, entry.instant);
 }
 
-impl Sight {
+impl WovenSight {
     /// Nothing is seen of so many nodes. `AllocError` comes only if memory is refused.
-    pub fn new(alloc: Global, nodes: u16) -> Result<Sight, AllocError>
+    pub fn new(alloc: Global, nodes: u16) -> Result<WovenSight, AllocError>
         ensures { IfOk result (λ s. s ≡ nothing_seen nodes) }
     {
-        Ok(Sight {
-            found: Found::new(),
+        Ok(WovenSight {
+            found: EventCounts::new(),
             damage: Damage::new(alloc)?,
-            watch: Watch::new(alloc, nodes)?,
+            watch: RecordWatch::new(alloc, nodes)?,
             delays: Delays::new(alloc)?,
             span: None,
         })
@@ -117,7 +117,7 @@ impl Sight {
 
     /// Nothing was seen but so many events, which set up the world. Which nodes' whole states were noted
     /// stays known. The frames that are under way were sent before.
-    pub fn begins_again(&mut self, found: Found)
+    pub fn begins_again(&mut self, found: EventCounts)
         ensures { self.new ≡ seen_again self.old found }
     {
         self.found = found;
@@ -136,11 +136,11 @@ impl Sight {
     }
 
     /// What was seen of so many nodes, in numbers.
-    pub fn numbers(&self, nodes: u16) -> Summary
+    pub fn numbers(&self, nodes: u16) -> RecordingSummary
         ensures { result ≡ numbers_of nodes self.now }
     {
         let (loans, longest_loan) = self.watch.loans();
-        Summary {
+        RecordingSummary {
             nodes,
             stretch: length_of(self.span),
             found: self.found,

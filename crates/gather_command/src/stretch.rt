@@ -18,7 +18,7 @@ use topology::Net;
 
 /// Which stretch of time of the records is gathered.
 #[derive(Clone, Copy)]
-pub enum Stretch {
+pub enum TimeStretch {
     /// All that the records hold.
     Whole,
     /// What comes so many seconds after the earliest entry of all records, and later.

@@ -1,5 +1,5 @@
 //! What a recording shows, in numbers.
-use record_gathering::Found;
+use record_gathering::EventCounts;
 
 /// A loan that ended.
 #[derive(Clone, Copy)]
@@ -14,14 +14,14 @@ pub struct Lasted {
 
 /// What a recording shows, in numbers.
 #[derive(Clone, Copy)]
-pub struct Summary {
+pub struct RecordingSummary {
     /// How many nodes have a record.
     pub nodes: u16,
     /// From the first entry to the last one, in microseconds.
     pub stretch: u64,
     /// How many events of which kind were written. Of a list that begins in the midst, frames that were
     /// under way then are none that nobody sent.
-    pub found: Found,
+    pub found: EventCounts,
     /// How many fields stood otherwise than what their nodes' records led to.
     pub differences: u64,
     /// The longest time from one tick of a node to its next one, in microseconds.

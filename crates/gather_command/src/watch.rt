@@ -21,7 +21,7 @@ struct Loan {
 
 /// What is watched of one node.
 #[derive(Clone, Copy)]
-struct Watched {
+struct WatchedNode {
     /// Its whole state was noted.
     is_known: bool,
     /// The instant of its last tick.
@@ -32,8 +32,8 @@ struct Watched {
 
 /// What is watched of all nodes, in microseconds of their clocks.
 #[derive(Drop)]
-pub struct Watch {
-    nodes: Vec<Watched>,
+pub struct RecordWatch {
+    nodes: Vec<WatchedNode>,
     /// The longest time from one tick of a node to its next one.
     longest_turn: u64,
     /// How many loans began.
@@ -42,7 +42,7 @@ pub struct Watch {
     longest_loan: Option<Lasted>,
 }
 
-impl Model for Watch {
+impl Model for RecordWatch {
     ghost use Rattle.gather_command.specs.Watch.{WatchView};
 
     ghost Value = { WatchView };
@@ -122,10 +122,10 @@ fn longer(first: Option<Lasted>, more: Option<Lasted>) -> Option<Lasted>
 }
 
 /// A node of which all is forgotten but whether its whole state was noted.
-fn one_again(node: Watched) -> Watched
+fn one_again(node: WatchedNode) -> WatchedNode
     ensures { result ≡ one_again node }
 {
-    Watched {
+    WatchedNode {
         is_known: node.is_known,
         ticked: None,
         loan: None,
@@ -133,7 +133,7 @@ fn one_again(node: Watched) -> Watched
 }
 
 /// All is forgotten of each node but whether its whole state was noted.
-fn all_again(nodes: &mut [Watched])
+fn all_again(nodes: &mut [WatchedNode])
     ensures { nodes.new ≡ map one_again nodes.old }
 {
     for place in 0..nodes.len() {
@@ -141,17 +141,17 @@ fn all_again(nodes: &mut [Watched])
     }
 }
 
-impl Watch {
+impl RecordWatch {
     /// So many nodes, of which nothing is known. All memory is reserved here.
-    pub fn new(alloc: Global, nodes: u16) -> Result<Watch, AllocError>
+    pub fn new(alloc: Global, nodes: u16) -> Result<RecordWatch, AllocError>
         ensures { IfOk result (λ w. w ≡ unwatched nodes) }
     {
-        let unknown = Watched {
+        let unknown = WatchedNode {
             is_known: false,
             ticked: None,
             loan: None,
         };
-        Ok(Watch {
+        Ok(RecordWatch {
             nodes: vec![in alloc; unknown; usize::from(nodes)]?,
             longest_turn: 0,
             loans: 0,

@@ -12,9 +12,9 @@ ghost use Rattle.record_gathering.specs.View.{gathered};
 use crate::damage::Difference;
 use crate::fault::Flaw;
 use crate::node_record::NodeRecord;
-use crate::sight::Sight;
-use crate::summary::Summary;
-use record_gathering::{Configuration, Event, Found, Gathering};
+use crate::sight::WovenSight;
+use crate::summary::RecordingSummary;
+use record_gathering::{Configuration, Event, EventCounts, Gathering};
 use record_pages::{Entry, Source};
 use std::alloc::{AllocError, Global};
 use std::marker::Model;
@@ -30,7 +30,7 @@ pub struct Weaving<S: Source + Drop> {
     nodes: Vec<NodeRecord<S>>,
     /// The next entry of each node's record.
     heads: Vec<Option<Entry>>,
-    sight: Sight,
+    sight: WovenSight,
 }
 
 impl<S: Source + Drop> Model for Weaving<S> {
@@ -109,7 +109,7 @@ impl<S: Source + Drop> Weaving<S> {
     {
         let heads = heads_of(alloc, &nodes)?;
         let gathering = Gathering::new(alloc, net, SPARE_PAIRS)?;
-        let sight = Sight::new(alloc, net.nodes())?;
+        let sight = WovenSight::new(alloc, net.nodes())?;
         Ok(Weaving {
             gathering,
             nodes,
@@ -173,7 +173,7 @@ impl<S: Source + Drop> Weaving<S> {
 
     /// Goes on in the world of a gathering that so many events set up. Of what was seen so far only
     /// which nodes' whole states were noted is kept.
-    pub fn moves_to(&mut self, gathering: Gathering, found: Found)
+    pub fn moves_to(&mut self, gathering: Gathering, found: EventCounts)
         requires { (gathered gathering).net.nodes ≡ (world_in self.old).net.nodes }
         ensures { self.new ≡ moved_to self.old gathering found }
     {
@@ -196,7 +196,7 @@ impl<S: Source + Drop> Weaving<S> {
     }
 
     /// What was seen of so many nodes, in numbers.
-    pub fn numbers(&self, nodes: u16) -> Summary
+    pub fn numbers(&self, nodes: u16) -> RecordingSummary
         ensures { result ≡ numbers_of nodes self.now.seen }
     {
         self.sight.numbers(nodes)

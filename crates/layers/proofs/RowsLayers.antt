@@ -2,7 +2,7 @@
 use Rattle.std.proofs.Common.{◌≡◌, ℕ, zero, suc, List, [], ◌∷◌, Option, Some, None, true, false, refl, inl, inr, arith}
 use Rattle.topology.specs.declared.frame.Payload.{Payload}
 use Rattle.configuration.specs.link_model.declared.item.Item.TheVariants as item
-use Rattle.layers.specs.declared.items.Number.TheVariants.{Own, Acknowledged}
+use Rattle.layers.specs.declared.items.FrameNumber.TheVariants.{Own, Acknowledged}
 use Rattle.layers.specs.declared.ring_reading.Part.{Part}
 use Rattle.layers.specs.declared.ring_reading.Part.TheVariants.{Front, Rest, Broken}
 use Rattle.layers.specs.declared.ring_reading.RingReading.{RingReading}

@@ -3,11 +3,11 @@ use Rattle.std.specs.Prelude.{ℕ, List, [], ◌∷◌}
 use Rattle.topology.specs.declared.frame.Frame.{Frame}
 use Rattle.configuration.specs.link_model.declared.item.Item.{Item}
 use Rattle.configuration.specs.link_model.declared.item.Item.TheVariants as item
-use Rattle.layers.specs.declared.items.Number.{Number}
-use Rattle.layers.specs.declared.items.Number.TheVariants.{Own, Acknowledged}
+use Rattle.layers.specs.declared.items.FrameNumber.{FrameNumber}
+use Rattle.layers.specs.declared.items.FrameNumber.TheVariants.{Own, Acknowledged}
 
 -- the number of a frame that is meant
-abbrev pub number_of : Number → Frame → ℕ
+abbrev pub number_of : FrameNumber → Frame → ℕ
 number_of Own f = f.seq
 number_of Acknowledged f = f.ack
 

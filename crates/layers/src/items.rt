@@ -17,7 +17,7 @@ use topology::Frame;
 
 /// Which number of a frame is meant.
 #[derive(Clone, Copy)]
-pub enum Number {
+pub enum FrameNumber {
     /// Its own.
     Own,
     /// The one that it acknowledges.
@@ -25,12 +25,12 @@ pub enum Number {
 }
 
 /// The number of a frame.
-fn number_of(number: Number, frame: Frame) -> u16
+fn number_of(number: FrameNumber, frame: Frame) -> u16
     ensures { result ≡ number_of number frame }
 {
     match number {
-        Number::Own => frame.seq,
-        Number::Acknowledged => frame.ack,
+        FrameNumber::Own => frame.seq,
+        FrameNumber::Acknowledged => frame.ack,
     }
 }
 
@@ -39,7 +39,7 @@ pub fn after_numbers<A: Allocator + Copy>(
     configuration: &Configuration<A>,
     from: u16,
     to: u16,
-    number: Number,
+    number: FrameNumber,
     start: RingReading,
 ) -> RingReading
     requires from_in { from < (world_of configuration.now).net.nodes }
@@ -61,7 +61,7 @@ pub fn after_numbers<A: Allocator + Copy>(
 }
 
 /// The reading of a ring after the number of an item; noise has none.
-fn after_number(reading: RingReading, number: Number, item: Item) -> RingReading
+fn after_number(reading: RingReading, number: FrameNumber, item: Item) -> RingReading
     requires { 0 < reading.modulus }
     ensures modulus { result.modulus ≡ reading.modulus }
     ensures follows { (rest : List ℕ) → MayFollow result rest

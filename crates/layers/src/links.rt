@@ -9,7 +9,7 @@ ghost use Rattle.k_state.specs.Ring.{IsGood};
 ghost use Rattle.layers.specs.Links.{AreSuch, IsLinkStable, CarriesPayloads, links_from};
 ghost use Rattle.layers.specs.Links.{links_of, AreStableFrom};
 
-use crate::items::{Number, after_numbers, after_payloads};
+use crate::items::{FrameNumber, after_numbers, after_payloads};
 use crate::payload_reading::PayloadReading;
 use crate::ring_reading::RingReading;
 use configuration::Configuration;
@@ -105,12 +105,12 @@ fn is_ring_good<A: Allocator + Copy>(configuration: &Configuration<A>, from: u16
     let seq = configuration.node(from).seq(to);
     let last = configuration.node(to).last(from);
     let near = RingReading::new(seq, configuration.net().counter()).after(seq);
-    let out = after_numbers(configuration, from, to, Number::Own, near);
+    let out = after_numbers(configuration, from, to, FrameNumber::Own, near);
     let back = after_numbers(
         configuration,
         to,
         from,
-        Number::Acknowledged,
+        FrameNumber::Acknowledged,
         out.after(last),
     );
     back.is_good()

@@ -17,7 +17,7 @@ mod together;
 use command_parts::{
     Event, EventText, Fault, Flush, World, WriteSink, give_events, judge, read_network, state_text,
 };
-use progress::Watch;
+use progress::ProgressGate;
 use std::alloc::Global;
 use std::fs;
 use std::io::{BufWriter, Write, writer};
@@ -61,7 +61,7 @@ fn run_watched<R: Clock + Eprint + Threads + Wait + Sync + AllocGlobal>(
 ) -> Result<Woven, Fault>
     ensures { IfOk result (AllRan turns net.now) }
 {
-    let watch = Watch::start(rt, net.nodes(), turns, says);
+    let watch = ProgressGate::start(rt, net.nodes(), turns, says);
     let ran = run_nodes(rt, rt.alloc(), net, turns, &watch);
     watch.end();
     ran

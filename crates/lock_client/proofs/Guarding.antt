@@ -5,7 +5,7 @@ use Rattle.std.proofs.lemmas.Grind.{common_steps}
 use Rattle.std.proofs.lemmas.Bool.Decides.{nat_tests}
 use Rattle.lock_client.specs.declared.guard.GuardStage.{GuardStage}
 use Rattle.lock_client.specs.declared.guard.GuardStage.TheVariants.{Idle, Watching, Searching, Asked, Killed, Waiting, Over}
-use Rattle.lock_client.specs.declared.guard.Sight.{Sight}
+use Rattle.lock_client.specs.declared.guard.GuardSight.{GuardSight}
 use Rattle.lock_client.specs.declared.guard.GuardEvent.{GuardEvent}
 use Rattle.lock_client.specs.declared.guard.GuardEvent.TheVariants.{Said, Closed, Looked}
 use Rattle.lock_client.specs.declared.guard.GuardDeed.{GuardDeed}
@@ -146,12 +146,12 @@ leaves_alone keeps stage (e ∷ es) calm =
     let no : _ = one.1 in
     grind (arith, common_steps)
 
-signalled-one : (quiet : ℕ) (sight : Sight) → sight.signalled ≡ true
+signalled-one : (quiet : ℕ) (sight : GuardSight) → sight.signalled ≡ true
     → IsCalm false (guard_after false (Looked sight) (Searching quiet))
     × (is_asking (guard_deed (Searching quiet) (guard_after false (Looked sight) (Searching quiet))) ≡ false)
 signalled-one quiet sight had = grind (arith, common_steps, nat_tests)
 
-pub signalled : (quiet : ℕ) (sight : Sight) (events : List GuardEvent) → sight.signalled ≡ true
+pub signalled : (quiet : ℕ) (sight : GuardSight) (events : List GuardEvent) → sight.signalled ≡ true
     → filter is_asking (guard_deeds false (Searching quiet) (Looked sight ∷ events)) ≡ []
 signalled quiet sight events had =
     let one : _ = signalled-one quiet sight had in
@@ -159,6 +159,6 @@ signalled quiet sight events had =
     let no : _ = one.1 in
     grind (arith, common_steps)
 
-pub asks_whom_it_finds : (quiet : ℕ) (sight : Sight) → sight.somebody ≡ true → sight.signalled ≡ false
+pub asks_whom_it_finds : (quiet : ℕ) (sight : GuardSight) → sight.somebody ≡ true → sight.signalled ≡ false
     → guard_deed (Searching quiet) (guard_after false (Looked sight) (Searching quiet)) ≡ Ask
 asks_whom_it_finds quiet sight some none = grind (arith, common_steps, nat_tests)

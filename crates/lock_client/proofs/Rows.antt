@@ -4,11 +4,11 @@ use Rattle.lock_client.specs.declared.answer.Answer.TheVariants as answer
 use Rattle.lock_client.specs.declared.outcome.CommandEnd.TheVariants.{Exited, Killed, CannotRun, NotThere, NotGuarded}
 use Rattle.held_signals.specs.declared.signals.Signal.TheVariants.{Interrupt, Terminate}
 use Rattle.lock_client.specs.declared.outcome.Outcome.TheVariants.{Done, Lost, NotInTime, NoService, Stopped}
-use Rattle.lock_client.specs.declared.client.Stage.TheVariants.{Asking, Over}
-use Rattle.lock_client.specs.declared.client.Event.{Event}
-use Rattle.lock_client.specs.declared.client.Event.TheVariants.{Line, Gone, Unserved, TimeIsUp, Ended, GuardGone, Signal}
-use Rattle.lock_client.specs.declared.client.Deed.TheVariants.{Wait, AskAgain, ConnectAgain, Start, PassOn}
-use Rattle.lock_client.specs.declared.client.Deed.TheVariants.{GiveBack, EndCommand, SayLost, Finish}
+use Rattle.lock_client.specs.declared.client.ClientStage.TheVariants.{Asking, Over}
+use Rattle.lock_client.specs.declared.client.ClientEvent.{ClientEvent}
+use Rattle.lock_client.specs.declared.client.ClientEvent.TheVariants.{Line, Gone, Unserved, TimeIsUp, Ended, GuardGone, Signal}
+use Rattle.lock_client.specs.declared.client.ClientDeed.TheVariants.{Wait, AskAgain, ConnectAgain, Start, PassOn}
+use Rattle.lock_client.specs.declared.client.ClientDeed.TheVariants.{GiveBack, EndCommand, SayLost, Finish}
 use Rattle.lock_client.specs.Lines.{answer_line, answer_lines}
 use Rattle.lock_client.specs.Outcome.{outcome_status}
 use Rattle.lock_client.specs.Steps.{stage_after_all, deeds}
@@ -48,7 +48,7 @@ status-no_service : outcome_status NoService ≡ 125
 status-no_service = refl
 
 -- one lock, with a full desk first: the command runs once, and the lock is released once
-one_lock : List Event
+one_lock : List ClientEvent
 one_lock = Line answer.Full ∷ Line answer.Granted ∷ TimeIsUp ∷ Ended (Exited 0) ∷ Line answer.Released ∷ []
 
 does-one_lock : deeds false Asking one_lock ≡ AskAgain ∷ Start ∷ Wait ∷ GiveBack ∷ Finish (Done (Exited 0)) ∷ []
@@ -60,7 +60,7 @@ unfolding one_lock
 holds-one_lock = inr (record {}, inl (refl, inr (inl refl, inl (refl, inl refl))))
 
 -- the lock is lost while the command runs: it is ended, and its status counts for nothing
-lost_lock : List Event
+lost_lock : List ClientEvent
 lost_lock = Line answer.Granted ∷ Line answer.Lost ∷ Ended (Exited 0) ∷ []
 
 does-lost_lock : deeds false Asking lost_lock ≡ Start ∷ EndCommand ∷ Finish Lost ∷ []
@@ -94,7 +94,7 @@ no_room = refl
 
 -- the guard is gone while the command runs: the command is ended once, whatever comes then, and
 -- its status counts for nothing, even if the node says that the lock was held
-unguarded : List Event
+unguarded : List ClientEvent
 unguarded = Line answer.Granted ∷ GuardGone ∷ Line answer.Lost ∷ Ended (Killed 15) ∷ Line answer.Released ∷ []
 
 does-unguarded : deeds false Asking unguarded ≡ Start ∷ EndCommand ∷ Wait ∷ Finish Lost ∷ Finish Lost ∷ []

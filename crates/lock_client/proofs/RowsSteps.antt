@@ -4,9 +4,9 @@ use Rattle.lock_client.specs.declared.answer.Answer.TheVariants as answer
 use Rattle.lock_client.specs.declared.outcome.CommandEnd.TheVariants.{Exited, Killed, CannotRun}
 use Rattle.lock_client.specs.declared.outcome.Outcome.TheVariants.{Done, Lost}
 use Rattle.held_signals.specs.declared.signals.Signal.TheVariants.{Terminate, Quit}
-use Rattle.lock_client.specs.declared.client.Stage.TheVariants.{Asking, Holding, Losing, Returning, Over}
-use Rattle.lock_client.specs.declared.client.Event.TheVariants.{Line, Gone, TimeIsUp, Ended, GuardGone, Signal}
-use Rattle.lock_client.specs.declared.client.Deed.TheVariants.{Wait, AskAgain, Start, PassOn, GiveBack, EndCommand, SayLost, Finish}
+use Rattle.lock_client.specs.declared.client.ClientStage.TheVariants.{Asking, Holding, Losing, Returning, Over}
+use Rattle.lock_client.specs.declared.client.ClientEvent.TheVariants.{Line, Gone, TimeIsUp, Ended, GuardGone, Signal}
+use Rattle.lock_client.specs.declared.client.ClientDeed.TheVariants.{Wait, AskAgain, Start, PassOn, GiveBack, EndCommand, SayLost, Finish}
 use Rattle.lock_client.specs.declared.guard.GuardStage.TheVariants as guard
 use Rattle.lock_client.specs.declared.guard.GuardEvent.TheVariants.{Said, Closed, Looked, GraceIsOver}
 use Rattle.lock_client.specs.declared.guard.GuardDeed.TheVariants as deed

@@ -2,7 +2,7 @@
 use Rattle.std.specs.Prelude.{◌≡◌, ◌⊎◌, ⊤, ℕ, ◌+◌, ◌≤◌, Bool, true, false, if◌then◌else◌, List, [], ◌∷◌, ◌++◌, filter, length}
 use Rattle.std.specs.List.{AllByRecursion}
 use Rattle.lock_client.specs.declared.guard.GuardStage.TheVariants.{Idle, Watching, Searching, Over}
-use Rattle.lock_client.specs.declared.guard.Sight.{Sight}
+use Rattle.lock_client.specs.declared.guard.GuardSight.{GuardSight}
 use Rattle.lock_client.specs.declared.guard.GuardEvent.{GuardEvent}
 use Rattle.lock_client.specs.declared.guard.GuardEvent.TheVariants.{Said, Closed, Looked}
 use Rattle.lock_client.specs.declared.guard.GuardDeed.{GuardDeed}
@@ -56,7 +56,7 @@ KillsAfterAsking =
 pub record LeavesAlone : Type 0 where
   pub keeps : (events : List GuardEvent)
       → filter is_asking (guard_deeds true Idle events) ≡ []
-  pub signalled : (quiet : ℕ) (sight : Sight) (events : List GuardEvent) → sight.signalled ≡ true
+  pub signalled : (quiet : ℕ) (sight : GuardSight) (events : List GuardEvent) → sight.signalled ≡ true
       → filter is_asking (guard_deeds false (Searching quiet) (Looked sight ∷ events)) ≡ []
 
 -- a guard ends when its client is done, or is gone and announced no command; if the client is
@@ -65,5 +65,5 @@ pub record GuardEnds : Type 0 where
   pub done : (keeps : Bool) → guard_after keeps (Said word.Done) Watching ≡ Over
   pub unused : (keeps : Bool) → guard_after keeps Closed Idle ≡ Over
   pub looks : (keeps : Bool) → guard_after keeps Closed Watching ≡ Searching 0
-  pub asks : (quiet : ℕ) (sight : Sight) → sight.somebody ≡ true → sight.signalled ≡ false
+  pub asks : (quiet : ℕ) (sight : GuardSight) → sight.somebody ≡ true → sight.signalled ≡ false
       → guard_deed (Searching quiet) (guard_after false (Looked sight) (Searching quiet)) ≡ Ask

@@ -7,29 +7,29 @@ use Rattle.lock_client.specs.declared.outcome.Outcome.{Outcome}
 use Rattle.lock_client.specs.declared.outcome.Outcome.TheVariants.{Done, Lost, NotInTime, NoService, Stopped}
 use Rattle.held_signals.specs.declared.signals.Signal.{Signal}
 use Rattle.held_signals.specs.declared.signals.Signal.TheVariants.{Terminate}
-use Rattle.lock_client.specs.declared.client.Stage.TheVariants.{Asking, Holding, Losing, Returning, Over}
-use Rattle.lock_client.specs.declared.client.Event.{Event}
-use Rattle.lock_client.specs.declared.client.Event.TheVariants as event
-use Rattle.lock_client.specs.declared.client.Deed.{Deed}
-use Rattle.lock_client.specs.declared.client.Deed.TheVariants.{Start, GiveBack, EndCommand, PassOn}
+use Rattle.lock_client.specs.declared.client.ClientStage.TheVariants.{Asking, Holding, Losing, Returning, Over}
+use Rattle.lock_client.specs.declared.client.ClientEvent.{ClientEvent}
+use Rattle.lock_client.specs.declared.client.ClientEvent.TheVariants as event
+use Rattle.lock_client.specs.declared.client.ClientDeed.{ClientDeed}
+use Rattle.lock_client.specs.declared.client.ClientDeed.TheVariants.{Start, GiveBack, EndCommand, PassOn}
 use Rattle.lock_client.specs.Steps.{stage_after, stage_after_all, deed_between, deeds}
 
 -- what raises no doubt once the command has ended: another end, the end of the guard, a signal
-abbrev pub IsHarmless : Event → Type 0
+abbrev pub IsHarmless : ClientEvent → Type 0
 IsHarmless (event.Ended end) = Unit {0}
 IsHarmless event.GuardGone = Unit {0}
 IsHarmless (event.Signal signal) = Unit {0}
 IsHarmless _ = ⊥
 
 -- the next event, apart from harmless ones, is that the node said `released`
-abbrev pub IsReleasedNext : List Event → Type 0
+abbrev pub IsReleasedNext : List ClientEvent → Type 0
 IsReleasedNext [] = ⊥
 IsReleasedNext (e ∷ es) =
     (e ≡ event.Line answer.Released) ⊎ (IsHarmless e × IsReleasedNext es)
 
 -- nothing came from the node and the guard lived until the command ended like this, and next the
 -- node said `released`
-abbrev pub IsHeldToTheEnd : CommandEnd → List Event → Type 0
+abbrev pub IsHeldToTheEnd : CommandEnd → List ClientEvent → Type 0
 IsHeldToTheEnd end [] = ⊥
 IsHeldToTheEnd end (e ∷ es) =
     ((e ≡ event.Ended end) × IsReleasedNext es)
@@ -37,7 +37,7 @@ IsHeldToTheEnd end (e ∷ es) =
     × IsHeldToTheEnd end es)
 
 -- what leaves a client waiting: no room, a closed connection, and leftovers of an earlier command
-abbrev pub IsWaiting : Event → Type 0
+abbrev pub IsWaiting : ClientEvent → Type 0
 IsWaiting (event.Line answer.Full) = Unit {0}
 IsWaiting event.Gone = Unit {0}
 IsWaiting (event.Ended end) = Unit {0}
@@ -46,7 +46,7 @@ IsWaiting _ = ⊥
 
 -- the lock was held all the while and the guard lived: the node said nothing but `full` until it
 -- said `granted`, then nothing until the command ended like this, and then `released`
-abbrev pub HeldThroughout : CommandEnd → List Event → Type 0
+abbrev pub HeldThroughout : CommandEnd → List ClientEvent → Type 0
 HeldThroughout end [] = ⊥
 HeldThroughout end (e ∷ es) =
     ((e ≡ event.Line answer.Granted) × IsHeldToTheEnd end es)
@@ -56,26 +56,26 @@ HeldThroughout end (e ∷ es) =
 -- lived
 abbrev pub HeldThroughoutLaw : Type 0
 HeldThroughoutLaw =
-    (end : CommandEnd) (events : List Event)
+    (end : CommandEnd) (events : List ClientEvent)
     → (stage_after_all false Asking events ≡ Over (Done end)) ↔ HeldThroughout end events
 
 -- the command is started; the lock is released; the command is asked to end
-abbrev pub is_start : Deed → Bool
+abbrev pub is_start : ClientDeed → Bool
 is_start Start = true
 is_start _ = false
 
-abbrev pub is_giving_back : Deed → Bool
+abbrev pub is_giving_back : ClientDeed → Bool
 is_giving_back GiveBack = true
 is_giving_back _ = false
 
-abbrev pub is_ending : Deed → Bool
+abbrev pub is_ending : ClientDeed → Bool
 is_ending EndCommand = true
 is_ending _ = false
 
 -- whatever happens, deeds of this kind are done at most once
-abbrev pub IsDoneOnce : (Deed → Bool) → Type 0
+abbrev pub IsDoneOnce : (ClientDeed → Bool) → Type 0
 IsDoneOnce kind =
-    (keeps : Bool) (events : List Event) → length (filter kind (deeds keeps Asking events)) ≤ 1
+    (keeps : Bool) (events : List ClientEvent) → length (filter kind (deeds keeps Asking events)) ≤ 1
 
 -- the command is started at most once, and the lock released at most once
 abbrev pub StartsAtMostOnce : Type 0
@@ -85,7 +85,7 @@ abbrev pub GivesBackOnce : Type 0
 GivesBackOnce = IsDoneOnce is_giving_back
 
 -- what takes the lock, or its guard, from a running command
-abbrev pub is_loss : Event → Bool
+abbrev pub is_loss : ClientEvent → Bool
 is_loss (event.Line answer) = true
 is_loss event.Gone = true
 is_loss event.Unserved = true
@@ -95,17 +95,17 @@ is_loss _ = false
 -- if the node's connection or the guard ends first, the command is asked to end, at most once in
 -- all, and the status is always 122; a command that may run on is never asked
 pub record EndsWhatLostItsLock : Type 0 where
-  pub asks : (e : Event) → is_loss e ≡ true
+  pub asks : (e : ClientEvent) → is_loss e ≡ true
       → deed_between false e Holding (stage_after false e Holding) ≡ EndCommand
-  pub once : (events : List Event) → length (filter is_ending (deeds false Asking events)) ≤ 1
-  pub lost : (e : Event) (events : List Event) (outcome : Outcome) → is_loss e ≡ true
+  pub once : (events : List ClientEvent) → length (filter is_ending (deeds false Asking events)) ≤ 1
+  pub lost : (e : ClientEvent) (events : List ClientEvent) (outcome : Outcome) → is_loss e ≡ true
       → stage_after_all false Holding (e ∷ events) ≡ Over outcome → outcome ≡ Lost
-  pub kept : (events : List Event) → filter is_ending (deeds true Asking events) ≡ []
+  pub kept : (events : List ClientEvent) → filter is_ending (deeds true Asking events) ≡ []
 
 -- a signal ends a client only if no command was started; a running command gets SIGTERM passed on,
 -- and no other signal does anything
 pub record SignalsAreHeeded : Type 0 where
-  pub before : (keeps : Bool) (signal : Signal) (events : List Event)
+  pub before : (keeps : Bool) (signal : Signal) (events : List ClientEvent)
       → stage_after_all keeps Asking events ≡ Over (Stopped signal)
       → filter is_start (deeds keeps Asking events) ≡ []
   pub stays : (keeps : Bool) (signal : Signal)

@@ -5,19 +5,19 @@ use Rattle.lock_client.specs.declared.outcome.CommandEnd.{CommandEnd}
 use Rattle.lock_client.specs.declared.outcome.Outcome.{Outcome}
 use Rattle.lock_client.specs.declared.outcome.Outcome.TheVariants.{Done, Lost, NotInTime, NoService, Stopped}
 use Rattle.held_signals.specs.declared.signals.Signal.TheVariants.{Terminate}
-use Rattle.lock_client.specs.declared.client.Stage.{Stage}
-use Rattle.lock_client.specs.declared.client.Stage.TheVariants.{Asking, Holding, Losing, Returning, Over}
-use Rattle.lock_client.specs.declared.client.Event.{Event}
-use Rattle.lock_client.specs.declared.client.Event.TheVariants.{Line, Gone, Unserved, TimeIsUp, Ended, GuardGone, Signal}
-use Rattle.lock_client.specs.declared.client.Deed.{Deed}
-use Rattle.lock_client.specs.declared.client.Deed.TheVariants.{Wait, AskAgain, ConnectAgain, Start, PassOn}
-use Rattle.lock_client.specs.declared.client.Deed.TheVariants.{GiveBack, EndCommand, SayLost, Finish}
+use Rattle.lock_client.specs.declared.client.ClientStage.{ClientStage}
+use Rattle.lock_client.specs.declared.client.ClientStage.TheVariants.{Asking, Holding, Losing, Returning, Over}
+use Rattle.lock_client.specs.declared.client.ClientEvent.{ClientEvent}
+use Rattle.lock_client.specs.declared.client.ClientEvent.TheVariants.{Line, Gone, Unserved, TimeIsUp, Ended, GuardGone, Signal}
+use Rattle.lock_client.specs.declared.client.ClientDeed.{ClientDeed}
+use Rattle.lock_client.specs.declared.client.ClientDeed.TheVariants.{Wait, AskAgain, ConnectAgain, Start, PassOn}
+use Rattle.lock_client.specs.declared.client.ClientDeed.TheVariants.{GiveBack, EndCommand, SayLost, Finish}
 use Rattle.lock_client.specs.Courses.{after_all, deeds_of}
 
 -- a client that asked holds the lock once it is granted, and asks again if there was no room or
 -- the node closed the connection; any other word, no listener, a time that is up or a signal ends
 -- it
-abbrev pub asking_after : Event → Stage
+abbrev pub asking_after : ClientEvent → ClientStage
 asking_after (Line answer.Granted) = Holding
 asking_after (Line answer.Full) = Asking
 asking_after (Line _) = Over NoService
@@ -30,7 +30,7 @@ asking_after (Signal signal) = Over (Stopped signal)
 
 -- a client that holds the lock releases it when its command ends; any word of the node, its going
 -- away, and the end of the guard put the lock in doubt; held signals do not
-abbrev pub holding_after : Event → Stage
+abbrev pub holding_after : ClientEvent → ClientStage
 holding_after (Line _) = Losing
 holding_after Gone = Losing
 holding_after Unserved = Losing
@@ -46,13 +46,13 @@ in_doubt true end = Done end
 in_doubt false end = Lost
 
 -- without the lock, the client waits for the end of the command
-abbrev pub losing_after : Bool → Event → Stage
+abbrev pub losing_after : Bool → ClientEvent → ClientStage
 losing_after keeps (Ended end) = Over (in_doubt keeps end)
 losing_after keeps _ = Losing
 
 -- once the command has ended, all is well if the node says that the lock was released; the guard
 -- has nothing more to hold, and a signal comes too late; anything else puts the lock in doubt
-abbrev pub returning_after : Bool → Event → CommandEnd → Stage
+abbrev pub returning_after : Bool → ClientEvent → CommandEnd → ClientStage
 returning_after keeps (Line answer.Released) end = Over (Done end)
 returning_after keeps (Ended again) end = Returning end
 returning_after keeps GuardGone end = Returning end
@@ -60,7 +60,7 @@ returning_after keeps (Signal signal) end = Returning end
 returning_after keeps _ end = Over (in_doubt keeps end)
 
 -- the stage after an event
-abbrev pub stage_after : Bool → Event → Stage → Stage
+abbrev pub stage_after : Bool → ClientEvent → ClientStage → ClientStage
 stage_after keeps event Asking = asking_after event
 stage_after keeps event Holding = holding_after event
 stage_after keeps event Losing = losing_after keeps event
@@ -68,28 +68,28 @@ stage_after keeps event (Returning end) = returning_after keeps event end
 stage_after keeps event (Over outcome) = Over outcome
 
 -- what to do if the lock is lost: say so, and end the command unless it may run on
-abbrev pub losing_deed : Bool → Deed
+abbrev pub losing_deed : Bool → ClientDeed
 losing_deed true = SayLost
 losing_deed false = EndCommand
 
 -- if the desk was full the client asks again; if the node closed the connection it connects again
-abbrev pub asking_deed : Event → Deed
+abbrev pub asking_deed : ClientEvent → ClientDeed
 asking_deed (Line answer.Full) = AskAgain
 asking_deed Gone = ConnectAgain
 asking_deed _ = Wait
 
 -- SIGTERM is passed on to a running command
-abbrev pub running_deed : Event → Deed
+abbrev pub running_deed : ClientEvent → ClientDeed
 running_deed (Signal Terminate) = PassOn
 running_deed _ = Wait
 
 -- a command that lost the lock was asked to end, unless it may run on
-abbrev pub lost_deed : Bool → Event → Deed
+abbrev pub lost_deed : Bool → ClientEvent → ClientDeed
 lost_deed true event = running_deed event
 lost_deed false event = Wait
 
 -- what to do between one stage and the next
-abbrev pub deed_between : Bool → Event → Stage → Stage → Deed
+abbrev pub deed_between : Bool → ClientEvent → ClientStage → ClientStage → ClientDeed
 deed_between keeps event _ (Over outcome) = Finish outcome
 deed_between keeps event _ Asking = asking_deed event
 deed_between keeps event Asking Holding = Start
@@ -100,9 +100,9 @@ deed_between keeps event Holding Losing = losing_deed keeps
 deed_between keeps event _ Losing = lost_deed keeps event
 
 -- the stage after a list of events
-abbrev pub stage_after_all : Bool → Stage → List Event → Stage
+abbrev pub stage_after_all : Bool → ClientStage → List ClientEvent → ClientStage
 stage_after_all keeps stage events = after_all (stage_after keeps) stage events
 
 -- the deeds of these events, one after the other
-abbrev pub deeds : Bool → Stage → List Event → List Deed
+abbrev pub deeds : Bool → ClientStage → List ClientEvent → List ClientDeed
 deeds keeps stage events = deeds_of (stage_after keeps) (deed_between keeps) stage events

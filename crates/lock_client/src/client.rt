@@ -10,7 +10,7 @@ use held_signals::Signal;
 
 /// How far a client is.
 #[derive(Clone, Copy, PartialEq, Eq)]
-pub enum Stage {
+pub enum ClientStage {
     /// It has asked for the lock, and has no answer yet.
     Asking,
     /// The lock is lent to it, and its command runs.
@@ -25,7 +25,7 @@ pub enum Stage {
 
 /// What happens to a client.
 #[derive(Clone, Copy)]
-pub enum Event {
+pub enum ClientEvent {
     /// The desk answered this line.
     Line(Answer),
     /// The connection closed or failed.
@@ -44,7 +44,7 @@ pub enum Event {
 
 /// What to do now.
 #[derive(Clone, Copy)]
-pub enum Deed {
+pub enum ClientDeed {
     /// Nothing: wait for what happens next.
     Wait,
     /// Write `lock` again, after a rest: there was no room at the desk.
@@ -71,11 +71,11 @@ pub enum Deed {
 #[derive(Clone, Copy)]
 pub struct LockClient {
     keeps_running: bool,
-    stage: Stage,
+    stage: ClientStage,
 }
 
 impl LockClient {
-    ghost use Rattle.lock_client.specs.declared.client.Stage.TheVariants.{Asking};
+    ghost use Rattle.lock_client.specs.declared.client.ClientStage.TheVariants.{Asking};
 
     /// A client that has just asked. `keeps_running` says whether the command runs on if the lock
     /// is lost.
@@ -85,12 +85,12 @@ impl LockClient {
     {
         LockClient {
             keeps_running,
-            stage: Stage::Asking,
+            stage: ClientStage::Asking,
         }
     }
 
     /// How far it is.
-    pub fn stage(&self) -> Stage
+    pub fn stage(&self) -> ClientStage
         ensures { result ≡ self.now.stage }
     {
         self.stage
@@ -98,7 +98,7 @@ impl LockClient {
 
     /// Takes note of what happened, and says what to do. What cannot happen at that stage changes
     /// nothing.
-    pub fn step(&mut self, event: Event) -> Deed
+    pub fn step(&mut self, event: ClientEvent) -> ClientDeed
         ensures stage { self.new ≡ record self.old {
           stage = stage_after self.old.keeps_running event self.old.stage;
         } }
@@ -107,33 +107,34 @@ impl LockClient {
     {
         let before = self.stage;
         self.stage = match before {
-            Stage::Asking => while_asking(event),
-            Stage::Holding => while_holding(event),
-            Stage::Losing => self.while_losing(event),
-            Stage::Returning(end) => self.while_returning(event, end),
-            Stage::Over(_) => before,
+            ClientStage::Asking => while_asking(event),
+            ClientStage::Holding => while_holding(event),
+            ClientStage::Losing => self.while_losing(event),
+            ClientStage::Returning(end) => self.while_returning(event, end),
+            ClientStage::Over(_) => before,
         };
         self.deed(event, before)
     }
 
     /// The command runs without the lock.
-    fn while_losing(&self, event: Event) -> Stage
+    fn while_losing(&self, event: ClientEvent) -> ClientStage
         ensures { result ≡ losing_after self.now.keeps_running event }
     {
         match event {
-            Event::Ended(end) => Stage::Over(self.in_doubt(end)),
-            _ => Stage::Losing,
+            ClientEvent::Ended(end) => ClientStage::Over(self.in_doubt(end)),
+            _ => ClientStage::Losing,
         }
     }
 
     /// The command has ended, and the node's word is awaited.
-    fn while_returning(&self, event: Event, end: CommandEnd) -> Stage
+    fn while_returning(&self, event: ClientEvent, end: CommandEnd) -> ClientStage
         ensures { result ≡ returning_after self.now.keeps_running event end }
     {
         match event {
-            Event::Line(Answer::Released) => Stage::Over(Outcome::Done(end)),
-            Event::Ended(_) | Event::GuardGone | Event::Signal(_) => Stage::Returning(end),
-            _ => Stage::Over(self.in_doubt(end)),
+            ClientEvent::Line(Answer::Released) => ClientStage::Over(Outcome::Done(end)),
+            ClientEvent::Ended(_) | ClientEvent::GuardGone | ClientEvent::Signal(_) =>
+                ClientStage::Returning(end),
+            _ => ClientStage::Over(self.in_doubt(end)),
         }
     }
 
@@ -149,88 +150,89 @@ impl LockClient {
     }
 
     /// What to do, by the stage before this one.
-    fn deed(&self, event: Event, before: Stage) -> Deed
+    fn deed(&self, event: ClientEvent, before: ClientStage) -> ClientDeed
         ensures { result ≡ deed_between self.now.keeps_running event before self.now.stage }
     {
         match self.stage {
-            Stage::Over(outcome) => Deed::Finish(outcome),
-            Stage::Asking => asking_deed(event),
-            Stage::Holding if before == Stage::Asking => Deed::Start,
-            Stage::Holding => running_deed(event),
-            Stage::Returning(_) if before == Stage::Holding => Deed::GiveBack,
-            Stage::Losing if before == Stage::Holding => self.losing_deed(),
-            Stage::Losing => self.lost_deed(event),
-            Stage::Returning(_) => Deed::Wait,
+            ClientStage::Over(outcome) => ClientDeed::Finish(outcome),
+            ClientStage::Asking => asking_deed(event),
+            ClientStage::Holding if before == ClientStage::Asking => ClientDeed::Start,
+            ClientStage::Holding => running_deed(event),
+            ClientStage::Returning(_) if before == ClientStage::Holding => ClientDeed::GiveBack,
+            ClientStage::Losing if before == ClientStage::Holding => self.losing_deed(),
+            ClientStage::Losing => self.lost_deed(event),
+            ClientStage::Returning(_) => ClientDeed::Wait,
         }
     }
 
     /// What to do while the command runs without the lock.
-    fn lost_deed(&self, event: Event) -> Deed
+    fn lost_deed(&self, event: ClientEvent) -> ClientDeed
         ensures { result ≡ lost_deed self.now.keeps_running event }
     {
         if self.keeps_running {
             running_deed(event)
         } else {
-            Deed::Wait
+            ClientDeed::Wait
         }
     }
 
     /// What to do if the lock is lost while the command runs.
-    fn losing_deed(&self) -> Deed
+    fn losing_deed(&self) -> ClientDeed
         ensures { result ≡ losing_deed self.now.keeps_running }
     {
         if self.keeps_running {
-            Deed::SayLost
+            ClientDeed::SayLost
         } else {
-            Deed::EndCommand
+            ClientDeed::EndCommand
         }
     }
 }
 
 /// What to do while the client waits for the lock.
-fn asking_deed(event: Event) -> Deed
+fn asking_deed(event: ClientEvent) -> ClientDeed
     ensures { result ≡ asking_deed event }
 {
     match event {
-        Event::Line(Answer::Full) => Deed::AskAgain,
-        Event::Gone => Deed::ConnectAgain,
-        _ => Deed::Wait,
+        ClientEvent::Line(Answer::Full) => ClientDeed::AskAgain,
+        ClientEvent::Gone => ClientDeed::ConnectAgain,
+        _ => ClientDeed::Wait,
     }
 }
 
 /// What to do while the command runs. A terminal's signals came to the command too, so only
 /// SIGTERM is passed on.
-fn running_deed(event: Event) -> Deed
+fn running_deed(event: ClientEvent) -> ClientDeed
     ensures { result ≡ running_deed event }
 {
     match event {
-        Event::Signal(Signal::Terminate) => Deed::PassOn,
-        _ => Deed::Wait,
+        ClientEvent::Signal(Signal::Terminate) => ClientDeed::PassOn,
+        _ => ClientDeed::Wait,
     }
 }
 
 /// It waits for the lock.
-fn while_asking(event: Event) -> Stage
+fn while_asking(event: ClientEvent) -> ClientStage
     ensures { result ≡ asking_after event }
 {
     match event {
-        Event::Line(Answer::Granted) => Stage::Holding,
-        Event::Line(Answer::Full) => Stage::Asking,
-        Event::Line(_) | Event::Unserved => Stage::Over(Outcome::NoService),
-        Event::TimeIsUp => Stage::Over(Outcome::NotInTime),
-        Event::Signal(signal) => Stage::Over(Outcome::Stopped(signal)),
-        Event::Gone | Event::Ended(_) | Event::GuardGone => Stage::Asking,
+        ClientEvent::Line(Answer::Granted) => ClientStage::Holding,
+        ClientEvent::Line(Answer::Full) => ClientStage::Asking,
+        ClientEvent::Line(_) | ClientEvent::Unserved => ClientStage::Over(Outcome::NoService),
+        ClientEvent::TimeIsUp => ClientStage::Over(Outcome::NotInTime),
+        ClientEvent::Signal(signal) => ClientStage::Over(Outcome::Stopped(signal)),
+        ClientEvent::Gone | ClientEvent::Ended(_) | ClientEvent::GuardGone => ClientStage::Asking,
     }
 }
 
 /// It has the lock. Whatever the node says now, the lock is lost or in doubt. A command without
 /// its guard would keep running without the lock if this client were killed.
-fn while_holding(event: Event) -> Stage
+fn while_holding(event: ClientEvent) -> ClientStage
     ensures { result ≡ holding_after event }
 {
     match event {
-        Event::Line(_) | Event::Gone | Event::Unserved | Event::GuardGone => Stage::Losing,
-        Event::TimeIsUp | Event::Signal(_) => Stage::Holding,
-        Event::Ended(end) => Stage::Returning(end),
+        ClientEvent::Line(_) | ClientEvent::Gone | ClientEvent::Unserved | ClientEvent::GuardGone =>
+            ClientStage::Losing,
+        ClientEvent::TimeIsUp | ClientEvent::Signal(_) => ClientStage::Holding,
+        ClientEvent::Ended(end) => ClientStage::Returning(end),
     }
 }

@@ -31,7 +31,7 @@ pub enum GuardStage {
 
 /// What a look has found.
 #[derive(Clone, Copy)]
-pub struct Sight {
+pub struct GuardSight {
     /// Whether somebody of the command is left.
     pub somebody: bool,
     /// Whether a signal came to the guard. Nobody sends one to the guard alone, so it came to the
@@ -47,7 +47,7 @@ pub enum GuardEvent {
     /// The client is gone: it ended, or was killed.
     Closed,
     /// A look for the command found this.
-    Looked(Sight),
+    Looked(GuardSight),
     /// The time that a command has to end after it was asked is up.
     GraceIsOver,
 }

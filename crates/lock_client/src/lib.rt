@@ -7,9 +7,9 @@
 //!
 //! ```
 //! let mut client = LockClient::new(false);            // `lock` is written first
-//! client.step(Event::Line(Answer::Granted));          // Deed::Start: start the command
-//! client.step(Event::Ended(CommandEnd::Exited(0)));   // Deed::GiveBack: write `unlock`
-//! client.step(Event::Line(Answer::Released));         // Deed::Finish(..), whose status is 0
+//! client.step(ClientEvent::Line(Answer::Granted));          // ClientDeed::Start: start the command
+//! client.step(ClientEvent::Ended(CommandEnd::Exited(0)));   // ClientDeed::GiveBack: write `unlock`
+//! client.step(ClientEvent::Line(Answer::Released));         // ClientDeed::Finish(..), whose status is 0
 //! ```
 //!
 //! The trap: it is not enough that the command has ended. Its own status is returned only if the
@@ -30,9 +30,9 @@ mod processes;
 mod words;
 
 pub use answer::Answer;
-pub use client::{Deed, Event, LockClient, Stage};
+pub use client::{ClientDeed, ClientEvent, ClientStage, LockClient};
 pub use ends::{UNKNOWN_STATUS, command_end, spawn_end};
-pub use guard::{Guard, GuardDeed, GuardEvent, GuardStage, QUIET_LOOKS, Sight};
+pub use guard::{Guard, GuardDeed, GuardEvent, GuardSight, GuardStage, QUIET_LOOKS};
 pub use lines::{AnswerReader, spelled};
 pub use outcome::{CommandEnd, Outcome};
 pub use processes::has_entry;

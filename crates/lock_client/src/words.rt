@@ -53,14 +53,14 @@ impl WordReader {
         ensures line { (bytes : List ℕ) → StandsAfter 16 bytes self.old
             → guard_words (bytes ++ byte ∷ []) ≡ guard_words bytes ++ option_to_list result }
     {
-        self.half.push(byte, &Words)
+        self.half.push(byte, &LineBytes)
     }
 }
 
 /// What a client's line says. None has more than 16 bytes.
-struct Words;
+struct LineBytes;
 
-impl LineReading<16> for Words {
+impl LineReading<16> for LineBytes {
     type Read = GuardWord;
 
     ghost reading = { λ _. guard_word };

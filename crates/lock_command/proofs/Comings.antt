@@ -4,8 +4,8 @@ use Rattle.std.specs.Prelude.{is_some}
 use Rattle.held_signals.specs.declared.signals.Signal.{Signal}
 use Rattle.held_signals.specs.declared.signals.Signals.{Signals}
 use Rattle.held_signals.specs.Signals.{first_besides, holds, including}
-use Rattle.lock_client.specs.declared.client.Event.{Event}
-use Rattle.lock_client.specs.declared.client.Event.TheVariants as event
+use Rattle.lock_client.specs.declared.client.ClientEvent.{ClientEvent}
+use Rattle.lock_client.specs.declared.client.ClientEvent.TheVariants as event
 use Rattle.lock_command.specs.declared.session.Session.{Session}
 use Rattle.lock_command.specs.Coming.{Comes, Stays}
 use Rattle.lock_command.specs.Course.{is_past}
@@ -15,7 +15,7 @@ module _ {P A B C : Type 0} where
   stays_on a b c s t = (t.0 ∙ s.0, t.1 ∙ s.1, t.2 ∙ s.2, t.3 ∙ s.3, t.4 ∙ s.4, t.5 ∙ s.5)
 
   -- what comes after a while in which nothing came, comes from what was there before it
-  pub comes_later : (e : Event) (a b c : Session P A B C) → Stays a b → Comes e b c → Comes e a c
+  pub comes_later : (e : ClientEvent) (a b c : Session P A B C) → Stays a b → Comes e b c → Comes e a c
   comes_later event.Unserved a b c s came = (sym s.0 ∙ came.0, came.1)
   comes_later (event.Line answer) a b c s came = sym s.1 ∙ came
   comes_later event.Gone a b c s came = (sym s.1 ∙ came.0, came.1)

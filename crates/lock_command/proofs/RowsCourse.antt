@@ -1,6 +1,6 @@
 -- What is due when, and how long to rest: small examples, with some that fail.
 use Rattle.std.proofs.Common.{◌≡◌, true, false, [], ◌∷◌, Some, None, map, refl, arith, inr}
-use Rattle.lock_client.specs.declared.client.Deed.TheVariants as deed
+use Rattle.lock_client.specs.declared.client.ClientDeed.TheVariants as deed
 use Rattle.lock_command.specs.declared.course.Course.{Course}
 use Rattle.lock_command.specs.Course.{later, new_course, asked_course, timed, closed, connected, started, given_back, asked_to_end, is_past, without_due, killed_again, lacks_room, age_of, left_of, IsCourseAfter}
 use Rattle.lock_command.specs.Rest.{child_rest, longest_of, rest_of}

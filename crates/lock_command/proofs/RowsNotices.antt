@@ -5,8 +5,8 @@ use Rattle.std.specs.Borrow.{Bor}
 use Rattle.std.specs.Fmt.{digits}
 use Rattle.std.specs.declared.io.ErrorKind.TheVariants as kind
 use Rattle.lock_client.specs.declared.answer.Answer.TheVariants as answer
-use Rattle.lock_client.specs.declared.client.Deed.TheVariants as deed
-use Rattle.lock_client.specs.declared.client.Event.TheVariants as event
+use Rattle.lock_client.specs.declared.client.ClientDeed.TheVariants as deed
+use Rattle.lock_client.specs.declared.client.ClientEvent.TheVariants as event
 use Rattle.lock_client.specs.declared.outcome.CommandEnd.TheVariants.{Exited}
 use Rattle.lock_client.specs.declared.outcome.Outcome.TheVariants as outcome
 use Rattle.held_signals.specs.declared.signals.Signal.TheVariants.{Terminate}

@@ -6,15 +6,15 @@ use Rattle.std.specs.Fmt.{digits}
 use Rattle.std.specs.declared.io.ErrorKind.TheVariants.{Interrupted, BrokenPipe}
 use Rattle.lock_client.specs.declared.answer.Answer.TheVariants as answer
 use Rattle.held_signals.specs.declared.signals.Signal.TheVariants.{Terminate}
-use Rattle.lock_client.specs.declared.client.Event.TheVariants.{Line, Gone, Ended}
-use Rattle.lock_client.specs.declared.client.Event.TheVariants as event
+use Rattle.lock_client.specs.declared.client.ClientEvent.TheVariants.{Line, Gone, Ended}
+use Rattle.lock_client.specs.declared.client.ClientEvent.TheVariants as event
 use Rattle.lock_client.specs.declared.guard.GuardEvent.TheVariants.{Said, Closed}
 use Rattle.lock_client.specs.declared.outcome.CommandEnd.TheVariants.{Exited, Killed}
 use Rattle.lock_client.specs.declared.outcome.Outcome.TheVariants.{Done, Lost, NotInTime}
 use Rattle.lock_client.specs.declared.words.GuardWord.TheVariants as word
 use Rattle.lock_command.specs.declared.notice.Notice.TheVariants.{Memory}
 use Rattle.lock_command.specs.declared.session.Session.{Session}
-use Rattle.lock_command.specs.declared.waiter.Watch.TheVariants.{Not, Waiting, Ready, Always}
+use Rattle.lock_command.specs.declared.waiter.InputWatch.TheVariants.{Not, Waiting, Ready, Always}
 use Rattle.lock_command.specs.Coming.{Comes, Stays}
 use Rattle.lock_command.specs.declared.work.Work.TheVariants as work
 use Rattle.lock_command.specs.Driving.{IsOutcomeOf}

@@ -1,8 +1,8 @@
 -- What is due when, in milliseconds since the lock was asked for.
 use Rattle.std.specs.Prelude.{◌≡◌, ◌⊎◌, ℕ, ◌+◌, ◌-◌, min, Bool, true, false, ◌&&◌, if◌then◌else◌, nat_lt, nat_le, Option, Some, None}
 use Rattle.std.specs.Option.{option_map}
-use Rattle.lock_client.specs.declared.client.Deed.{Deed}
-use Rattle.lock_client.specs.declared.client.Deed.TheVariants as deed
+use Rattle.lock_client.specs.declared.client.ClientDeed.{ClientDeed}
+use Rattle.lock_client.specs.declared.client.ClientDeed.TheVariants as deed
 use Rattle.lock_command.specs.declared.course.Course.{Course}
 use Rattle.lock_command.specs.declared.seconds.Seconds.{Seconds}
 
@@ -68,7 +68,7 @@ left_of false c = option_map (λ due. due - c.time) c.due
 
 -- What a deed changes: the lock is granted, it is released, the command is asked to end, or there is a connection again if one
 -- was made.
-abbrev pub IsCourseAfter : Deed → Course → Course → Type 0
+abbrev pub IsCourseAfter : ClientDeed → Course → Course → Type 0
 IsCourseAfter deed.Start old new = new ≡ started old
 IsCourseAfter deed.GiveBack old new = new ≡ given_back old
 IsCourseAfter deed.EndCommand old new = new ≡ asked_to_end old

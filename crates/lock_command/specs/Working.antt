@@ -2,8 +2,8 @@
 use Rattle.std.specs.Prelude.{◌≡◌, ◌⊎◌, Bool, true, false, Option, Some, None}
 use Rattle.lock_client.specs.declared.outcome.CommandEnd.{CommandEnd}
 use Rattle.lock_client.specs.declared.outcome.CommandEnd.TheVariants.{Exited, Killed}
-use Rattle.lock_client.specs.declared.client.Event.{Event}
-use Rattle.lock_client.specs.declared.client.Event.TheVariants as event
+use Rattle.lock_client.specs.declared.client.ClientEvent.{ClientEvent}
+use Rattle.lock_client.specs.declared.client.ClientEvent.TheVariants as event
 use Rattle.held_signals.specs.declared.signals.Signal.{Signal}
 use Rattle.held_signals.specs.Signals.{signal_number}
 use Rattle.lock_command.specs.declared.work.Work.{Work}
@@ -53,7 +53,7 @@ IsKilled (work.Running child) new = is_running new ≡ true
 IsKilled old new = new ≡ old
 
 -- a signal ends the wait for standard input, as it would end a command; in any other work it is only reported
-abbrev pub signal_event : {P A B C : Type 0} → Work P A B C → Signal → Event
+abbrev pub signal_event : {P A B C : Type 0} → Work P A B C → Signal → ClientEvent
 signal_event work.Input signal = event.Ended (Killed (signal_number signal))
 signal_event _ signal = event.Signal signal
 

@@ -18,7 +18,7 @@ const READS: u32 = 16;
 /// A connection to a node's desk, which never waits. No contract says what a socket gives;
 /// [`AnswerReader`], whose contract says how, reads its lines.
 #[derive(Drop)]
-pub struct Desk {
+pub struct DeskConnection {
     /// Whose desk it is.
     node: u16,
     stream: UnixStream,
@@ -32,7 +32,7 @@ pub struct Desk {
 
 /// What came from a desk.
 #[derive(Clone, Copy)]
-pub enum Heard {
+pub enum DeskAnswer {
     /// This line.
     Line(Answer),
     /// Nothing more for now.
@@ -41,16 +41,16 @@ pub enum Heard {
     Gone,
 }
 
-impl Desk {
+impl DeskConnection {
     /// Connects to the socket of this node's desk.
     ///
     /// # Errors
     /// What the system answers: there is no such file, nobody listens, too many wait to be
     /// accepted, or the name is too long.
-    pub fn connect<R: Net>(rt: &R, path: &str, node: u16) -> io::Result<Desk>
+    pub fn connect<R: Net>(rt: &R, path: &str, node: u16) -> io::Result<DeskConnection>
         ensures { IfOk result (λ desk. desk.node ≡ node) }
     {
-        Ok(Desk {
+        Ok(DeskConnection {
             node,
             stream: UnixStream::connect(rt, path)?,
             reader: AnswerReader::new(),
@@ -83,24 +83,24 @@ impl Desk {
     }
 
     /// The next line that came, if one did.
-    pub fn hear(&mut self) -> Heard
+    pub fn hear(&mut self) -> DeskAnswer
         ensures { self.new.node ≡ self.old.node }
     {
         for _ in 0..READS {
             if let Some(answer) = self.next_line() {
-                return Heard::Line(answer);
+                return DeskAnswer::Line(answer);
             }
             match self.stream.read(&mut self.bytes) {
-                Ok(0) => return Heard::Gone,
+                Ok(0) => return DeskAnswer::Gone,
                 Ok(count) => {
                     self.next = 0;
                     self.end = count;
                 }
-                Err(error) if is_for_later(error.kind()) => return Heard::Nothing,
-                Err(_) => return Heard::Gone,
+                Err(error) if is_for_later(error.kind()) => return DeskAnswer::Nothing,
+                Err(_) => return DeskAnswer::Gone,
             }
         }
-        Heard::Nothing
+        DeskAnswer::Nothing
     }
 
     /// The first line that ends within the unread bytes.

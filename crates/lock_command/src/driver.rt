@@ -1,32 +1,32 @@
 //! The machine of a client, driven by what happens around it.
 ghost use Rattle.std.specs.Prelude.{◌≡◌, ◌≢◌, Some, [], ◌∷◌, ◌++◌, List, Option, Bool, true, false};
 ghost use Rattle.std.specs.Option.{option_map};
-ghost use Rattle.lock_client.specs.declared.client.Event.{Event};
-ghost use Rattle.lock_client.specs.declared.client.Event.TheVariants.{Ended};
-ghost use Rattle.lock_client.specs.declared.client.Deed.TheVariants.{Start};
+ghost use Rattle.lock_client.specs.declared.client.ClientEvent.{ClientEvent};
+ghost use Rattle.lock_client.specs.declared.client.ClientEvent.TheVariants.{Ended};
+ghost use Rattle.lock_client.specs.declared.client.ClientDeed.TheVariants.{Start};
 ghost use Rattle.lock_client.specs.declared.outcome.CommandEnd.{CommandEnd};
 ghost use Rattle.lock_command.specs.Driving.{IsOutcomeOf};
 
-use lock_client::{Deed, Event, LockClient, Outcome};
+use lock_client::{ClientDeed, ClientEvent, LockClient, Outcome};
 use std::sync::Wait;
 
 /// What is around a client: a connection, a command, a clock. They act on their own.
 pub trait Surroundings {
     /// The events that it reported, in order; none if nobody records them.
-    ghost reported: { Self → Option (List Event) };
+    ghost reported: { Self → Option (List ClientEvent) };
 
     /// Whether a command runs.
     ghost runs: { Self → Bool };
 
     /// Waits for the next event, and says what it is. No command starts meanwhile, and after the
     /// event that reports its end none runs.
-    fn next_event(&mut self) -> Event
+    fn next_event(&mut self) -> ClientEvent
         ensures reported { reported self.new ≡ option_map (λ events. events ++ result ∷ []) (reported self.old) }
         ensures starts_none { runs self.new ≡ true → runs self.old ≡ true }
         ensures ended { (end : CommandEnd) → result ≡ Ended end → runs self.new ≡ false };
 
     /// Does this deed after this event. A command starts only by the deed for it.
-    fn act(&mut self, event: Event, deed: Deed)
+    fn act(&mut self, event: ClientEvent, deed: ClientDeed)
         ensures reported { reported self.new ≡ reported self.old }
         ensures starts { deed ≢ Start → runs self.new ≡ runs self.old };
 }
@@ -59,7 +59,7 @@ pub fn drive<R: Wait, S: Surroundings>(rt: &R, surroundings: &mut S, keeps_runni
         let event = surroundings.next_event();
         let deed = client.step(event);
         surroundings.act(event, deed);
-        if let Deed::Finish(outcome) = deed {
+        if let ClientDeed::Finish(outcome) = deed {
             return Driven { outcome };
         }
     }

@@ -2,7 +2,7 @@
 ghost use Rattle.std.specs.Prelude.{◌≡◌, IfOk, IfErr, ℕ};
 ghost use Rattle.lock_command.specs.Reaching.{IsUnanswered, IsUnread, unread_notice};
 
-use crate::desk::{Desk, Heard};
+use crate::desk::{DeskAnswer, DeskConnection};
 use crate::notice::Notice;
 use lock_desk::ClientLine;
 use node_texts::desk_file::{desk_path, nodes_in};
@@ -27,7 +27,7 @@ const BETWEEN_LOOKS: u64 = 1;
 pub fn reach_first<'a, R: Net + Files + Clock + AllocGlobal>(
     rt: &R,
     folder: &'a str,
-) -> Result<Desk, Notice<'a>>
+) -> Result<DeskConnection, Notice<'a>>
     ensures { IfErr result (λ notice. IsUnanswered folder.entry notice) }
 {
     let nodes = nodes_of(rt, folder)?;
@@ -47,7 +47,7 @@ pub fn reach_first<'a, R: Net + Files + Clock + AllocGlobal>(
 }
 
 /// Waits until one of the nodes answers, for a second at most.
-fn wait_for_one<R: Clock>(rt: &R, desks: &mut Vec<Desk>) -> Option<Desk> {
+fn wait_for_one<R: Clock>(rt: &R, desks: &mut Vec<DeskConnection>) -> Option<DeskConnection> {
     for _ in 0..LOOKS {
         let found = take_first(desks);
         if found.is_some() {
@@ -59,10 +59,10 @@ fn wait_for_one<R: Clock>(rt: &R, desks: &mut Vec<Desk>) -> Option<Desk> {
 }
 
 /// Takes out the first desk at which a line came.
-fn take_first(desks: &mut Vec<Desk>) -> Option<Desk> {
+fn take_first(desks: &mut Vec<DeskConnection>) -> Option<DeskConnection> {
     for at in 0..desks.len() {
         if let Some(desk) = desks.get_mut(at)
-            && matches!(desk.hear(), Heard::Line(_))
+            && matches!(desk.hear(), DeskAnswer::Line(_))
             && at < desks.len()
         {
             return Some(desks.swap_remove(at));
@@ -76,7 +76,7 @@ fn ask_all<R: Net + AllocGlobal>(
     rt: &R,
     folder: &str,
     nodes: &[u16],
-) -> Result<Vec<Desk>, AllocError> {
+) -> Result<Vec<DeskConnection>, AllocError> {
     let mut desks = Vec::new(rt.alloc());
     for node in nodes {
         let path = desk_path(rt.alloc(), folder, *node)?;
@@ -88,8 +88,8 @@ fn ask_all<R: Net + AllocGlobal>(
 }
 
 /// Connects to a node, and asks it how it stands.
-fn ask<R: Net>(rt: &R, path: &str, node: u16) -> io::Result<Desk> {
-    let mut desk = Desk::connect(rt, path, node)?;
+fn ask<R: Net>(rt: &R, path: &str, node: u16) -> io::Result<DeskConnection> {
+    let mut desk = DeskConnection::connect(rt, path, node)?;
     desk.write(ClientLine::Status)?;
     Ok(desk)
 }

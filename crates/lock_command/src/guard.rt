@@ -10,7 +10,7 @@ use crate::guard_driver::{Guarded, drive_guard};
 use crate::guard_link::GUARDED;
 use crate::notice::{Notice, NoticeLine};
 use held_signals::state_now;
-use lock_client::{GuardDeed, GuardEvent, GuardWord, Sight, WordReader};
+use lock_client::{GuardDeed, GuardEvent, GuardSight, GuardWord, WordReader};
 use std::io::{ErrorKind, Input, Read};
 use std::process::Processes;
 use std::rt::{Env, Files};
@@ -26,7 +26,7 @@ const NO_MARK: u8 = 2;
 
 /// A guard at work.
 #[derive(Drop)]
-struct Watch<'a, R> {
+struct GuardAtWork<'a, R> {
     /// The system.
     rt: &'a R,
     words: WordReader,
@@ -67,7 +67,7 @@ pub fn run_marked<R: Files + Processes + Clock + Input + Eprint + AllocGlobal + 
     let Some(mark) = mark else {
         return NO_MARK;
     };
-    let mut watch = Watch {
+    let mut watch = GuardAtWork {
         rt,
         words: WordReader::new(),
         mark,
@@ -95,7 +95,7 @@ where
     R: Files + Processes + Clock + Input + Eprint + AllocGlobal + Wait,
 {}
 
-impl<R: GuardSystem> Guarded for Watch<'_, R> {
+impl<R: GuardSystem> Guarded for GuardAtWork<'_, R> {
     ghost use Rattle.std.specs.Prelude.{None, is_some};
 
     ghost reported = { λ _. None };
@@ -111,7 +111,7 @@ impl<R: GuardSystem> Guarded for Watch<'_, R> {
             return GuardEvent::GraceIsOver;
         }
         self.seen = self.look_for_all();
-        GuardEvent::Looked(Sight {
+        GuardEvent::Looked(GuardSight {
             somebody: !self.seen.is_empty(),
             signalled: state_now(self.rt).pending.any(),
         })
@@ -128,7 +128,7 @@ impl<R: GuardSystem> Guarded for Watch<'_, R> {
     }
 }
 
-impl<R: GuardSystem> Watch<'_, R> {
+impl<R: GuardSystem> GuardAtWork<'_, R> {
     /// What the client says next. A line that cannot be read is its end.
     fn listen(&mut self) -> GuardEvent
         ensures { result ≢ GraceIsOver }

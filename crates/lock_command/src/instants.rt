@@ -7,15 +7,15 @@ use std::time::{Clock, Duration, Instant};
 /// A clock that shows milliseconds since its start. If the system's clock cannot be read, it
 /// stands still.
 #[derive(Drop)]
-pub struct Stopwatch {
+pub struct MillisecondClock {
     start: Instant,
 }
 
-impl Stopwatch {
+impl MillisecondClock {
     /// A clock that starts now; none if the system has no clock.
-    pub fn start<R: Clock>(rt: &R) -> Option<Stopwatch> {
+    pub fn start<R: Clock>(rt: &R) -> Option<MillisecondClock> {
         let start = Instant::now(rt).ok()?;
-        Some(Stopwatch { start })
+        Some(MillisecondClock { start })
     }
 
     /// How many milliseconds have passed.

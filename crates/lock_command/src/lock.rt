@@ -3,7 +3,7 @@ ghost use Rattle.std.specs.Prelude.{◌≡◌, ℕ, Some, IfOk, IfErr};
 ghost use Rattle.lock_command.specs.Held.{held_status};
 ghost use Rattle.lock_command.specs.Reaching.{IsUnreachable, IsUnasked};
 
-use crate::desk::Desk;
+use crate::desk::DeskConnection;
 use crate::driver::{Driven, drive};
 use crate::first::reach_first;
 use crate::notice::{Notice, NoticeLine};
@@ -93,7 +93,7 @@ fn hold<'a, R: Env + Net + Files + Processes + Clock + Input + Print + Eprint + 
 pub fn desk_of<'a, R: Net + Files + Clock + AllocGlobal>(
     rt: &R,
     request: &Request<'a>,
-) -> Result<Desk, Notice<'a>>
+) -> Result<DeskConnection, Notice<'a>>
     ensures desk { (node : ℕ) → request.now.node ≡ Some node
         → IfOk result (λ desk. desk.node ≡ node) }
     ensures why { IfErr result (IsUnreachable request.now.folder request.now.node) }

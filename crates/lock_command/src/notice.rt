@@ -4,7 +4,7 @@ ghost use Rattle.lock_command.specs.Notices.{loss_notice, end_notice, why_unserv
 ghost use Rattle.lock_command.specs.NoticeText.{notice_line, cause_text, fate_text, notice_text};
 
 use crate::seconds::Seconds;
-use lock_client::{Answer, Deed, Event, Outcome};
+use lock_client::{Answer, ClientDeed, ClientEvent, Outcome};
 use std::fmt;
 
 /// Why a lock is lost.
@@ -213,12 +213,12 @@ impl fmt::Display for Notice<'_> {
 }
 
 /// The line for a lock that this event lost, and for its command.
-pub fn loss_notice<'a>(node: u16, event: Event, command: Fate) -> Notice<'a>
+pub fn loss_notice<'a>(node: u16, event: ClientEvent, command: Fate) -> Notice<'a>
     ensures { result ≡ loss_notice node event command }
 {
     match event {
-        Event::GuardGone => Notice::GuardGone(command),
-        Event::Gone => Notice::Lost {
+        ClientEvent::GuardGone => Notice::GuardGone(command),
+        ClientEvent::Gone => Notice::Lost {
             node,
             cause: Cause::WentAway,
             command,
@@ -236,16 +236,17 @@ pub fn loss_notice<'a>(node: u16, event: Event, command: Fate) -> Notice<'a>
 pub fn end_notice<'a>(
     node: u16,
     waited: Notice<'a>,
-    event: Event,
+    event: ClientEvent,
     outcome: Outcome,
 ) -> Option<Notice<'a>>
     ensures { result ≡ end_notice node waited.entry event outcome }
 {
     match (outcome, event) {
-        (Outcome::NoService, Event::Unserved) => None,
+        (Outcome::NoService, ClientEvent::Unserved) => None,
         (Outcome::NoService, _) => Some(Notice::NoService(node)),
         (Outcome::NotInTime, _) => Some(waited),
-        (Outcome::Lost, Event::Ended(_)) | (Outcome::Done(_) | Outcome::Stopped(_), _) => None,
+        (Outcome::Lost, ClientEvent::Ended(_)) | (Outcome::Done(_) | Outcome::Stopped(_), _) =>
+            None,
         (Outcome::Lost, _) => Some(Notice::InDoubt(node)),
     }
 }
@@ -263,12 +264,12 @@ pub fn why_unserved(notice: Notice<'_>) -> Notice<'_>
 
 /// The line of `--verbose`, by the event and the deed: the lock is granted, or the node took it
 /// back.
-pub fn course_notice<'a>(node: u16, event: Event, deed: Deed) -> Option<Notice<'a>>
+pub fn course_notice<'a>(node: u16, event: ClientEvent, deed: ClientDeed) -> Option<Notice<'a>>
     ensures { result ≡ course_notice node event deed }
 {
     match (event, deed) {
-        (_, Deed::Start) => Some(Notice::Granted(node)),
-        (Event::Line(Answer::Released), Deed::Finish(Outcome::Done(_))) => {
+        (_, ClientDeed::Start) => Some(Notice::Granted(node)),
+        (ClientEvent::Line(Answer::Released), ClientDeed::Finish(Outcome::Done(_))) => {
             Some(Notice::Released(node))
         }
         _ => None,

@@ -2,7 +2,7 @@
 ghost use Rattle.std.specs.Prelude.{◌≡◌, IfOk, IfErr};
 ghost use Rattle.lock_command.specs.Reaching.{IsUnreached, unreached_notice};
 
-use crate::desk::Desk;
+use crate::desk::DeskConnection;
 use crate::notice::Notice;
 use node_texts::desk_file::desk_path;
 use std::io::ErrorKind;
@@ -25,7 +25,7 @@ pub fn reach<'a, R: Net + Files + Clock + AllocGlobal>(
     rt: &R,
     folder: &'a str,
     node: u16,
-) -> Result<Desk, Notice<'a>>
+) -> Result<DeskConnection, Notice<'a>>
     ensures desk { IfOk result (λ desk. desk.node ≡ node) }
     ensures why { IfErr result (λ notice. IsUnreached folder.entry node notice) }
 {
@@ -42,11 +42,11 @@ pub fn reach<'a, R: Net + Files + Clock + AllocGlobal>(
 }
 
 /// Connects to this socket. If too many wait to be accepted, tries again for at most five seconds.
-fn connect<R: Net + Clock>(rt: &R, path: &str, node: u16) -> Result<Desk, ErrorKind>
+fn connect<R: Net + Clock>(rt: &R, path: &str, node: u16) -> Result<DeskConnection, ErrorKind>
     ensures { IfOk result (λ desk. desk.node ≡ node) }
 {
     for _ in 0..TRIES {
-        match Desk::connect(rt, path, node) {
+        match DeskConnection::connect(rt, path, node) {
             Ok(desk) => return Ok(desk),
             Err(error) if error.kind() == ErrorKind::WouldBlock => {
                 thread::sleep(rt, Duration::from_millis(BETWEEN_TRIES));

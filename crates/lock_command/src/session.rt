@@ -1,22 +1,22 @@
 //! One taking of the lock.
 ghost use Rattle.std.specs.Prelude.{◌≡◌, ◌≢◌, None, Some, IfOk, IfErr, IfSome, is_some, true, false};
 ghost use Rattle.held_signals.specs.Signals.{holds, including};
-ghost use Rattle.lock_client.specs.declared.client.Event.TheVariants.{Ended};
-ghost use Rattle.lock_client.specs.declared.client.Deed.TheVariants.{Start, ConnectAgain};
+ghost use Rattle.lock_client.specs.declared.client.ClientEvent.TheVariants.{Ended};
+ghost use Rattle.lock_client.specs.declared.client.ClientDeed.TheVariants.{Start, ConnectAgain};
 ghost use Rattle.lock_client.specs.declared.outcome.CommandEnd.{CommandEnd};
 ghost use Rattle.lock_command.specs.Coming.{Comes, Stays};
-ghost use Rattle.lock_command.specs.declared.desk.Heard.TheVariants.{Nothing};
+ghost use Rattle.lock_command.specs.declared.desk.DeskAnswer.TheVariants.{Nothing};
 ghost use Rattle.lock_command.specs.Course.{lacks_room, asked_course, started, asked_to_end, IsCourseAfter};
 ghost use Rattle.lock_command.specs.Notices.{vain_notice, no_wait_notice};
 ghost use Rattle.lock_command.specs.Reaching.{IsUnbegun};
 ghost use Rattle.lock_command.specs.Working.{is_running, signal_event, after_signal};
 
 use crate::course::Course;
-use crate::desk::{Desk, Heard};
+use crate::desk::{DeskAnswer, DeskConnection};
 use crate::driver::Surroundings;
 use crate::family::{new_mark, with_marks_before};
 use crate::guard_link::GuardLink;
-use crate::instants::Stopwatch;
+use crate::instants::MillisecondClock;
 use crate::lock::{Request, desk_of};
 use crate::notice::{
     Fate, Notice, NoticeLine, course_notice, end_notice, loss_notice, why_unserved,
@@ -27,7 +27,7 @@ use crate::system::System;
 use crate::waiter::Waiter;
 use crate::work::{Work, start};
 use held_signals::{Signal, Signals, state_now};
-use lock_client::{CommandEnd, Deed, Event, Outcome, spawn_end};
+use lock_client::{ClientDeed, ClientEvent, CommandEnd, Outcome, spawn_end};
 use lock_desk::ClientLine;
 use std::io::{ErrorKind, Input};
 use std::net::Net;
@@ -49,7 +49,7 @@ pub struct Session<'a, P: OpenProcess> {
     /// The node that is asked.
     node: u16,
     /// The connection; none once it is gone.
-    desk: Option<Desk>,
+    desk: Option<DeskConnection>,
     /// Whether the connection failed in a write that is not reported yet.
     has_failed: bool,
     /// Whether a new connection failed, and that is not reported yet.
@@ -67,7 +67,7 @@ pub struct Session<'a, P: OpenProcess> {
     holds_signals_back: bool,
     /// The signals already seen.
     seen: Signals,
-    stopwatch: Stopwatch,
+    stopwatch: MillisecondClock,
     /// What time it is, and what is due.
     course: Course,
 }
@@ -86,7 +86,7 @@ impl<'a, R: System> Surroundings for Live<'_, R, Session<'a, R::Started>> {
 
     ghost runs = { λ live. is_running live.session.work };
 
-    fn next_event(&mut self) -> Event
+    fn next_event(&mut self) -> ClientEvent
         ensures starts_none { is_running self.new.session.work ≡ true
             → is_running self.old.session.work ≡ true }
         ensures ended { (end : CommandEnd) → result ≡ Ended end
@@ -96,7 +96,7 @@ impl<'a, R: System> Surroundings for Live<'_, R, Session<'a, R::Started>> {
         self.session.wait_for_event(self.rt)
     }
 
-    fn act(&mut self, event: Event, deed: Deed)
+    fn act(&mut self, event: ClientEvent, deed: ClientDeed)
         ensures starts { deed ≢ Start
             → is_running self.new.session.work ≡ is_running self.old.session.work }
         // What is due then is set, and nothing else.
@@ -114,7 +114,7 @@ impl<'a, P: OpenProcess + Drop> Session<'a, P> {
     pub fn new<R: Env + Net + Files + Clock + AllocGlobal>(
         rt: &R,
         request: Request<'a>,
-        mut desk: Desk,
+        mut desk: DeskConnection,
     ) -> Result<Session<'a, P>, Notice<'a>>
         ensures node { IfOk result (λ s. s.node ≡ desk.node) }
         ensures course { IfOk result (λ s. s.course ≡ asked_course request.entry.limit) }
@@ -122,7 +122,7 @@ impl<'a, P: OpenProcess + Drop> Session<'a, P> {
         ensures why { IfErr result IsUnbegun }
     {
         let node = desk.node();
-        let Some(stopwatch) = Stopwatch::start(rt) else {
+        let Some(stopwatch) = MillisecondClock::start(rt) else {
             return Err(Notice::System);
         };
         let Ok(mark) = new_mark(rt) else {
@@ -139,8 +139,8 @@ impl<'a, P: OpenProcess + Drop> Session<'a, P> {
     fn waiting(
         request: Request<'a>,
         node: u16,
-        desk: Desk,
-        stopwatch: Stopwatch,
+        desk: DeskConnection,
+        stopwatch: MillisecondClock,
         mark: String,
         waiter: Waiter,
     ) -> Session<'a, P>
@@ -170,7 +170,7 @@ impl<'a, P: OpenProcess + Drop> Session<'a, P> {
     fn wait_for_event<R: Files + Processes + Clock + Input + Eprint + AllocGlobal + Wait>(
         &mut self,
         rt: &R,
-    ) -> Event
+    ) -> ClientEvent
         ensures starts_none { is_running self.new.work ≡ true → is_running self.old.work ≡ true }
         ensures ended { (end : CommandEnd) → result ≡ Ended end → is_running self.new.work ≡ false }
         ensures comes { Comes result self.old self.new }
@@ -202,7 +202,7 @@ impl<'a, P: OpenProcess + Drop> Session<'a, P> {
     }
 
     /// An event from the node or the guard.
-    fn from_others(&mut self) -> Option<Event>
+    fn from_others(&mut self) -> Option<ClientEvent>
         ensures work { self.new.work ≡ self.old.work }
         ensures ended { (end : CommandEnd) → result ≢ Some (Ended end) }
         ensures comes { IfSome result (λ event. Comes event self.old self.new) }
@@ -210,35 +210,35 @@ impl<'a, P: OpenProcess + Drop> Session<'a, P> {
     {
         if self.is_unserved {
             self.is_unserved = false;
-            return Some(Event::Unserved);
+            return Some(ClientEvent::Unserved);
         }
         match self.heard_from_node() {
-            Heard::Line(answer) => return Some(Event::Line(answer)),
-            Heard::Gone => {
+            DeskAnswer::Line(answer) => return Some(ClientEvent::Line(answer)),
+            DeskAnswer::Gone => {
                 self.desk = None;
                 self.has_failed = false;
                 self.course.note_closed();
-                return Some(Event::Gone);
+                return Some(ClientEvent::Gone);
             }
-            Heard::Nothing => {}
+            DeskAnswer::Nothing => {}
         }
         if self.has_lost_its_guard() {
             self.guard = None;
-            return Some(Event::GuardGone);
+            return Some(ClientEvent::GuardGone);
         }
         None
     }
 
     /// What the node says.
-    fn heard_from_node(&mut self) -> Heard
+    fn heard_from_node(&mut self) -> DeskAnswer
         ensures work { self.new.work ≡ self.old.work }
         ensures desk { result ≢ Nothing → is_some self.old.desk ≡ true }
         ensures stays { Stays self.old self.new }
     {
         match &mut self.desk {
-            Some(_) if self.has_failed => Heard::Gone,
+            Some(_) if self.has_failed => DeskAnswer::Gone,
             Some(desk) => desk.hear(),
-            None => Heard::Nothing,
+            None => DeskAnswer::Nothing,
         }
     }
 
@@ -255,7 +255,7 @@ impl<'a, P: OpenProcess + Drop> Session<'a, P> {
     }
 
     /// An event from the user, the command or the clock.
-    fn from_here<R: Files + Input + Eprint + AllocGlobal>(&mut self, rt: &R) -> Option<Event>
+    fn from_here<R: Files + Input + Eprint + AllocGlobal>(&mut self, rt: &R) -> Option<ClientEvent>
         ensures starts_none { is_running self.new.work ≡ true → is_running self.old.work ≡ true }
         ensures ended { (end : CommandEnd) → result ≡ Some (Ended end)
             → is_running self.new.work ≡ false }
@@ -267,10 +267,10 @@ impl<'a, P: OpenProcess + Drop> Session<'a, P> {
         }
         let has_input = self.waiter.takes_input();
         if let Some(end) = self.end_of_command(rt, has_input) {
-            return Some(Event::Ended(end));
+            return Some(ClientEvent::Ended(end));
         }
         if self.course.takes_time_up() {
-            Some(Event::TimeIsUp)
+            Some(ClientEvent::TimeIsUp)
         } else {
             None
         }
@@ -293,7 +293,7 @@ impl<'a, P: OpenProcess + Drop> Session<'a, P> {
     }
 
     /// The event of a signal: if there is no command, it ends the holding of the lock.
-    fn event_of_signal(&mut self, signal: Signal) -> Event
+    fn event_of_signal(&mut self, signal: Signal) -> ClientEvent
         ensures event { result ≡ signal_event self.old.work signal }
         ensures after { self.new.work ≡ after_signal self.old.work }
         ensures seen { self.new.seen ≡ self.old.seen }
@@ -303,9 +303,9 @@ impl<'a, P: OpenProcess + Drop> Session<'a, P> {
         match self.work {
             Work::Input => {
                 self.work = Work::None;
-                Event::Ended(CommandEnd::Killed(signal.number()))
+                ClientEvent::Ended(CommandEnd::Killed(signal.number()))
             }
-            _ => Event::Signal(signal),
+            _ => ClientEvent::Signal(signal),
         }
     }
 
@@ -345,27 +345,27 @@ impl<'a, P: OpenProcess + Drop> Session<'a, P> {
     /// Does this deed after this event.
     fn do_deed<
         R: Env + Net + Files + Processes<Started = P> + Clock + Print + Eprint + AllocGlobal,
-    >(&mut self, rt: &R, event: Event, deed: Deed)
+    >(&mut self, rt: &R, event: ClientEvent, deed: ClientDeed)
         ensures starts { deed ≢ Start → is_running self.new.work ≡ is_running self.old.work }
         ensures course { IsCourseAfter deed self.old.course self.new.course }
     {
         self.report_course(rt, event, deed);
         match deed {
-            Deed::Wait => {}
-            Deed::AskAgain => {
+            ClientDeed::Wait => {}
+            ClientDeed::AskAgain => {
                 thread::sleep(rt, Duration::from_millis(FULL_REST));
                 self.write_line(ClientLine::Lock);
             }
-            Deed::ConnectAgain => self.connect_again(rt),
-            Deed::Start => self.start_work(rt),
-            Deed::PassOn => self.work.pass_on(rt),
-            Deed::GiveBack => {
+            ClientDeed::ConnectAgain => self.connect_again(rt),
+            ClientDeed::Start => self.start_work(rt),
+            ClientDeed::PassOn => self.work.pass_on(rt),
+            ClientDeed::GiveBack => {
                 self.course.give_back();
                 self.write_line(ClientLine::Unlock);
             }
-            Deed::EndCommand => self.end_command(rt, event),
-            Deed::SayLost => self.report_loss(rt, event, Fate::RunsOn),
-            Deed::Finish(outcome) => self.report_end(rt, event, outcome),
+            ClientDeed::EndCommand => self.end_command(rt, event),
+            ClientDeed::SayLost => self.report_loss(rt, event, Fate::RunsOn),
+            ClientDeed::Finish(outcome) => self.report_end(rt, event, outcome),
         }
     }
 
@@ -521,7 +521,11 @@ impl<'a, P: OpenProcess + Drop> Session<'a, P> {
     }
 
     /// Asks the command to end, and sets the time to kill it.
-    fn end_command<R: Files + Processes + Eprint + AllocGlobal>(&mut self, rt: &R, event: Event)
+    fn end_command<R: Files + Processes + Eprint + AllocGlobal>(
+        &mut self,
+        rt: &R,
+        event: ClientEvent,
+    )
         ensures work { is_running self.new.work ≡ is_running self.old.work }
         ensures course { self.new.course ≡ asked_to_end self.old.course }
     {
@@ -532,7 +536,7 @@ impl<'a, P: OpenProcess + Drop> Session<'a, P> {
     }
 
     /// Reports that the lock is lost, by what happened, and what becomes of the command.
-    fn report_loss<R: Eprint>(&self, rt: &R, event: Event, fate: Fate) {
+    fn report_loss<R: Eprint>(&self, rt: &R, event: ClientEvent, fate: Fate) {
         let has_command = !self.request.command.is_empty();
         let command = if has_command { fate } else { Fate::NoCommand };
         let _ = rt.eprintln(NoticeLine(loss_notice(self.node, event, command)));
@@ -540,7 +544,7 @@ impl<'a, P: OpenProcess + Drop> Session<'a, P> {
 
     /// Reports why it ended like this, if the command does not show it and it was not reported
     /// before.
-    fn report_end<R: Eprint>(&self, rt: &R, event: Event, outcome: Outcome) {
+    fn report_end<R: Eprint>(&self, rt: &R, event: ClientEvent, outcome: Outcome) {
         if let Some(notice) = end_notice(self.node, self.waited_in_vain(), event, outcome) {
             let _ = rt.eprintln(NoticeLine(notice));
         }
@@ -562,7 +566,7 @@ impl<'a, P: OpenProcess + Drop> Session<'a, P> {
     }
 
     /// Reports how far the lock is, if it is verbose.
-    fn report_course<R: Eprint>(&self, rt: &R, event: Event, deed: Deed) {
+    fn report_course<R: Eprint>(&self, rt: &R, event: ClientEvent, deed: ClientDeed) {
         if self.request.is_verbose
             && let Some(notice) = course_notice(self.node, event, deed)
         {
@@ -582,7 +586,10 @@ impl<'a, P: OpenProcess + Drop> Session<'a, P> {
 }
 
 /// What waits for the lines of this desk.
-fn waiter_for<'a, R: Net + AllocGlobal>(rt: &R, desk: &mut Desk) -> Result<Waiter, Notice<'a>>
+fn waiter_for<'a, R: Net + AllocGlobal>(
+    rt: &R,
+    desk: &mut DeskConnection,
+) -> Result<Waiter, Notice<'a>>
     ensures { IfErr result IsUnbegun }
 {
     match Waiter::new(rt, rt.alloc(), desk.stream()) {

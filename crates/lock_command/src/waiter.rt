@@ -1,7 +1,7 @@
 //! Waiting for sockets and for standard input at once.
 ghost use Rattle.std.specs.Prelude.{◌≡◌, IfOk};
 ghost use Rattle.lock_command.specs.Watching.{has_input, IsWatched, IsTaken, IsAwaited};
-ghost use Rattle.lock_command.specs.declared.waiter.Watch.TheVariants.{Not};
+ghost use Rattle.lock_command.specs.declared.waiter.InputWatch.TheVariants.{Not};
 
 use mio::event::Source;
 use mio::net::UnixStream;
@@ -28,12 +28,12 @@ const GUARD: Token = Token(2);
 pub struct Waiter {
     poll: Poll,
     events: Events<Global>,
-    input: Watch,
+    input: InputWatch,
 }
 
 /// How standard input is watched.
 #[derive(Clone, Copy, Drop)]
-enum Watch {
+enum InputWatch {
     /// Not at all.
     Not,
     /// The system says when it has something to read.
@@ -44,15 +44,15 @@ enum Watch {
     Always,
 }
 
-impl Watch {
+impl InputWatch {
     /// How it is watched after the system was asked for that, and perhaps refused.
-    fn after(is_registered: bool) -> Watch
+    fn after(is_registered: bool) -> InputWatch
         ensures { IsWatched result }
     {
         if is_registered {
-            Watch::Waiting
+            InputWatch::Waiting
         } else {
-            Watch::Always
+            InputWatch::Always
         }
     }
 }
@@ -68,7 +68,7 @@ impl Waiter {
         let waiter = Waiter {
             poll: Poll::new(rt)?,
             events: Events::with_capacity(alloc, 4)?,
-            input: Watch::Not,
+            input: InputWatch::Not,
         };
         waiter.watch(desk)?;
         Ok(waiter)
@@ -107,9 +107,9 @@ impl Waiter {
         ensures after { IsTaken self.old.input self.new.input }
     {
         match self.input {
-            Watch::Not | Watch::Waiting => false,
-            Watch::Always => true,
-            Watch::Ready => {
+            InputWatch::Not | InputWatch::Waiting => false,
+            InputWatch::Always => true,
+            InputWatch::Ready => {
                 self.ask_for_input(false);
                 true
             }
@@ -128,7 +128,7 @@ impl Waiter {
         } else {
             registry.reregister(&mut input, STANDARD_INPUT, Interest::READABLE)
         };
-        self.input = Watch::after(registered.is_ok());
+        self.input = InputWatch::after(registered.is_ok());
     }
 
     /// Waits until something comes, for at most `millis` milliseconds.
@@ -136,7 +136,7 @@ impl Waiter {
         ensures { IsAwaited self.old.input self.new.input }
     {
         let rest = match self.input {
-            Watch::Always => 0,
+            InputWatch::Always => 0,
             _ => millis,
         };
         if self
@@ -146,13 +146,13 @@ impl Waiter {
         {
             return;
         }
-        if self.input == Watch::Waiting
+        if self.input == InputWatch::Waiting
             && self
                 .events
                 .iter()
                 .any(|event| event.token() == STANDARD_INPUT)
         {
-            self.input = Watch::Ready;
+            self.input = InputWatch::Ready;
         }
     }
 }

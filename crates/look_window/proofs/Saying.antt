@@ -1,6 +1,6 @@
 -- What is shown begins with what the status line says.
 use Rattle.std.proofs.Common.{◌≡◌, ◌++◌, ℕ, List, codes, append_assoc}
-use Rattle.turn_watch.specs.declared.notes.Notes.{Notes}
+use Rattle.turn_watch.specs.declared.notes.TurnNotes.{TurnNotes}
 use Rattle.node_core.specs.Site.{Site}
 use Rattle.node_core.specs.State.{LocalState}
 use Rattle.node_texts.specs.declared.look_parts.ProcessPart.{ProcessPart}
@@ -9,7 +9,7 @@ use Rattle.look_window.specs.NodeStatus.{NodesWriteTheirLines, line_of}
 use Rattle.look_window.specs.Laws.{LooksSayTheStatus}
 
 -- what stands after the status line's values
-abbrev after-status : Site → Notes → ProcessPart → List ℕ → ℕ → List ℕ
+abbrev after-status : Site → TurnNotes → ProcessPart → List ℕ → ℕ → List ℕ
 after-status site notes process version now =
     (codes ",\"links\":[" ++ (links_text (link_parts notes.links now site.neighbours) ++ codes "]"))
     ++ (rest_text (loan_part notes.loans now) (turn_part notes.turns notes.limit now) process version

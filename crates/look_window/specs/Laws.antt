@@ -1,6 +1,6 @@
 -- What is shown is what the node's status line says, and what is counted are moves.
 use Rattle.std.specs.Prelude.{◌≡◌, ◌++◌, ◌<◌, ◌&&◌, ℕ, Bool, List, codes, Some, is_none}
-use Rattle.turn_watch.specs.declared.notes.Notes.{Notes}
+use Rattle.turn_watch.specs.declared.notes.TurnNotes.{TurnNotes}
 use Rattle.turn_watch.specs.Rounds.{has_moved}
 use Rattle.node_core.specs.Site.{Site}
 use Rattle.node_core.specs.State.{LocalState}
@@ -18,7 +18,7 @@ use Rattle.look_window.specs.NodeLook.{node_look}
 -- the line for whoever looks begins with the values of the status line that the node would write then
 abbrev pub LooksSayTheStatus : Type 0
 LooksSayTheStatus =
-    (site : Site) (s : LocalState) (notes : Notes) (process : ProcessPart) (version : List ℕ) (now : ℕ)
+    (site : Site) (s : LocalState) (notes : TurnNotes) (process : ProcessPart) (version : List ℕ) (now : ℕ)
     → (line : StatusLine) × (rest : List ℕ)
     × (status_line site s ≡ status_text line ++ codes "\n")
     × (node_look site s notes process version now ≡ codes "{" ++ (status_part line ++ rest))

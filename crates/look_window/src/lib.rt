@@ -4,7 +4,7 @@
 //! read from them.
 //!
 //! ```
-//! let mut window = Window::open(rt, USUAL_LIMIT, "0.1.0", now);
+//! let mut window = LookNotes::open(rt, USUAL_LIMIT, "0.1.0", now);
 //! window.turn_ended(&node, ports, net.nodes(), has_granted, now);  // after each turn
 //! let line = window.line(alloc, &node, now)?;                      // the node's own line, as it stands now
 //! for place in 0..COMERS {
@@ -30,4 +30,4 @@ mod window;
 
 pub use lookers::{COMERS, LOOKERS, is_let_in, show};
 pub use turn_watch::USUAL_LIMIT;
-pub use window::Window;
+pub use window::LookNotes;

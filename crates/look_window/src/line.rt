@@ -5,9 +5,9 @@ ghost use Rattle.look_window.specs.NodeLook.{node_look};
 ghost use Rattle.look_window.specs.NodeStatus.{line_of};
 
 use node_core::Node;
-use node_texts::{LoanPart, Look, ProcessPart, StatusLine, TurnPart, link_parts, look_line};
+use node_texts::{LoanPart, LookAnswer, ProcessPart, StatusLine, TurnPart, link_parts, look_line};
 use std::alloc::{AllocError, Allocator, Global};
-use turn_watch::Notes;
+use turn_watch::TurnNotes;
 
 /// What a node says of its process.
 #[derive(Clone, Copy)]
@@ -26,7 +26,7 @@ pub struct ProcessSaid<'a> {
 pub fn line_of_node<A: Allocator>(
     alloc: Global,
     node: &Node<A>,
-    notes: &Notes,
+    notes: &TurnNotes,
     said: &ProcessSaid<'_>,
     now: u64,
 ) -> Result<String, AllocError>
@@ -35,7 +35,7 @@ pub fn line_of_node<A: Allocator>(
     ensures some { IfOk result (λ line. 0 < length (string_bytes line)) }
 {
     let links = link_parts(alloc, node.neighbours(), notes, now)?;
-    let look = Look {
+    let look = LookAnswer {
         status: status_of(node),
         links: links.as_slice(),
         loans: LoanPart::of(notes.loans(), now),

@@ -23,23 +23,23 @@ use std::fs;
 use std::path::AsPath;
 use std::rt::{Clock, Files};
 use std::time::{SystemTime, UNIX_EPOCH};
-use turn_watch::{DeskSight, Notes};
+use turn_watch::{DeskSight, TurnNotes};
 
 /// What a node noted of itself, and what it says of its process.
 #[derive(Drop)]
-pub struct Window<'a> {
-    notes: Notes,
+pub struct LookNotes<'a> {
+    notes: TurnNotes,
     said: ProcessSaid<'a>,
 }
 
-impl<'a> Window<'a> {
+impl<'a> LookNotes<'a> {
     /// Notes begin at this time. Turns are late after `limit` microseconds.
     pub fn open<R: Files + Clock + AllocGlobal>(
         rt: &R,
         limit: u64,
         version: &'a str,
         now: u64,
-    ) -> Window<'a>
+    ) -> LookNotes<'a>
         ensures notes { (result.notes.turns ≡ begun now) × (result.notes.loans ≡ no_loans)
             × (result.notes.rounds ≡ no_rounds)
             × (result.notes.links ≡ replicate 64 (down_since now))
@@ -50,8 +50,8 @@ impl<'a> Window<'a> {
             id: own_process(rt),
             start: millis_now(rt),
         };
-        Window {
-            notes: Notes::begin(now, limit),
+        LookNotes {
+            notes: TurnNotes::begin(now, limit),
             said: ProcessSaid { process, version },
         }
     }

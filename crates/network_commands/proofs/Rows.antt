@@ -14,7 +14,7 @@ use Rattle.network_kinds.specs.Made.{values_for}
 use Rattle.network_kinds.specs.declared.kind.Kind.TheVariants.{Line}
 use Rattle.recovery_times.specs.Times.{usual}
 use Rattle.command_faults.specs.declared.fault.Fault.TheVariants.{Closed, Memory, Network as NetworkRefused, NoNode}
-use Rattle.network_commands.specs.declared.network.Wanted.{Wanted}
+use Rattle.network_commands.specs.declared.network.WantedNetwork.{WantedNetwork}
 use Rattle.network_commands.specs.Bound.{bound_text, nodes_line, parent_word, shown_text, timed_text}
 use Rattle.network_commands.specs.BoundData.{bound_data, count}
 use Rattle.network_commands.specs.Faults.{IsUnprinted}
@@ -90,7 +90,7 @@ bound_not-sharp e = let sizes : 8 ≡ 9 = ap size_of e in omega (arith, sizes)
 
 -- ---- `network`
 
-abbrev wanted : Wanted
+abbrev wanted : WantedNetwork
 wanted = record { kind = Line; nodes = 2; root = 0; capacity = 1; lease = 0 }
 
 accepted : IsAccepted (values_for Line 2 0 1 0) two_nodes

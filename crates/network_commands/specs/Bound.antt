@@ -7,8 +7,8 @@ use Rattle.topology.specs.Tree.{distance_of, parent_of}
 use Rattle.topology.specs.Eccentricity.{sharp_of}
 use Rattle.recovery_times.specs.declared.premises.Premises.{Premises}
 use Rattle.recovery_times.specs.Text.{times_text}
-use Rattle.network_commands.specs.declared.bound.Column.{Column}
-use Rattle.network_commands.specs.declared.bound.Column.TheVariants.{Distances, Parents}
+use Rattle.network_commands.specs.declared.bound.NodeColumn.{NodeColumn}
+use Rattle.network_commands.specs.declared.bound.NodeColumn.TheVariants.{Distances, Parents}
 
 -- a line of a word and a number
 abbrev pub number_line : List ℕ → ℕ → List ℕ
@@ -29,7 +29,7 @@ parent_word None = codes "none"
 parent_word (Some parent) = decimal parent
 
 -- what a column says of a node
-abbrev pub column_word : Column → Network → ℕ → List ℕ
+abbrev pub column_word : NodeColumn → Network → ℕ → List ℕ
 column_word Distances net v = decimal (distance_of net v)
 column_word Parents net v = parent_word (parent_of net v)
 

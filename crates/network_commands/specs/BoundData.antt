@@ -9,8 +9,8 @@ use Rattle.topology.specs.Tree.{distance_of, parent_of}
 use Rattle.topology.specs.Eccentricity.{sharp_of}
 use Rattle.recovery_times.specs.declared.premises.Premises.{Premises}
 use Rattle.recovery_times.specs.Times.{window_of, recovery_of, lending_of, millis_up}
-use Rattle.network_commands.specs.declared.bound.Column.{Column}
-use Rattle.network_commands.specs.declared.bound.Column.TheVariants.{Distances, Parents}
+use Rattle.network_commands.specs.declared.bound.NodeColumn.{NodeColumn}
+use Rattle.network_commands.specs.declared.bound.NodeColumn.TheVariants.{Distances, Parents}
 
 abbrev pub count : ℕ → Data
 count n = number (unsigned n)
@@ -21,12 +21,12 @@ or_null None = null
 or_null (Some id) = count id
 
 -- what a column says of a node
-abbrev pub column_value : Column → Network → ℕ → Data
+abbrev pub column_value : NodeColumn → Network → ℕ → Data
 column_value Distances net v = count (distance_of net v)
 column_value Parents net v = or_null (parent_of net v)
 
 -- and of the first nodes, by ascending id
-abbrev pub column_data : Column → Network → ℕ → List Data
+abbrev pub column_data : NodeColumn → Network → ℕ → List Data
 column_data column net nodes = map (column_value column net) (range_with_len 0 nodes)
 
 -- the numbers of the first five lines, added to other members

@@ -82,8 +82,8 @@ pub fn bound_text(alloc: Global, net: &Net) -> Result<String, AllocError>
     push_number(&mut text, "capacity", u32::from(net.capacity()))?;
     push_number(&mut text, "counter", u32::from(net.counter()))?;
     push_number(&mut text, "ring", u32::from(net.ring()))?;
-    push_column(&mut text, "distances", net, Column::Distances)?;
-    push_column(&mut text, "parents", net, Column::Parents)?;
+    push_column(&mut text, "distances", net, NodeColumn::Distances)?;
+    push_column(&mut text, "parents", net, NodeColumn::Parents)?;
     push_number(&mut text, "sweeps", net.bound())?;
     Ok(text)
 }
@@ -98,7 +98,7 @@ pub fn push_number(text: &mut String, word: &str, number: u32) -> Result<(), All
 
 /// What is said of each node.
 #[derive(Clone, Copy)]
-pub(crate) enum Column {
+pub(crate) enum NodeColumn {
     /// Its distance.
     Distances,
     /// Its true parent.
@@ -106,7 +106,12 @@ pub(crate) enum Column {
 }
 
 /// Adds a line of a word, and of what a column says of each node.
-fn push_column(text: &mut String, word: &str, net: &Net, column: Column) -> Result<(), AllocError>
+fn push_column(
+    text: &mut String,
+    word: &str,
+    net: &Net,
+    column: NodeColumn,
+) -> Result<(), AllocError>
     ensures { OnOk result (string_bytes text.new
         ≡ string_bytes text.old ++ nodes_line word.now net.now.nodes (column_word column net.now)) }
 {
@@ -118,14 +123,14 @@ fn push_column(text: &mut String, word: &str, net: &Net, column: Column) -> Resu
 }
 
 /// Adds a space, and what a column says of a node.
-fn push_word(text: &mut String, net: &Net, column: Column, v: u16) -> Result<(), AllocError>
+fn push_word(text: &mut String, net: &Net, column: NodeColumn, v: u16) -> Result<(), AllocError>
     requires { v < net.now.nodes }
     ensures { OnOk result (string_bytes text.new
         ≡ string_bytes text.old ++ (codes " " ++ column_word column net.now v)) }
 {
     match column {
-        Column::Distances => write!(text, " {}", net.distance(v)),
-        Column::Parents => push_parent(text, net.parent(v)),
+        NodeColumn::Distances => write!(text, " {}", net.distance(v)),
+        NodeColumn::Parents => push_parent(text, net.parent(v)),
     }
 }
 

@@ -9,7 +9,7 @@ ghost use Rattle.network_commands.specs.BoundData.{bound_data, bound_members, sh
 ghost use Rattle.network_commands.specs.BoundData.{time_members, or_null, column_data, column_value};
 ghost use Rattle.network_commands.specs.Faults.{IsUnprinted};
 
-use crate::bound::{Column, done};
+use crate::bound::{NodeColumn, done};
 use command_faults::{Fault, printed, read_network};
 use recovery_times::{Premises, millis_up};
 use serde_json::{Map, Value, push, put};
@@ -80,9 +80,14 @@ fn put_bound(map: &mut Map<String, Value>, alloc: Global, net: &Net) -> Result<(
         map,
         alloc,
         "distances",
-        list_of(alloc, net, Column::Distances)?,
+        list_of(alloc, net, NodeColumn::Distances)?,
     )?;
-    put(map, alloc, "parents", list_of(alloc, net, Column::Parents)?)?;
+    put(
+        map,
+        alloc,
+        "parents",
+        list_of(alloc, net, NodeColumn::Parents)?,
+    )?;
     put(map, alloc, "sweeps", Value::from(net.bound()))
 }
 
@@ -136,7 +141,7 @@ fn put_times(
 }
 
 /// What a column says of all nodes, by ascending id.
-fn list_of(alloc: Global, net: &Net, column: Column) -> Result<Value, AllocError>
+fn list_of(alloc: Global, net: &Net, column: NodeColumn) -> Result<Value, AllocError>
     ensures { IfOk result (λ value. view value ≡ array (items_of (column_data column net.now net.now.nodes))) }
 {
     let mut list = Vec::new(alloc);
@@ -145,7 +150,7 @@ fn list_of(alloc: Global, net: &Net, column: Column) -> Result<Value, AllocError
 }
 
 /// Adds that to an empty list.
-fn push_column(list: &mut Vec<Value>, net: &Net, column: Column) -> Result<(), AllocError>
+fn push_column(list: &mut Vec<Value>, net: &Net, column: NodeColumn) -> Result<(), AllocError>
     requires { list.old.items ≡ [] }
     ensures { OnOk result (map view list.new.items ≡ column_data column net.now net.now.nodes) }
 {
@@ -156,13 +161,13 @@ fn push_column(list: &mut Vec<Value>, net: &Net, column: Column) -> Result<(), A
 }
 
 /// What a column says of a node.
-fn column_value(net: &Net, column: Column, v: u16) -> Value
+fn column_value(net: &Net, column: NodeColumn, v: u16) -> Value
     requires { v < net.now.nodes }
     ensures { view result ≡ column_value column net.now v }
 {
     match column {
-        Column::Distances => Value::from(net.distance(v)),
-        Column::Parents => or_null(net.parent(v)),
+        NodeColumn::Distances => Value::from(net.distance(v)),
+        NodeColumn::Parents => or_null(net.parent(v)),
     }
 }
 

@@ -16,7 +16,7 @@ use topology::Net;
 
 /// The network to make.
 #[derive(Clone, Copy)]
-pub struct Wanted {
+pub struct WantedNetwork {
     /// Its kind.
     pub kind: Kind,
     /// How many nodes it has.
@@ -33,7 +33,10 @@ pub struct Wanted {
 ///
 /// # Errors
 /// If there is no such network, memory runs out, or standard output fails.
-pub fn run<R: Print + Eprint + AllocGlobal>(rt: &R, wanted: Wanted) -> Result<ExitCode, Fault>
+pub fn run<R: Print + Eprint + AllocGlobal>(
+    rt: &R,
+    wanted: WantedNetwork,
+) -> Result<ExitCode, Fault>
     ensures ok { DoneMeansZero result }
     ensures err { IfErr result (λ fault. IsUnnamed wanted fault ⊎ IsUntaken fault) }
 {
@@ -46,7 +49,7 @@ pub fn run<R: Print + Eprint + AllocGlobal>(rt: &R, wanted: Wanted) -> Result<Ex
 /// # Errors
 /// If there is no such network, with the first fault of its numbers and edges; or if memory runs out.
 #[tactic(auto, using(crate::proofs::Naming::named_if, crate::proofs::Naming::unnamed_if))]
-pub fn named_text(alloc: Global, wanted: Wanted) -> Result<String, Fault>
+pub fn named_text(alloc: Global, wanted: WantedNetwork) -> Result<String, Fault>
     // It reads as the network with these numbers and exactly the edges of the kind.
     ensures text { IfOk result (λ text. IsTextOf wanted (string_bytes text)) }
     ensures err { IfErr result (IsUnnamed wanted) }

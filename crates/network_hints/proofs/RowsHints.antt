@@ -1,7 +1,7 @@
 -- Small examples of what is said of a network file, and some with nothing to say.
 use Rattle.std.proofs.Common.{◌≡◌, pos, [], ◌∷◌, Some, None, codes, refl}
 use Rattle.network_hints.specs.declared.key.Key.TheVariants.{Lease, Capacity}
-use Rattle.network_hints.specs.declared.flaw.Flaw.TheVariants.{NoKey, OutOfRange, NoNode, Loop, Twice}
+use Rattle.network_hints.specs.declared.flaw.ValueFlaw.TheVariants.{NoKey, OutOfRange, NoNode, Loop, Twice}
 use Rattle.network_hints.specs.HintText.{flaw_text}
 use Rattle.network_hints.specs.Values.{range_flaw, edge_flaw}
 use Rattle.network_hints.specs.Places.{place_after}

@@ -3,16 +3,16 @@ use Rattle.std.specs.Prelude.{ℕ, ℤ, List, ◌++◌, Option, Some, None, code
 use Rattle.std.specs.Fmt.{signed_decimal}
 use Rattle.std.specs.Borrow.{Bor}
 use Rattle.network_hints.specs.Keys.{key_name}
-use Rattle.network_hints.specs.declared.flaw.Flaw.{Flaw}
-use Rattle.network_hints.specs.declared.flaw.Flaw.TheVariants.{NoKey, NoInteger, NoArray, NoEdge, OutOfRange}
-use Rattle.network_hints.specs.declared.flaw.Flaw.TheVariants.{TooMany, NoRoot, NoNode, Loop, Twice}
+use Rattle.network_hints.specs.declared.flaw.ValueFlaw.{ValueFlaw}
+use Rattle.network_hints.specs.declared.flaw.ValueFlaw.TheVariants.{NoKey, NoInteger, NoArray, NoEdge, OutOfRange}
+use Rattle.network_hints.specs.declared.flaw.ValueFlaw.TheVariants.{TooMany, NoRoot, NoNode, Loop, Twice}
 
 -- that it is none of so many nodes
 abbrev pub none_of_text : ℤ → List ℕ
 none_of_text nodes = codes " is none of " ++ (signed_decimal nodes ++ codes " nodes")
 
 -- which key or edge it is, and what it must be
-abbrev pub flaw_text : Flaw → List ℕ
+abbrev pub flaw_text : ValueFlaw → List ℕ
 flaw_text (NoKey key) = codes "no key '" ++ (key_name key ++ codes "'")
 flaw_text (NoInteger key) = codes "key '" ++ (key_name key ++ codes "': must be an integer")
 flaw_text NoArray = codes "key 'edges': must be an array of edges, as [[0, 1], [1, 2]]"
@@ -34,7 +34,7 @@ flaw_text (Twice one other) =
     ++ codes "] is there twice")))
 
 -- the file, what is wrong, and the unknown key that is like the missing one
-abbrev pub hint_text : List ℕ → Flaw → Option (Bor (List ℕ)) → List ℕ
+abbrev pub hint_text : List ℕ → ValueFlaw → Option (Bor (List ℕ)) → List ℕ
 hint_text file flaw None = file ++ (codes ": " ++ flaw_text flaw)
 hint_text file flaw (Some like) =
     file ++ (codes ": " ++ (flaw_text flaw ++ (codes "; it has an unknown key '" ++ (like.now ++ codes "'"))))

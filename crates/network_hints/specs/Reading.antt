@@ -5,8 +5,8 @@ use Rattle.network_hints.specs.Keys.{key_name}
 use Rattle.network_hints.specs.Values.{FileValues, value_flaw}
 use Rattle.network_hints.specs.declared.key.Key.{Key}
 use Rattle.network_hints.specs.declared.key.Key.TheVariants.{Nodes, Root, Capacity, Lease, Edges}
-use Rattle.network_hints.specs.declared.flaw.Flaw.{Flaw}
-use Rattle.network_hints.specs.declared.flaw.Flaw.TheVariants.{NoKey, NoInteger, NoArray, NoEdge}
+use Rattle.network_hints.specs.declared.flaw.ValueFlaw.{ValueFlaw}
+use Rattle.network_hints.specs.declared.flaw.ValueFlaw.TheVariants.{NoKey, NoInteger, NoArray, NoEdge}
 
 -- a value changed so, or the same error
 abbrev pub mapped : {X Y E : Type 0} → (X → Y) → Result X E → Result Y E
@@ -28,12 +28,12 @@ missing ms =
     else None
 
 -- a value, or else a flaw
-abbrev pub or_flaw : {X : Type 0} → Flaw → Option X → Result X Flaw
+abbrev pub or_flaw : {X : Type 0} → ValueFlaw → Option X → Result X ValueFlaw
 or_flaw flaw None = Err flaw
 or_flaw flaw (Some x) = Ok x
 
 -- the integer at a key
-abbrev pub integer_of : Key → Members → Result ℤ Flaw
+abbrev pub integer_of : Key → Members → Result ℤ ValueFlaw
 integer_of key ms = or_flaw (NoInteger key) (option_and_then as_integer (get_member (key_name key) ms))
 
 -- an edge is an array of exactly two integers
@@ -57,38 +57,38 @@ ends_in n no_items = Ok []
 ends_in n (item d ds) = and_more (ends_of d) n (ends_in (n + 1) ds)
 
 -- what follows if there is a value
-abbrev pub and_then : {X Y : Type 0} → (X → Result Y Flaw) → Result X Flaw → Result Y Flaw
+abbrev pub and_then : {X Y : Type 0} → (X → Result Y ValueFlaw) → Result X ValueFlaw → Result Y ValueFlaw
 and_then f (Ok x) = f x
 and_then f (Err flaw) = Err flaw
 
 -- that flaw of the edges
-abbrev pub or_place : Result (List (ℤ × ℤ)) ℕ → Result (List (ℤ × ℤ)) Flaw
+abbrev pub or_place : Result (List (ℤ × ℤ)) ℕ → Result (List (ℤ × ℤ)) ValueFlaw
 or_place (Ok edges) = Ok edges
 or_place (Err place) = Err (NoEdge place)
 
 -- the edges
-abbrev pub edges_of : Members → Result (List (ℤ × ℤ)) Flaw
+abbrev pub edges_of : Members → Result (List (ℤ × ℤ)) ValueFlaw
 edges_of ms =
     and_then (λ items. or_place (ends_in 0 items))
     (or_flaw NoArray (option_and_then as_array (get_member (key_name Edges) ms)))
 
 -- the values of the five keys, or the first of the wrong shape
-abbrev pub values_of : Members → Result FileValues Flaw
+abbrev pub values_of : Members → Result FileValues ValueFlaw
 values_of ms =
     and_then (λ nodes. and_then (λ root. and_then (λ capacity. and_then (λ lease. and_then (λ edges.
     Ok (record { nodes = nodes; root = root; capacity = capacity; lease = lease; edges = edges }))
     (edges_of ms)) (integer_of Lease ms)) (integer_of Capacity ms)) (integer_of Root ms)) (integer_of Nodes ms)
 
 -- the first flaw of the values, or the one for which there are none
-abbrev pub flaw_in : Result FileValues Flaw → Option Flaw
+abbrev pub flaw_in : Result FileValues ValueFlaw → Option ValueFlaw
 flaw_in (Ok values) = value_flaw values
 flaw_in (Err flaw) = Some flaw
 
 -- a missing key, or else another flaw
-abbrev pub key_or : Option Key → Option Flaw → Option Flaw
+abbrev pub key_or : Option Key → Option ValueFlaw → Option ValueFlaw
 key_or (Some key) other = Some (NoKey key)
 key_or None other = other
 
 -- the first flaw of a table
-abbrev pub table_flaw : Members → Option Flaw
+abbrev pub table_flaw : Members → Option ValueFlaw
 table_flaw ms = key_or (missing ms) (flaw_in (values_of ms))

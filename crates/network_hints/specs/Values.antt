@@ -4,8 +4,8 @@ use Rattle.std.specs.List.{find, list_any}
 use Rattle.std.specs.Ordering.{int_eq}
 use Rattle.network_hints.specs.declared.key.Key.{Key}
 use Rattle.network_hints.specs.declared.key.Key.TheVariants.{Nodes, Capacity, Lease}
-use Rattle.network_hints.specs.declared.flaw.Flaw.{Flaw}
-use Rattle.network_hints.specs.declared.flaw.Flaw.TheVariants.{OutOfRange, TooMany, NoRoot, NoNode, Loop, Twice}
+use Rattle.network_hints.specs.declared.flaw.ValueFlaw.{ValueFlaw}
+use Rattle.network_hints.specs.declared.flaw.ValueFlaw.TheVariants.{OutOfRange, TooMany, NoRoot, NoNode, Loop, Twice}
 
 -- the values of the five keys
 pub record FileValues : Type 0 where
@@ -16,21 +16,21 @@ pub record FileValues : Type 0 where
   pub edges : List (ℤ × ℤ)
 
 -- a value that must be in a range, and is not
-abbrev pub range_flaw : Key → ℤ → ℤ → ℤ → Option Flaw
+abbrev pub range_flaw : Key → ℤ → ℤ → ℤ → Option ValueFlaw
 range_flaw key value least most =
     if int_lt value least || int_lt most value then Some (OutOfRange key value least most) else None
 
 -- a root that is none of n nodes
-abbrev pub root_flaw : ℤ → ℤ → Option Flaw
+abbrev pub root_flaw : ℤ → ℤ → Option ValueFlaw
 root_flaw root n = if int_lt root (pos 0) || int_le n root then Some (NoRoot root n) else None
 
 -- the first flaw, or else the second
-abbrev pub flaw_or : Option Flaw → Option Flaw → Option Flaw
+abbrev pub flaw_or : Option ValueFlaw → Option ValueFlaw → Option ValueFlaw
 flaw_or None other = other
 flaw_or (Some flaw) other = Some flaw
 
 -- the first number that is out of its range, between nodes and root the number of edges
-abbrev pub number_flaw : FileValues → Option Flaw
+abbrev pub number_flaw : FileValues → Option ValueFlaw
 number_flaw v =
     flaw_or (range_flaw Nodes v.nodes (pos 2) (pos 64))
     (if nat_lt 256 (length v.edges) then Some (TooMany (length v.edges)) else
@@ -57,12 +57,12 @@ first_twice [] = None
 first_twice (e ∷ es) = if list_any (is_twice e) es then Some e else first_twice es
 
 -- the first edge that names no node; else the first loop; else the first that stands twice
-abbrev pub edge_flaw : ℤ → List (ℤ × ℤ) → Option Flaw
+abbrev pub edge_flaw : ℤ → List (ℤ × ℤ) → Option ValueFlaw
 edge_flaw n edges =
     flaw_or (option_map (λ e. NoNode e.0 e.1 n) (find (has_bad_end n) edges))
     (flaw_or (option_map (λ e. Loop e.0) (find is_loop edges))
     (option_map (λ e. Twice e.0 e.1) (first_twice edges)))
 
 -- the first flaw of all
-abbrev pub value_flaw : FileValues → Option Flaw
+abbrev pub value_flaw : FileValues → Option ValueFlaw
 value_flaw v = flaw_or (number_flaw v) (edge_flaw v.nodes v.edges)

@@ -7,7 +7,7 @@ use std::fmt;
 
 /// What is wrong with the values of a network file.
 #[derive(Clone, Copy)]
-pub enum Flaw {
+pub enum ValueFlaw {
     /// There is no such key.
     NoKey(Key),
     /// The value is no integer.
@@ -30,42 +30,42 @@ pub enum Flaw {
     Twice(i64, i64),
 }
 
-impl fmt::Display for Flaw {
+impl fmt::Display for ValueFlaw {
     ghost output = { λ flaw. Some (flaw_text flaw) };
 
     fn fmt<W: fmt::Write>(&self, f: &mut fmt::Formatter<W>) -> fmt::Result {
         match *self {
-            Flaw::NoKey(key) => write!(f, "no key '{}'", key.name()),
-            Flaw::NoInteger(key) => write!(f, "key '{}': must be an integer", key.name()),
-            Flaw::NoArray => {
+            ValueFlaw::NoKey(key) => write!(f, "no key '{}'", key.name()),
+            ValueFlaw::NoInteger(key) => write!(f, "key '{}': must be an integer", key.name()),
+            ValueFlaw::NoArray => {
                 f.write_str("key 'edges': must be an array of edges, as [[0, 1], [1, 2]]")
             }
-            Flaw::NoEdge(place) => {
+            ValueFlaw::NoEdge(place) => {
                 write!(
                     f,
                     "key 'edges': edge {place} must be two integers, as [0, 1]"
                 )
             }
-            Flaw::OutOfRange(key, value, least, most) => write!(
+            ValueFlaw::OutOfRange(key, value, least, most) => write!(
                 f,
                 "key '{}': {value} must be an integer from {least} to {most}",
                 key.name()
             ),
-            Flaw::TooMany(count) => write!(f, "key 'edges': {count} edges are more than 256"),
-            Flaw::NoRoot(root, nodes) => {
+            ValueFlaw::TooMany(count) => write!(f, "key 'edges': {count} edges are more than 256"),
+            ValueFlaw::NoRoot(root, nodes) => {
                 f.write_str("key 'root': ")?;
                 f.write(root)?;
                 f.write(NoneOf(nodes))
             }
-            Flaw::NoNode(one, other, nodes) => write!(
+            ValueFlaw::NoNode(one, other, nodes) => write!(
                 f,
                 "key 'edges': in edge [{one}, {other}] one is none of {nodes} nodes"
             ),
-            Flaw::Loop(node) => write!(
+            ValueFlaw::Loop(node) => write!(
                 f,
                 "key 'edges': edge [{node}, {node}] joins a node with itself"
             ),
-            Flaw::Twice(one, other) => {
+            ValueFlaw::Twice(one, other) => {
                 write!(f, "key 'edges': edge [{one}, {other}] is there twice")
             }
         }
@@ -90,7 +90,7 @@ pub struct Hint<'a> {
     /// The network file.
     pub file: &'a str,
     /// What is wrong.
-    pub flaw: Flaw,
+    pub flaw: ValueFlaw,
     /// The unknown key.
     pub like: Option<&'a str>,
 }

@@ -19,6 +19,6 @@ mod reading;
 mod text;
 mod values;
 
-pub use flaw::{Flaw, Hint};
+pub use flaw::{Hint, ValueFlaw};
 pub use key::Key;
 pub use text::hint;

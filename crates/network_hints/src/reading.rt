@@ -6,7 +6,7 @@ ghost use Rattle.network_hints.specs.Reading.{has_key, missing, integer_of, two_
 ghost use Rattle.network_hints.specs.Reading.{ends_in, edges_of, mapped, values_of, table_flaw};
 ghost use Rattle.network_hints.specs.ValuesView.{values_view};
 
-use crate::flaw::Flaw;
+use crate::flaw::ValueFlaw;
 use crate::key::Key;
 use crate::values::{Values, value_flaw};
 use std::alloc::{AllocError, Global};
@@ -45,15 +45,15 @@ pub fn missing(table: &Table) -> Option<Key>
 }
 
 /// The integer at a key.
-fn integer_of(table: &Table, key: Key) -> Result<i64, Flaw>
+fn integer_of(table: &Table, key: Key) -> Result<i64, ValueFlaw>
     ensures { result ≡ integer_of key (table_view table.now) }
 {
     let Some(value) = value_at(table, key.name()) else {
-        return Err(Flaw::NoInteger(key));
+        return Err(ValueFlaw::NoInteger(key));
     };
     match value.as_integer() {
         Some(integer) => Ok(integer),
-        None => Err(Flaw::NoInteger(key)),
+        None => Err(ValueFlaw::NoInteger(key)),
     }
 }
 
@@ -97,7 +97,7 @@ fn ends_in(alloc: Global, values: &[Value]) -> Result<Result<Vec<(i64, i64)>, us
 }
 
 /// The edges of a table.
-fn edges_of(alloc: Global, table: &Table) -> Result<Result<Vec<(i64, i64)>, Flaw>, AllocError>
+fn edges_of(alloc: Global, table: &Table) -> Result<Result<Vec<(i64, i64)>, ValueFlaw>, AllocError>
     ensures { IfOk result (λ r. mapped (λ es. es.items) r ≡ edges_of (table_view table.now)) }
 {
     let array = match value_at(table, Key::Edges.name()) {
@@ -105,16 +105,16 @@ fn edges_of(alloc: Global, table: &Table) -> Result<Result<Vec<(i64, i64)>, Flaw
         None => None,
     };
     let Some(array) = array else {
-        return Ok(Err(Flaw::NoArray));
+        return Ok(Err(ValueFlaw::NoArray));
     };
     match ends_in(alloc, array.as_slice())? {
         Ok(edges) => Ok(Ok(edges)),
-        Err(place) => Ok(Err(Flaw::NoEdge(place))),
+        Err(place) => Ok(Err(ValueFlaw::NoEdge(place))),
     }
 }
 
 /// The values of a table, or the first of the wrong shape.
-fn values_of(alloc: Global, table: &Table) -> Result<Result<Values, Flaw>, AllocError>
+fn values_of(alloc: Global, table: &Table) -> Result<Result<Values, ValueFlaw>, AllocError>
     ensures { IfOk result (λ r. mapped values_view r ≡ values_of (table_view table.now)) }
 {
     let nodes = match integer_of(table, Key::Nodes) {
@@ -146,11 +146,11 @@ fn values_of(alloc: Global, table: &Table) -> Result<Result<Values, Flaw>, Alloc
 }
 
 /// The first flaw of a table.
-pub fn table_flaw(alloc: Global, table: &Table) -> Result<Option<Flaw>, AllocError>
+pub fn table_flaw(alloc: Global, table: &Table) -> Result<Option<ValueFlaw>, AllocError>
     ensures { IfOk result (λ flaw. flaw ≡ table_flaw (table_view table.now)) }
 {
     if let Some(key) = missing(table) {
-        return Ok(Some(Flaw::NoKey(key)));
+        return Ok(Some(ValueFlaw::NoKey(key)));
     }
     match values_of(alloc, table)? {
         Ok(values) => Ok(value_flaw(&values)),

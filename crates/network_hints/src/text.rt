@@ -2,7 +2,7 @@
 ghost use Rattle.std.specs.Prelude.{◌≡◌};
 ghost use Rattle.network_hints.specs.Places.{place_after, step};
 
-use crate::flaw::{Flaw, Hint};
+use crate::flaw::{Hint, ValueFlaw};
 use crate::likeness::like;
 use crate::reading::table_flaw;
 use std::alloc::{AllocError, Global};
@@ -32,7 +32,7 @@ fn table_hint(alloc: Global, file: &str, table: &Table) -> Result<Option<String>
         return Ok(None);
     };
     let like = match flaw {
-        Flaw::NoKey(key) => like(alloc, table, key)?,
+        ValueFlaw::NoKey(key) => like(alloc, table, key)?,
         _ => None,
     };
     let hint = Hint { file, flaw, like };

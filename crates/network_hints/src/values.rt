@@ -5,7 +5,7 @@ ghost use Rattle.network_hints.specs.Values.{has_bad_end, is_loop, is_twice, ran
 ghost use Rattle.network_hints.specs.Values.{edge_flaw, first_twice, number_flaw};
 ghost use Rattle.network_hints.specs.ValuesView.{values_view};
 
-use crate::flaw::Flaw;
+use crate::flaw::ValueFlaw;
 use crate::key::Key;
 
 /// The values of the five keys.
@@ -19,18 +19,18 @@ pub struct Values {
 }
 
 /// What is wrong with a value that must be in a range.
-fn range_flaw(key: Key, value: i64, least: i64, most: i64) -> Option<Flaw>
+fn range_flaw(key: Key, value: i64, least: i64, most: i64) -> Option<ValueFlaw>
     ensures { result ≡ range_flaw key value least most }
 {
     if value < least || value > most {
-        Some(Flaw::OutOfRange(key, value, least, most))
+        Some(ValueFlaw::OutOfRange(key, value, least, most))
     } else {
         None
     }
 }
 
 /// The first flaw of the values.
-pub fn value_flaw(values: &Values) -> Option<Flaw>
+pub fn value_flaw(values: &Values) -> Option<ValueFlaw>
     ensures { result ≡ value_flaw (values_view values.now) }
 {
     match number_flaw(values) {
@@ -40,17 +40,17 @@ pub fn value_flaw(values: &Values) -> Option<Flaw>
 }
 
 /// The first flaw of the numbers, and of how many edges there are.
-fn number_flaw(values: &Values) -> Option<Flaw>
+fn number_flaw(values: &Values) -> Option<ValueFlaw>
     ensures { result ≡ number_flaw (values_view values.now) }
 {
     if let Some(flaw) = range_flaw(Key::Nodes, values.nodes, 2, 64) {
         return Some(flaw);
     }
     if values.edges.len() > 256 {
-        return Some(Flaw::TooMany(values.edges.len()));
+        return Some(ValueFlaw::TooMany(values.edges.len()));
     }
     if values.root < 0 || values.nodes <= values.root {
-        return Some(Flaw::NoRoot(values.root, values.nodes));
+        return Some(ValueFlaw::NoRoot(values.root, values.nodes));
     }
     if let Some(flaw) = range_flaw(Key::Capacity, values.capacity, 1, 4096) {
         return Some(flaw);
@@ -59,17 +59,17 @@ fn number_flaw(values: &Values) -> Option<Flaw>
 }
 
 /// The first flaw of the edges.
-fn edge_flaw(nodes: i64, edges: &[(i64, i64)]) -> Option<Flaw>
+fn edge_flaw(nodes: i64, edges: &[(i64, i64)]) -> Option<ValueFlaw>
     ensures { result ≡ edge_flaw nodes edges.now }
 {
     if let Some(edge) = first_outside(nodes, edges) {
-        return Some(Flaw::NoNode(edge.0, edge.1, nodes));
+        return Some(ValueFlaw::NoNode(edge.0, edge.1, nodes));
     }
     if let Some(edge) = first_loop(edges) {
-        return Some(Flaw::Loop(edge.0));
+        return Some(ValueFlaw::Loop(edge.0));
     }
     match first_twice(edges) {
-        Some(edge) => Some(Flaw::Twice(edge.0, edge.1)),
+        Some(edge) => Some(ValueFlaw::Twice(edge.0, edge.1)),
         None => None,
     }
 }

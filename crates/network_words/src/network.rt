@@ -10,7 +10,7 @@ use command_grammar::{
 use command_words::program::SEED;
 use command_words::refusal::{KindFault, Refusal};
 use network_commands::network;
-use network_commands::network::Wanted;
+use network_commands::network::WantedNetwork;
 use network_kinds::{Kind, least_nodes, most_nodes};
 use std::process::ExitCode;
 
@@ -123,11 +123,11 @@ pub fn run<R: Print + Eprint + AllocGlobal>(rt: &R, given: &ArgMatches) -> Resul
 ///
 /// # Errors
 /// If a word names no kind, spells no number in its range, or does not go with the kind.
-fn wanted(given: &ArgMatches) -> Result<Wanted, Refusal> {
+fn wanted(given: &ArgMatches) -> Result<WantedNetwork, Refusal> {
     let kind = kind_named(word(given, "KIND")?).ok_or(Refusal::Kind(KindFault::Unknown))?;
     let (kind, nodes) = sized(given, kind)?;
     let last = u64::from(nodes).saturating_sub(1);
-    Ok(Wanted {
+    Ok(WantedNetwork {
         kind,
         nodes,
         root: given_number(given, Number { most: last, ..ROOT })? as u16,

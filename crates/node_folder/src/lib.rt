@@ -2,10 +2,10 @@
 //! them.
 //!
 //! ```
-//! let mut stage = Stage::Begun;
+//! let mut stage = StartStage::Begun;
 //! let net = check_words(rt, &words, &mut stage)?;                 // nothing is made yet
-//! let (paths, place) = take_place(rt, &words, &mut stage)?;       // `Stage::Held`, while `place` lives
-//! let (doors, files) = opener.open(&net, &mut stage)?;            // `Stage::Listening`
+//! let (paths, place) = take_place(rt, &words, &mut stage)?;       // `StartStage::Held`, while `place` lives
+//! let (doors, files) = opener.open(&net, &mut stage)?;            // `StartStage::Listening`
 //! let mut names = Names::new(&paths, &place, words.rights, files);
 //! let sights = see(rt, &words, &names, &mut doors);               // after each 256th turn
 //! names.take_back(rt, &mut doors, lost);                          // a name that leads elsewhere

@@ -5,7 +5,7 @@ ghost use Rattle.process_parts.specs.Rights.{own_mode, clients_mode};
 use crate::doors::ProcessDoors;
 use network_news::FileNews;
 use process_parts::{
-    Complaint, FileId, FileSight, Lost, NodePaths, Place, Rights, bind_again, sight_at,
+    Complaint, FileId, FileSight, FolderPlace, Lost, NodePaths, Rights, bind_again, sight_at,
 };
 use std::net::Net as Sockets;
 use std::rt::Files;
@@ -91,7 +91,7 @@ pub struct Names<'a> {
     /// All names.
     pub paths: &'a NodePaths,
     /// Its place in the folder.
-    pub place: &'a Place,
+    pub place: &'a FolderPlace,
     /// Its socket for neighbours.
     pub links: Name<'a>,
     /// Its socket for clients.
@@ -106,7 +106,7 @@ impl<'a> Names<'a> {
     /// The names of sockets that were just made with these rights, and lead to these files.
     pub fn new(
         paths: &'a NodePaths,
-        place: &'a Place,
+        place: &'a FolderPlace,
         rights: Rights,
         files: NameFiles,
     ) -> Names<'a>

@@ -2,12 +2,12 @@
 ghost use Rattle.std.specs.Prelude.{◌≡◌, ◌⊎◌, true, IfOk, IfErr};
 ghost use Rattle.process_parts.specs.Start.{may_end};
 ghost use Rattle.process_parts.specs.declared.fault.NodeFault.TheVariants.{Memory, System};
-ghost use Rattle.process_parts.specs.declared.start.Stage.TheVariants.{Held, Listening};
+ghost use Rattle.process_parts.specs.declared.start.StartStage.TheVariants.{Held, Listening};
 
 use crate::doors::ProcessDoors;
 use crate::names::NameFiles;
 use process_parts::{
-    Listeners, NodeFault, NodePaths, NodeWords, Stage, addresses_of, fault_of, make_sockets,
+    Listeners, NodeFault, NodePaths, NodeWords, StartStage, addresses_of, fault_of, make_sockets,
     warn_of_capacity,
 };
 use std::net::Net as Sockets;
@@ -25,7 +25,7 @@ pub trait Opener {
     ///
     /// # Errors
     /// Why it cannot.
-    fn open(&self, net: &Net, stage: &mut Stage) -> Result<(Self::D, NameFiles), NodeFault>
+    fn open(&self, net: &Net, stage: &mut StartStage) -> Result<(Self::D, NameFiles), NodeFault>
         requires { stage.old ≡ Held }
         ensures ok { IfOk result (λ _. stage.new ≡ Listening) }
         ensures err { IfErr result (λ fault. may_end stage.new fault ≡ true) };
@@ -45,7 +45,7 @@ pub struct FolderOpener<'a, 'w, R> {
 impl<'a, R: Files + Sockets + Eprint + AllocGlobal> Opener for FolderOpener<'a, '_, R> {
     type D = UnixDoors<'a, R>;
 
-    fn open(&self, net: &Net, stage: &mut Stage) -> Result<(Self::D, NameFiles), NodeFault> {
+    fn open(&self, net: &Net, stage: &mut StartStage) -> Result<(Self::D, NameFiles), NodeFault> {
         open_doors(self.rt, self.words, self.paths, net, stage)
     }
 }
@@ -57,7 +57,7 @@ fn open_doors<'a, R>(
     words: &NodeWords<'_>,
     paths: &NodePaths,
     net: &Net,
-    stage: &mut Stage,
+    stage: &mut StartStage,
 ) -> Result<(UnixDoors<'a, R>, NameFiles), NodeFault>
 where
     R: Files + Sockets + Eprint + AllocGlobal,

@@ -2,10 +2,10 @@
 ghost use Rattle.std.specs.Prelude.{◌≡◌, ◌<◌, ◌≤◌, true, IfOk, IfErr};
 ghost use Rattle.process_parts.specs.Start.{may_end};
 ghost use Rattle.process_parts.specs.declared.fault.NodeFault.TheVariants.{NoNode};
-ghost use Rattle.process_parts.specs.declared.start.Stage.TheVariants.{Begun, Checked, Held};
+ghost use Rattle.process_parts.specs.declared.start.StartStage.TheVariants.{Begun, Checked, Held};
 
 use process_parts::{
-    NodeFault, NodePaths, NodeWords, Place, Stage, check_names, hold_place, make_folder,
+    FolderPlace, NodeFault, NodePaths, NodeWords, StartStage, check_names, hold_place, make_folder,
     read_network,
 };
 use std::fs::File;
@@ -20,7 +20,7 @@ use topology::Net;
 pub fn check_words<R: Files + AllocGlobal>(
     rt: &R,
     words: &NodeWords<'_>,
-    stage: &mut Stage,
+    stage: &mut StartStage,
 ) -> Result<Net, NodeFault>
     requires { stage.old ≡ Begun }
     ensures ok { IfOk result (λ net. (words.now.id < net.nodes) × (stage.new ≡ Checked)) }
@@ -32,7 +32,7 @@ pub fn check_words<R: Files + AllocGlobal>(
     };
     check_id(words.id, &net)?;
     check_names(rt.alloc(), words.dir, net.nodes())?;
-    *stage = Stage::Checked;
+    *stage = StartStage::Checked;
     Ok(net)
 }
 
@@ -55,8 +55,8 @@ fn check_id(id: u16, net: &Net) -> Result<(), NodeFault>
 pub fn take_place<R: Files<File = File> + AllocGlobal>(
     rt: &R,
     words: &NodeWords<'_>,
-    stage: &mut Stage,
-) -> Result<(NodePaths, Place), NodeFault>
+    stage: &mut StartStage,
+) -> Result<(NodePaths, FolderPlace), NodeFault>
     requires { stage.old ≡ Checked }
     ensures ok { IfOk result (λ _. stage.new ≡ Held) }
     ensures err { IfErr result (λ fault. may_end stage.new fault ≡ true) }
@@ -80,5 +80,5 @@ pub struct Seat<'a, 'w> {
     /// The names of its files.
     pub paths: &'a NodePaths,
     /// Its place in the folder, which is held.
-    pub place: &'a Place,
+    pub place: &'a FolderPlace,
 }

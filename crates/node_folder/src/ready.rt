@@ -1,10 +1,10 @@
 //! What a node's process says once it has started.
 ghost use Rattle.std.specs.Prelude.{◌≡◌};
-ghost use Rattle.process_parts.specs.declared.start.Stage.TheVariants.{Listening, Ready};
+ghost use Rattle.process_parts.specs.declared.start.StartStage.TheVariants.{Listening, Ready};
 
 use crate::note::{Note, NoteLine};
 use node_state_file::StartFault;
-use process_parts::{NodeWords, Stage};
+use process_parts::{NodeWords, StartStage};
 use std::rt::Env;
 use unix_doors::tell_ready;
 
@@ -14,7 +14,7 @@ pub fn say_ready<R: Env + Print + AllocGlobal>(
     rt: &R,
     words: &NodeWords<'_>,
     fault: Option<StartFault>,
-    stage: &mut Stage,
+    stage: &mut StartStage,
 )
     requires { stage.old ≡ Listening }
     ensures { stage.new ≡ Ready }
@@ -24,7 +24,7 @@ pub fn say_ready<R: Env + Print + AllocGlobal>(
     if !words.is_child {
         tell_ready(rt);
     }
-    *stage = Stage::Ready;
+    *stage = StartStage::Ready;
 }
 
 /// Prints a note as one line, in one write. A node whose output is closed runs on.

@@ -4,14 +4,14 @@ ghost use Rattle.node_core.specs.View.{site_in, state_of};
 ghost use Rattle.node_journal.specs.Places.{is_in_place};
 
 use node_core::{DeskAct, Net, Node};
-use process_parts::{Event, LogLine, NodeLog, NodeWords, TurnSight};
+use process_parts::{LogLine, NodeEvent, NodeLog, NodeWords, TurnSight};
 use std::env;
 use std::rt::Env;
 use unix_doors::{ClientSight, NodePort, Pipe, link_at};
 
 /// A node's log, which goes to standard error.
 #[derive(Drop)]
-pub struct Journal<'a, R> {
+pub struct NodeJournal<'a, R> {
     rt: &'a R,
     /// The node.
     id: u16,
@@ -20,20 +20,20 @@ pub struct Journal<'a, R> {
     log: NodeLog,
 }
 
-impl<'a, R: Eprint> Journal<'a, R> {
+impl<'a, R: Eprint> NodeJournal<'a, R> {
     /// The log of a node that starts with these words at this time.
-    pub fn begin(rt: &'a R, words: &NodeWords<'_>, now: u64) -> Journal<'a, R>
+    pub fn begin(rt: &'a R, words: &NodeWords<'_>, now: u64) -> NodeJournal<'a, R>
     where
         R: Env + AllocGlobal,
         ensures { result.log.least ≡ words.now.log }
     {
-        let mut journal = Journal {
+        let mut journal = NodeJournal {
             rt,
             id: words.id,
             has_priority: env::var(rt, "JOURNAL_STREAM").is_ok(),
             log: NodeLog::new(words.log),
         };
-        journal.say(Event::Begins, now);
+        journal.say(NodeEvent::Begins, now);
         journal
     }
 
@@ -76,7 +76,7 @@ impl<'a, R: Eprint> Journal<'a, R> {
     }
 
     /// Says what happened, if anything did.
-    fn say_if(&mut self, event: Option<Event>, now: u64)
+    fn say_if(&mut self, event: Option<NodeEvent>, now: u64)
         ensures level { self.new.log.least ≡ self.old.log.least }
         ensures nothing { event ≡ None → self.new ≡ self.old }
     {
@@ -86,7 +86,7 @@ impl<'a, R: Eprint> Journal<'a, R> {
     }
 
     /// Says what happened at this time, unless it is not urgent enough or too much was said.
-    pub fn say(&mut self, event: Event, now: u64)
+    pub fn say(&mut self, event: NodeEvent, now: u64)
         ensures level { self.new.log.least ≡ self.old.log.least }
     {
         if let Some(left_out) = self.log.admit(event, now) {

@@ -1,9 +1,9 @@
 //! What a node says of itself on standard error while it runs: a line for each event that its log admits.
 //!
 //! ```
-//! let mut journal = Journal::begin(rt, &words, now);                               // `node 1 begins`, if asked for
+//! let mut journal = NodeJournal::begin(rt, &words, now);                               // `node 1 begins`, if asked for
 //! journal.turn_ended(&node, &net, ports, turned.ticked.act, clients, now);         // after each turn
-//! journal.say(Event::Ends, now);
+//! journal.say(NodeEvent::Ends, now);
 //! ```
 //!
 //! `node_log` decides which events a turn has, and how many lines a second go out.
@@ -13,5 +13,5 @@
 
 mod journal;
 
-pub use journal::Journal;
-pub use process_parts::Event;
+pub use journal::NodeJournal;
+pub use process_parts::NodeEvent;

@@ -8,10 +8,10 @@ use Rattle.node_keeping.specs.declared.saved.StopSight.TheVariants.{Absent, Remo
 use Rattle.node_keeping.specs.declared.saved.Sights.{Sights}
 use Rattle.node_keeping.specs.declared.saved.Lost.{Lost}
 use Rattle.node_keeping.specs.declared.saved.AfterSave.TheVariants.{Displaced, StopStays, Stop, GoOn}
-use Rattle.node_keeping.specs.declared.keeper.Stage.TheVariants.{Waits, Runs, Left}
+use Rattle.node_keeping.specs.declared.keeper.KeeperStage.TheVariants.{Waits, Runs, Left}
 use Rattle.node_keeping.specs.declared.keeper.Seen.{Seen}
 use Rattle.node_keeping.specs.declared.keeper.Seen.TheVariants.{Nothing, Started, Ended, Asked}
-use Rattle.node_keeping.specs.declared.keeper.Deed.TheVariants.{Rest, Start, SayAgain, SayLeft, SayGone, CloseInput}
+use Rattle.node_keeping.specs.declared.keeper.KeeperDeed.TheVariants.{Rest, Start, SayAgain, SayLeft, SayGone, CloseInput}
 use Rattle.node_keeping.specs.Sight.{file_sight}
 use Rattle.node_keeping.specs.AfterSave.{after_save}
 use Rattle.node_keeping.specs.Steps.{deeds, stage_after_all}

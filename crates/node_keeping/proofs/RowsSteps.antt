@@ -4,9 +4,9 @@ use Rattle.node_texts.specs.declared.lines.End.TheVariants.{Status, Signal}
 use Rattle.node_keeping.specs.declared.sight.FileSight.TheVariants.{Own, NotOwn, Unseen}
 use Rattle.node_keeping.specs.declared.saved.StopSight.TheVariants.{Removed}
 use Rattle.node_keeping.specs.declared.saved.AfterSave.TheVariants.{Stop}
-use Rattle.node_keeping.specs.declared.keeper.Stage.TheVariants.{Waits, Starts, Runs, Closes, Left, Over}
+use Rattle.node_keeping.specs.declared.keeper.KeeperStage.TheVariants.{Waits, Starts, Runs, Closes, Left, Over}
 use Rattle.node_keeping.specs.declared.keeper.Seen.TheVariants.{Nothing, Ended}
-use Rattle.node_keeping.specs.declared.keeper.Deed.TheVariants.{Rest, Start, SayAgain, SayLeft, SayGone, CloseInput, Kill}
+use Rattle.node_keeping.specs.declared.keeper.KeeperDeed.TheVariants.{Rest, Start, SayAgain, SayLeft, SayGone, CloseInput, Kill}
 use Rattle.node_keeping.specs.AfterSave.{looks_for_stop, is_lost, in_place}
 use Rattle.node_keeping.specs.Laws.{is_start, is_kill}
 use Rattle.node_keeping.specs.Steps.{new_keeper, is_kept, is_failed, looked_at, looked_deed, failures_now, ended_after, ended_deed, asked_after, asked_deed, urged_deed, started_after, failures_after, looks}

@@ -7,12 +7,12 @@ use Rattle.node_keeping.specs.declared.saved.StopSight.TheVariants.{Absent}
 use Rattle.node_keeping.specs.declared.saved.Sights.{Sights}
 use Rattle.node_keeping.specs.declared.saved.Lost.{Lost}
 use Rattle.node_keeping.specs.declared.saved.AfterSave.TheVariants.{Displaced, Stop, GoOn}
-use Rattle.node_keeping.specs.declared.keeper.Stage.{Stage}
-use Rattle.node_keeping.specs.declared.keeper.Stage.TheVariants.{Runs, Closes, Left, Over}
+use Rattle.node_keeping.specs.declared.keeper.KeeperStage.{KeeperStage}
+use Rattle.node_keeping.specs.declared.keeper.KeeperStage.TheVariants.{Runs, Closes, Left, Over}
 use Rattle.node_keeping.specs.declared.keeper.Seen.{Seen}
 use Rattle.node_keeping.specs.declared.keeper.Seen.TheVariants.{Ended, Urged}
-use Rattle.node_keeping.specs.declared.keeper.Deed.{Deed}
-use Rattle.node_keeping.specs.declared.keeper.Deed.TheVariants.{Rest, Start, SayAgain, SayGone, Kill}
+use Rattle.node_keeping.specs.declared.keeper.KeeperDeed.{KeeperDeed}
+use Rattle.node_keeping.specs.declared.keeper.KeeperDeed.TheVariants.{Rest, Start, SayAgain, SayGone, Kill}
 use Rattle.node_keeping.specs.AfterSave.{after_save, lost_of}
 use Rattle.node_keeping.specs.Steps.{stage_after, stage_after_all, deeds, asked_after, looks, is_failed}
 
@@ -34,18 +34,18 @@ StopsWhenAsked =
     (sights : Sights) → after_save sights ≡ Stop
     → (sights.stop ≡ Absent) → sights.is_asked ≡ true
 
-abbrev pub is_start : Deed → Bool
+abbrev pub is_start : KeeperDeed → Bool
 is_start Start = true
 is_start _ = false
 
-abbrev pub is_kill : Deed → Bool
+abbrev pub is_kill : KeeperDeed → Bool
 is_kill Kill = true
 is_kill _ = false
 
 -- once `up` is asked to end nobody is started, whatever is seen
 abbrev pub NobodyStartsAfterTheEnd : Type 0
 NobodyStartsAfterTheEnd =
-    (failures : ℕ) (stage : Stage) (seen : List Seen)
+    (failures : ℕ) (stage : KeeperStage) (seen : List Seen)
     → filter is_start (deeds failures (asked_after stage) seen) ≡ []
 
 -- a node that ended is started again after 10 looks, unless it failed at its start
@@ -60,7 +60,7 @@ IsStartedAgain =
 -- there twice before
 abbrev pub IsLeftAfterThreeFailures : Type 0
 IsLeftAfterThreeFailures =
-    (failures : ℕ) (stage : Stage) (seen : Seen) → stage ≢ Left
+    (failures : ℕ) (stage : KeeperStage) (seen : Seen) → stage ≢ Left
     → stage_after seen failures stage ≡ Left
     → (status age : ℕ) × (seen ≡ Ended (Status status)) × (stage ≡ Runs age)
     × (is_failed (Status status) age ≡ true) × (2 ≤ failures)
@@ -68,7 +68,7 @@ IsLeftAfterThreeFailures =
 -- whatever is seen, a node that is to end is killed at most once
 abbrev pub IsKilledOnce : Type 0
 IsKilledOnce =
-    (failures : ℕ) (stage : Stage) (seen : List Seen)
+    (failures : ℕ) (stage : KeeperStage) (seen : List Seen)
     → length (filter is_kill (deeds failures stage seen)) ≤ 1
 
 -- a node that is to end and does not is killed by the look after as many as it was given, and is

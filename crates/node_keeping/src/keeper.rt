@@ -20,7 +20,7 @@ const MOST_FAILURES: u8 = 3;
 
 /// How a node that is kept running stands.
 #[derive(Clone, Copy, PartialEq, Eq)]
-pub enum Stage {
+pub enum KeeperStage {
     /// It is started after this many looks more.
     Waits(u32),
     /// It is being started.
@@ -52,7 +52,7 @@ pub enum Seen {
 
 /// What to do with a node.
 #[derive(Clone, Copy)]
-pub enum Deed {
+pub enum KeeperDeed {
     /// Nothing.
     Rest,
     /// It is started.
@@ -72,7 +72,7 @@ pub enum Deed {
 /// What `up` knows of a node that it keeps running.
 #[derive(Clone, Copy, Drop)]
 pub struct Keeper {
-    stage: Stage,
+    stage: KeeperStage,
     /// How often in a row it failed at its start.
     failures: u8,
 }
@@ -80,16 +80,16 @@ pub struct Keeper {
 impl Keeper {
     ghost use Rattle.std.specs.Prelude.{nat_lt, if◌then◌else◌};
     ghost use Rattle.node_keeping.specs.Steps.{new_keeper};
-    ghost use Rattle.node_keeping.specs.declared.keeper.Stage.TheVariants.{Waits, Left, Over};
+    ghost use Rattle.node_keeping.specs.declared.keeper.KeeperStage.TheVariants.{Waits, Left, Over};
     ghost use Rattle.node_keeping.specs.declared.keeper.Seen.TheVariants.{Started, Ended};
-    ghost use Rattle.node_keeping.specs.declared.keeper.Deed.TheVariants.{Rest, SayAgain, SayLeft};
+    ghost use Rattle.node_keeping.specs.declared.keeper.KeeperDeed.TheVariants.{Rest, SayAgain, SayLeft};
 
     /// A node that is started at the first look.
     pub fn new() -> Keeper
         ensures { result ≡ new_keeper }
     {
         Keeper {
-            stage: Stage::Waits(0),
+            stage: KeeperStage::Waits(0),
             failures: 0,
         }
     }
@@ -98,12 +98,12 @@ impl Keeper {
     pub fn is_kept(&self) -> bool
         ensures { result ≡ is_kept self.now.stage }
     {
-        !matches!(self.stage, Stage::Left | Stage::Over)
+        !matches!(self.stage, KeeperStage::Left | KeeperStage::Over)
     }
 
     /// Takes note of what was seen, and says what to do. What cannot be seen at that stage changes
     /// nothing.
-    pub fn step(&mut self, seen: Seen) -> Deed
+    pub fn step(&mut self, seen: Seen) -> KeeperDeed
         ensures stage { self.new.stage ≡ stage_after seen self.old.failures self.old.stage }
         ensures failures { self.new.failures ≡ failures_after seen self.old.stage self.old.failures }
         ensures deed { result ≡ deed_at seen self.old.failures self.old.stage }
@@ -118,70 +118,73 @@ impl Keeper {
     }
 
     /// A look shows nothing new.
-    fn look(&mut self) -> Deed
+    fn look(&mut self) -> KeeperDeed
         ensures stage { self.new ≡ record self.old { stage = looked_at self.old.stage } }
         ensures deed { result ≡ looked_deed self.old.stage }
     {
         let (stage, deed) = match self.stage {
-            Stage::Waits(0) => (Stage::Starts, Deed::Start),
-            Stage::Waits(looks) => (Stage::Waits(looks - 1), Deed::Rest),
-            Stage::Runs(looks) => (Stage::Runs(looks.saturating_add(1)), Deed::Rest),
-            Stage::Closes(0) => (Stage::Over, Deed::Kill),
-            Stage::Closes(looks) => (Stage::Closes(looks - 1), Deed::Rest),
-            stage => (stage, Deed::Rest),
+            KeeperStage::Waits(0) => (KeeperStage::Starts, KeeperDeed::Start),
+            KeeperStage::Waits(looks) => (KeeperStage::Waits(looks - 1), KeeperDeed::Rest),
+            KeeperStage::Runs(looks) => (
+                KeeperStage::Runs(looks.saturating_add(1)),
+                KeeperDeed::Rest,
+            ),
+            KeeperStage::Closes(0) => (KeeperStage::Over, KeeperDeed::Kill),
+            KeeperStage::Closes(looks) => (KeeperStage::Closes(looks - 1), KeeperDeed::Rest),
+            stage => (stage, KeeperDeed::Rest),
         };
         self.stage = stage;
         deed
     }
 
     /// It was started.
-    fn begin(&mut self) -> Deed
+    fn begin(&mut self) -> KeeperDeed
         ensures stage { self.new.stage ≡ stage_after Started self.old.failures self.old.stage }
         ensures failures { self.new.failures ≡ self.old.failures }
         ensures deed { result ≡ Rest }
     {
-        if self.stage == Stage::Starts {
-            self.stage = Stage::Runs(0);
+        if self.stage == KeeperStage::Starts {
+            self.stage = KeeperStage::Runs(0);
         }
-        Deed::Rest
+        KeeperDeed::Rest
     }
 
     /// It ended so, or could not be started.
-    fn end(&mut self, end: End) -> Deed
+    fn end(&mut self, end: End) -> KeeperDeed
         ensures stage { self.new.stage ≡ ended_after end self.old.failures self.old.stage }
         ensures failures { self.new.failures
             ≡ failures_after (Ended end) self.old.stage self.old.failures }
         ensures deed { result ≡ ended_deed end self.old.failures self.old.stage }
     {
         match self.stage {
-            Stage::Starts => self.wait(end),
-            Stage::Runs(looks) if !is_failed(end, looks) => {
+            KeeperStage::Starts => self.wait(end),
+            KeeperStage::Runs(looks) if !is_failed(end, looks) => {
                 self.failures = 0;
                 self.wait(end)
             }
-            Stage::Runs(_) => {
+            KeeperStage::Runs(_) => {
                 self.failures = self.failures.saturating_add(1);
                 self.fail(end)
             }
-            Stage::Closes(_) => {
-                self.stage = Stage::Over;
-                Deed::SayGone(end)
+            KeeperStage::Closes(_) => {
+                self.stage = KeeperStage::Over;
+                KeeperDeed::SayGone(end)
             }
-            _ => Deed::Rest,
+            _ => KeeperDeed::Rest,
         }
     }
 
     /// It is started again after a while.
-    fn wait(&mut self, end: End) -> Deed
+    fn wait(&mut self, end: End) -> KeeperDeed
         ensures stage { self.new ≡ record self.old { stage = Waits 10 } }
         ensures deed { result ≡ SayAgain end }
     {
-        self.stage = Stage::Waits(LOOKS_BEFORE_START);
-        Deed::SayAgain(end)
+        self.stage = KeeperStage::Waits(LOOKS_BEFORE_START);
+        KeeperDeed::SayAgain(end)
     }
 
     /// It is started again after a while, unless it failed too often.
-    fn fail(&mut self, end: End) -> Deed
+    fn fail(&mut self, end: End) -> KeeperDeed
         ensures stage { self.new ≡ record self.old {
           stage = if nat_lt self.old.failures 3 then Waits 10 else Left;
         } }
@@ -190,39 +193,43 @@ impl Keeper {
         if self.failures < MOST_FAILURES {
             return self.wait(end);
         }
-        self.stage = Stage::Left;
-        Deed::SayLeft(end)
+        self.stage = KeeperStage::Left;
+        KeeperDeed::SayLeft(end)
     }
 
     /// It is not started any more.
-    fn close(&mut self) -> Deed
+    fn close(&mut self) -> KeeperDeed
         ensures stage { self.new ≡ record self.old { stage = asked_after self.old.stage } }
         ensures deed { result ≡ asked_deed self.old.stage }
     {
         match self.stage {
-            Stage::Starts | Stage::Runs(_) => {
-                self.stage = Stage::Closes(LOOKS_BEFORE_KILL);
-                Deed::CloseInput
+            KeeperStage::Starts | KeeperStage::Runs(_) => {
+                self.stage = KeeperStage::Closes(LOOKS_BEFORE_KILL);
+                KeeperDeed::CloseInput
             }
-            Stage::Waits(_) | Stage::Left => {
-                self.stage = Stage::Over;
-                Deed::Rest
+            KeeperStage::Waits(_) | KeeperStage::Left => {
+                self.stage = KeeperStage::Over;
+                KeeperDeed::Rest
             }
-            Stage::Closes(_) | Stage::Over => Deed::Rest,
+            KeeperStage::Closes(_) | KeeperStage::Over => KeeperDeed::Rest,
         }
     }
 
     /// It is waited for no longer.
-    fn cut_short(&mut self) -> Deed
+    fn cut_short(&mut self) -> KeeperDeed
         ensures stage { self.new ≡ record self.old { stage = Over } }
         ensures deed { result ≡ urged_deed self.old.stage }
     {
         let is_there = matches!(
             self.stage,
-            Stage::Starts | Stage::Runs(_) | Stage::Closes(_)
+            KeeperStage::Starts | KeeperStage::Runs(_) | KeeperStage::Closes(_)
         );
-        self.stage = Stage::Over;
-        if is_there { Deed::Kill } else { Deed::Rest }
+        self.stage = KeeperStage::Over;
+        if is_there {
+            KeeperDeed::Kill
+        } else {
+            KeeperDeed::Rest
+        }
     }
 }
 

@@ -6,9 +6,9 @@
 //!
 //! ```
 //! let mut keeper = Keeper::new();
-//! keeper.step(Seen::Nothing);                          // Deed::Start
-//! keeper.step(Seen::Started);                          // Deed::Rest
-//! keeper.step(Seen::Ended(End::Status(0)));            // Deed::SayAgain: it is started again
+//! keeper.step(Seen::Nothing);                          // KeeperDeed::Start
+//! keeper.step(Seen::Started);                          // KeeperDeed::Rest
+//! keeper.step(Seen::Ended(End::Status(0)));            // KeeperDeed::SayAgain: it is started again
 //! let word = course.step(sights);                      // Some(Seen::Asked), as Ctrl-C came to `up`
 //! after_save(Sights { place: FileSight::NotOwn, ..sights });   // AfterSave::Displaced
 //! ```
@@ -24,7 +24,7 @@ mod saved;
 mod sight;
 
 pub use course::{UpCourse, UpSights, UpStage};
-pub use keeper::{Deed, Keeper, LOOKS_BEFORE_KILL, LOOKS_BEFORE_START, Seen, Stage};
+pub use keeper::{Keeper, KeeperDeed, KeeperStage, LOOKS_BEFORE_KILL, LOOKS_BEFORE_START, Seen};
 pub use node_texts::{
     CapacityLine, End, EndLine, LONGEST_SOCKET_NAME, NodePaths, ProcessPart, SOCKET_FRAMES,
     links_name, longest_socket_name,

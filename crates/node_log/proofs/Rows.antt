@@ -2,15 +2,15 @@
 use Rattle.std.proofs.Common.{◌≡◌, ◌≢◌, ℕ, Bool, true, false, List, [], ◌∷◌, Option, Some, None, map, refl, codes, arith}
 use Rattle.std.specs.Fmt.{digits}
 use Rattle.lock_desk.specs.declared.act.DeskAct.TheVariants as act
-use Rattle.node_log.specs.declared.event.Event.{Event}
-use Rattle.node_log.specs.declared.event.Event.TheVariants as event
+use Rattle.node_log.specs.declared.event.NodeEvent.{NodeEvent}
+use Rattle.node_log.specs.declared.event.NodeEvent.TheVariants as event
 use Rattle.node_log.specs.declared.event.Level.TheVariants.{Warning, Notice, Info}
 use Rattle.node_log.specs.declared.rate.LineRate.{LineRate}
 use Rattle.node_log.specs.Events.{level_of, priority_of, level_with, is_said_at}
 use Rattle.node_log.specs.Rate.{new_rate, second_of, said_in, answer_at, rate_after, answers}
 use Rattle.node_log.specs.Turns.{gave_back, by_act, changed, by_link, by_desk, full_after, by_crowd, crowded_after, next_of, admitted, rate_then}
-use Rattle.node_log.specs.declared.place.Place.{Place}
-use Rattle.node_log.specs.declared.place.Place.TheVariants.{Right, WrongSince}
+use Rattle.node_log.specs.declared.place.PlaceSeen.{PlaceSeen}
+use Rattle.node_log.specs.declared.place.PlaceSeen.TheVariants.{Right, WrongSince}
 use Rattle.node_log.specs.Places.{by_place, place_after}
 use Rattle.node_log.specs.Line.{event_text, priority_text, left_out_text, log_line}
 use Rattle.node_log.specs.Laws.{is_said}
@@ -114,7 +114,7 @@ change-up : changed 2 true false ≡ Some (event.Up 2)
 change-up = refl
 
 -- what a desk says turn after turn, by how many clients wait: further ones are refused, or may wait again
-abbrev desk_says : Bool → List ℕ → List (Option Event)
+abbrev desk_says : Bool → List ℕ → List (Option NodeEvent)
 desk_says is_full [] = []
 desk_says is_full (waiting ∷ later) = by_desk waiting is_full ∷ desk_says (full_after waiting is_full) later
 
@@ -124,7 +124,7 @@ desk-says : desk_says false (63 ∷ 64 ∷ 64 ∷ 33 ∷ 32 ∷ 64 ∷ [])
 desk-says = refl
 
 -- the same of connections, by how many were closed and how many stand
-abbrev crowd_says : Bool → List (ℕ × ℕ) → List (Option Event)
+abbrev crowd_says : Bool → List (ℕ × ℕ) → List (Option NodeEvent)
 crowd_says is_crowded [] = []
 crowd_says is_crowded ((closed, connected) ∷ later) =
     by_crowd closed connected is_crowded ∷ crowd_says (crowded_after closed connected is_crowded) later
@@ -136,7 +136,7 @@ crowd-says : crowd_says false ((0, 128) ∷ (1, 128) ∷ (3, 128) ∷ (1, 10) �
 crowd-says = refl
 
 -- the same of its place, by whether the node is in it and when the turn ended
-abbrev place_says : Place → List (Bool × ℕ) → List (Option Event)
+abbrev place_says : PlaceSeen → List (Bool × ℕ) → List (Option NodeEvent)
 place_says place [] = []
 place_says place ((in_place, now) ∷ later) = by_place in_place now place ∷ place_says (place_after in_place now place) later
 

@@ -1,13 +1,13 @@
 -- How urgent it is what a node says of itself.
 use Rattle.std.specs.Prelude.{ℕ, Bool, ◌==◌, nat_le, if◌then◌else◌, Option, None, Some}
-use Rattle.node_log.specs.declared.event.Event.{Event}
-use Rattle.node_log.specs.declared.event.Event.TheVariants as event
+use Rattle.node_log.specs.declared.event.NodeEvent.{NodeEvent}
+use Rattle.node_log.specs.declared.event.NodeEvent.TheVariants as event
 use Rattle.node_log.specs.declared.event.Level.{Level}
 use Rattle.node_log.specs.declared.event.Level.TheVariants.{Warning, Notice, Info}
 
 -- a link that is gone, a lock that is lost, a client that is refused or closed, and a node out of its place are amiss;
 -- grants go on all the time
-abbrev pub level_of : Event → Level
+abbrev pub level_of : NodeEvent → Level
 level_of (event.Down id) = Warning
 level_of (event.Lost ticket) = Warning
 level_of event.Full = Warning

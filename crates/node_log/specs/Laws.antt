@@ -1,7 +1,7 @@
 -- Laws of a node's log.
 use Rattle.std.specs.Prelude.{◌≡◌, ◌≤◌, ℕ, Bool, ◌==◌, true, None, List, filter, length}
 use Rattle.std.specs.List.{list_all}
-use Rattle.node_log.specs.declared.event.Event.{Event}
+use Rattle.node_log.specs.declared.event.NodeEvent.{NodeEvent}
 use Rattle.node_log.specs.declared.rate.LineRate.{LineRate}
 use Rattle.node_log.specs.Rate.{second_of, answers}
 use Rattle.node_log.specs.Turns.{admitted}
@@ -17,4 +17,4 @@ AtMostTwentyInASecond =
     → length (filter is_said (answers rate instants)) ≤ 20
 
 abbrev pub SaysNothingIfOff : Type 0
-SaysNothingIfOff = (event : Event) (now : ℕ) (rate : LineRate) → admitted None event now rate ≡ None
+SaysNothingIfOff = (event : NodeEvent) (now : ℕ) (rate : LineRate) → admitted None event now rate ≡ None

@@ -1,10 +1,10 @@
 -- A line of a node's log.
 use Rattle.std.specs.Prelude.{ℕ, Bool, nat_lt, if◌then◌else◌, List, [], ◌++◌, codes, decimal}
-use Rattle.node_log.specs.declared.event.Event.{Event}
-use Rattle.node_log.specs.declared.event.Event.TheVariants as event
+use Rattle.node_log.specs.declared.event.NodeEvent.{NodeEvent}
+use Rattle.node_log.specs.declared.event.NodeEvent.TheVariants as event
 use Rattle.node_log.specs.Events.{level_of, priority_of}
 
-abbrev pub event_text : Event → List ℕ
+abbrev pub event_text : NodeEvent → List ℕ
 event_text event.Begins = codes "begins"
 event_text event.Ends = codes "ends"
 event_text (event.Up id) = codes "the link to node " ++ (decimal id ++ codes " is up")
@@ -20,7 +20,7 @@ event_text event.Astray = codes "its distance or parent has been wrong for 2 s"
 event_text event.InPlace = codes "its distance and parent are right again"
 
 -- the priority in angle brackets, as the journal of systemd reads it in front of a line (sd-daemon)
-abbrev pub priority_text : Event → Bool → List ℕ
+abbrev pub priority_text : NodeEvent → Bool → List ℕ
 priority_text event has_priority =
     if has_priority then codes "<" ++ (decimal (priority_of (level_of event)) ++ codes ">") else []
 
@@ -29,7 +29,7 @@ abbrev pub left_out_text : ℕ → List ℕ
 left_out_text count =
     if nat_lt 0 count then codes " (" ++ (decimal count ++ codes " lines were left out before)") else []
 
-abbrev pub log_line : ℕ → Event → ℕ → Bool → List ℕ
+abbrev pub log_line : ℕ → NodeEvent → ℕ → Bool → List ℕ
 log_line id event left_out has_priority =
     priority_text event has_priority
     ++ (codes "tokentree: node " ++ (decimal id ++ (codes ": " ++ (event_text event ++ left_out_text left_out))))

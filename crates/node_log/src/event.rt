@@ -4,7 +4,7 @@ ghost use Rattle.node_log.specs.Events.{level_of, level_with, priority_of, is_sa
 
 /// What a node may say of itself.
 #[derive(Clone, Copy)]
-pub enum Event {
+pub enum NodeEvent {
     /// Its sockets listen, and its turns begin.
     Begins,
     /// It ends.
@@ -44,18 +44,20 @@ pub enum Level {
     Info,
 }
 
-impl Event {
+impl NodeEvent {
     /// How urgent it is.
     pub fn level(self) -> Level
         ensures { result ≡ level_of self }
     {
         match self {
-            Event::Down(_) | Event::Lost(_) | Event::Full | Event::Crowded | Event::Astray => {
-                Level::Warning
-            }
-            Event::Begins | Event::Ends | Event::Up(_) => Level::Notice,
-            Event::Room | Event::Seats | Event::InPlace => Level::Notice,
-            Event::Granted(_) | Event::GivenBack(_) => Level::Info,
+            NodeEvent::Down(_)
+            | NodeEvent::Lost(_)
+            | NodeEvent::Full
+            | NodeEvent::Crowded
+            | NodeEvent::Astray => { Level::Warning }
+            NodeEvent::Begins | NodeEvent::Ends | NodeEvent::Up(_) => Level::Notice,
+            NodeEvent::Room | NodeEvent::Seats | NodeEvent::InPlace => Level::Notice,
+            NodeEvent::Granted(_) | NodeEvent::GivenBack(_) => Level::Info,
         }
     }
 }

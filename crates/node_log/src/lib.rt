@@ -22,8 +22,8 @@ mod log;
 mod place;
 mod rate;
 
-pub use event::{Event, Level};
+pub use event::{Level, NodeEvent};
 pub use line::LogLine;
 pub use log::{NodeLog, TurnSight};
-pub use place::Place;
+pub use place::PlaceSeen;
 pub use rate::{LineRate, MOST_LINES};

@@ -2,7 +2,7 @@
 ghost use Rattle.std.specs.Prelude.{Some};
 ghost use Rattle.node_log.specs.Line.{log_line, left_out_text, event_text};
 
-use crate::event::Event;
+use crate::event::NodeEvent;
 use std::fmt;
 
 /// A line of a node's log, without a newline.
@@ -11,7 +11,7 @@ pub struct LogLine {
     /// The node.
     pub id: u16,
     /// What it says.
-    pub event: Event,
+    pub event: NodeEvent,
     /// How many lines were left out before.
     pub left_out: u64,
     /// Whether its priority stands in front, as journals read it.
@@ -31,26 +31,26 @@ impl fmt::Display for LogLine {
     }
 }
 
-impl fmt::Display for Event {
+impl fmt::Display for NodeEvent {
     ghost output = { λ event. Some (event_text event) };
 
     fn fmt<W: fmt::Write>(&self, f: &mut fmt::Formatter<W>) -> fmt::Result {
         match *self {
-            Event::Begins => f.write_str("begins"),
-            Event::Ends => f.write_str("ends"),
-            Event::Up(id) => write!(f, "the link to node {id} is up"),
-            Event::Down(id) => write!(f, "the link to node {id} is down"),
-            Event::Granted(ticket) => write!(f, "ticket {ticket} is granted the lock"),
-            Event::Lost(ticket) => write!(f, "ticket {ticket} has lost the lock"),
-            Event::GivenBack(ticket) => write!(f, "ticket {ticket} has given the lock back"),
-            Event::Full => f.write_str("64 clients wait, and further ones are refused"),
-            Event::Room => f.write_str("clients may wait again"),
-            Event::Crowded => {
+            NodeEvent::Begins => f.write_str("begins"),
+            NodeEvent::Ends => f.write_str("ends"),
+            NodeEvent::Up(id) => write!(f, "the link to node {id} is up"),
+            NodeEvent::Down(id) => write!(f, "the link to node {id} is down"),
+            NodeEvent::Granted(ticket) => write!(f, "ticket {ticket} is granted the lock"),
+            NodeEvent::Lost(ticket) => write!(f, "ticket {ticket} has lost the lock"),
+            NodeEvent::GivenBack(ticket) => write!(f, "ticket {ticket} has given the lock back"),
+            NodeEvent::Full => f.write_str("64 clients wait, and further ones are refused"),
+            NodeEvent::Room => f.write_str("clients may wait again"),
+            NodeEvent::Crowded => {
                 f.write_str("128 clients are connected, and further ones are closed")
             }
-            Event::Seats => f.write_str("clients may connect again"),
-            Event::Astray => f.write_str("its distance or parent has been wrong for 2 s"),
-            Event::InPlace => f.write_str("its distance and parent are right again"),
+            NodeEvent::Seats => f.write_str("clients may connect again"),
+            NodeEvent::Astray => f.write_str("its distance or parent has been wrong for 2 s"),
+            NodeEvent::InPlace => f.write_str("its distance and parent are right again"),
         }
     }
 }

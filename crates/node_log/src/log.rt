@@ -5,8 +5,8 @@ ghost use Rattle.node_log.specs.Turns.{gave_back, by_act, by_link, by_desk, full
 ghost use Rattle.node_log.specs.Places.{by_place, place_after};
 ghost use Rattle.node_log.specs.Turns.{admitted, rate_then, next_of};
 
-use crate::event::{Event, Level};
-use crate::place::Place;
+use crate::event::{Level, NodeEvent};
+use crate::place::PlaceSeen;
 use crate::rate::LineRate;
 use lock_desk::DeskAct;
 
@@ -59,12 +59,12 @@ pub struct NodeLog {
     is_full: bool,
     /// Whether it has said that further clients are closed, and not since that they may connect again.
     is_crowded: bool,
-    place: Place,
+    place: PlaceSeen,
 }
 
 impl NodeLog {
     ghost use Rattle.node_log.specs.Rate.{new_rate};
-    ghost use Rattle.node_log.specs.declared.place.Place.TheVariants.{Right};
+    ghost use Rattle.node_log.specs.declared.place.PlaceSeen.TheVariants.{Right};
 
     /// A log which says what is so urgent; nothing if that is none.
     pub fn new(least: Option<Level>) -> NodeLog
@@ -81,7 +81,7 @@ impl NodeLog {
             lent: None,
             is_full: false,
             is_crowded: false,
-            place: Place::Right,
+            place: PlaceSeen::Right,
         }
     }
 
@@ -108,7 +108,7 @@ impl NodeLog {
     /// refused now or may wait again, whether they are closed now or may connect again, and whether
     /// the node has been out of its place for long or is back. Of an id above 63 nothing is said.
     /// `now` is when the turn ended, in microseconds.
-    pub fn turn_ended(&mut self, sight: TurnSight, now: u64) -> [Option<Event>; 6]
+    pub fn turn_ended(&mut self, sight: TurnSight, now: u64) -> [Option<NodeEvent>; 6]
         ensures events { result ≡ gave_back self.old.lent sight.act sight.lent ∷ by_act sight.act
             ∷ by_link sight.link sight.is_up self.old.up
             ∷ by_desk sight.waiting self.old.is_full
@@ -135,7 +135,7 @@ impl NodeLog {
     }
 
     /// Takes note of how many clients wait, and says whether further ones are refused now or may wait again.
-    fn see_desk(&mut self, waiting: usize) -> Option<Event>
+    fn see_desk(&mut self, waiting: usize) -> Option<NodeEvent>
         ensures event { result ≡ by_desk waiting self.old.is_full }
         ensures after { self.new ≡ record self.old { is_full = full_after waiting self.old.is_full } }
     {
@@ -144,12 +144,16 @@ impl NodeLog {
             return None;
         }
         self.is_full = is_full;
-        Some(if is_full { Event::Full } else { Event::Room })
+        Some(if is_full {
+            NodeEvent::Full
+        } else {
+            NodeEvent::Room
+        })
     }
 
     /// Takes note of the clients that are connected and of those that were closed, and says whether
     /// further ones are closed now or may connect again.
-    fn see_crowd(&mut self, closed: u64, connected: usize) -> Option<Event>
+    fn see_crowd(&mut self, closed: u64, connected: usize) -> Option<NodeEvent>
         ensures event { result ≡ by_crowd closed connected self.old.is_crowded }
         ensures after { self.new
             ≡ record self.old { is_crowded = crowded_after closed connected self.old.is_crowded } }
@@ -160,14 +164,14 @@ impl NodeLog {
         }
         self.is_crowded = is_crowded;
         Some(if is_crowded {
-            Event::Crowded
+            NodeEvent::Crowded
         } else {
-            Event::Seats
+            NodeEvent::Seats
         })
     }
 
     /// Takes note of the link to a node, and says whether it came or went.
-    fn see_link(&mut self, id: u16, is_up: bool) -> Option<Event>
+    fn see_link(&mut self, id: u16, is_up: bool) -> Option<NodeEvent>
         ensures event { result ≡ by_link id is_up self.old.up }
         ensures link { id < 64 → slice_index_or self.new.up id false ≡ is_up }
         ensures others { (other : ℕ) → other ≢ id
@@ -183,15 +187,15 @@ impl NodeLog {
         }
         self.up[place] = is_up;
         Some(if is_up {
-            Event::Up(id)
+            NodeEvent::Up(id)
         } else {
-            Event::Down(id)
+            NodeEvent::Down(id)
         })
     }
 
     /// Whether an event is said at this time, in microseconds: none if it is not, and else how many were left
     /// out since the last that was said. Only what is urgent enough counts.
-    pub fn admit(&mut self, event: Event, now: u64) -> Option<u64>
+    pub fn admit(&mut self, event: NodeEvent, now: u64) -> Option<u64>
         ensures answer { result ≡ admitted self.old.least event now self.old.rate }
         ensures rate { self.new.rate ≡ rate_then self.old.least event now self.old.rate }
         ensures rest { (self.new.least ≡ self.old.least) × (self.new.up ≡ self.old.up)
@@ -208,23 +212,23 @@ impl NodeLog {
 
 /// Which client released the lock, by what the tick did and who has it now. A tick that grants
 /// began with nobody who had it.
-fn gave_back(before: Option<u16>, act: DeskAct, now: Option<u16>) -> Option<Event>
+fn gave_back(before: Option<u16>, act: DeskAct, now: Option<u16>) -> Option<NodeEvent>
     ensures { result ≡ gave_back before act now }
 {
     match (before, act, now) {
-        (Some(ticket), DeskAct::Granted(_), _) => Some(Event::GivenBack(ticket)),
-        (Some(ticket), DeskAct::Quiet, None) => Some(Event::GivenBack(ticket)),
+        (Some(ticket), DeskAct::Granted(_), _) => Some(NodeEvent::GivenBack(ticket)),
+        (Some(ticket), DeskAct::Quiet, None) => Some(NodeEvent::GivenBack(ticket)),
         _ => None,
     }
 }
 
 /// Who was granted the lock or lost it.
-fn by_act(act: DeskAct) -> Option<Event>
+fn by_act(act: DeskAct) -> Option<NodeEvent>
     ensures { result ≡ by_act act }
 {
     match act {
-        DeskAct::Granted(ticket) => Some(Event::Granted(ticket)),
-        DeskAct::Lost(ticket) => Some(Event::Lost(ticket)),
+        DeskAct::Granted(ticket) => Some(NodeEvent::Granted(ticket)),
+        DeskAct::Lost(ticket) => Some(NodeEvent::Lost(ticket)),
         DeskAct::Quiet => None,
     }
 }

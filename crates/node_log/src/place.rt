@@ -2,14 +2,14 @@
 ghost use Rattle.std.specs.Prelude.{◌≡◌};
 ghost use Rattle.node_log.specs.Places.{by_place, place_after};
 
-use crate::event::Event;
+use crate::event::NodeEvent;
 
 /// After so many microseconds out of its place a node says so. Recovery mostly takes less.
 const PATIENCE: u64 = 2_000_000;
 
 /// Whether a node's distance and parent are those of the network, as was seen so far.
 #[derive(Clone, Copy, Drop)]
-pub enum Place {
+pub enum PlaceSeen {
     /// They are.
     Right,
     /// They have not been since this time, in microseconds.
@@ -18,27 +18,31 @@ pub enum Place {
     Said,
 }
 
-impl Place {
+impl PlaceSeen {
     /// Takes note of whether they are right at this time, and returns what to say of it.
-    pub fn see(&mut self, is_right: bool, now: u64) -> Option<Event>
+    pub fn see(&mut self, is_right: bool, now: u64) -> Option<NodeEvent>
         ensures event { result ≡ by_place is_right now self.old }
         ensures after { self.new ≡ place_after is_right now self.old }
     {
         if is_right {
-            let was_said = matches!(*self, Place::Said);
-            *self = Place::Right;
-            return if was_said { Some(Event::InPlace) } else { None };
+            let was_said = matches!(*self, PlaceSeen::Said);
+            *self = PlaceSeen::Right;
+            return if was_said {
+                Some(NodeEvent::InPlace)
+            } else {
+                None
+            };
         }
         match *self {
-            Place::Right => {
-                *self = Place::WrongSince(now);
+            PlaceSeen::Right => {
+                *self = PlaceSeen::WrongSince(now);
                 None
             }
-            Place::WrongSince(since) if now.saturating_sub(since) >= PATIENCE => {
-                *self = Place::Said;
-                Some(Event::Astray)
+            PlaceSeen::WrongSince(since) if now.saturating_sub(since) >= PATIENCE => {
+                *self = PlaceSeen::Said;
+                Some(NodeEvent::Astray)
             }
-            Place::WrongSince(_) | Place::Said => None,
+            PlaceSeen::WrongSince(_) | PlaceSeen::Said => None,
         }
     }
 }

@@ -2,7 +2,7 @@
 use Rattle.std.proofs.Common.{true, ◌∷◌, None, Some, refl, inl, inr, arith, []}
 use Rattle.topology.specs.declared.frame.Frame.{Frame}
 use Rattle.pace.specs.Ports.{fresh_port}
-use Rattle.pace.specs.declared.pace.Pace.{Pace}
+use Rattle.pace.specs.declared.pace.TurnPace.{TurnPace}
 use Rattle.pace.specs.declared.port.PortPace.{PortPace}
 use Rattle.node_loop.specs.Remembering.{Remembers, StillGiven}
 
@@ -28,7 +28,7 @@ unfolding given
 still_not-later (inl e) = grind (arith, e.1)
 still_not-later (inr none) = grind (arith, none)
 
-pace : PortPace → Pace
+pace : PortPace → TurnPace
 pace port = record {
   manner = record { hold = 2000; repeat = 8000 };
   node = record { hold_until = 0; credit = 0; called_at = 0; ticked_at = 1000 };
@@ -36,7 +36,7 @@ pace port = record {
 }
 
 -- what a pace knows of its node may change
-remembers-ticked : (p : Pace) → Remembers p (record p { node = record p.node { ticked_at = 3000 } })
+remembers-ticked : (p : TurnPace) → Remembers p (record p { node = record p.node { ticked_at = 3000 } })
 remembers-ticked p = record { manner = refl; ports = λ w. inl (refl, refl) }
 
 -- its manner may not

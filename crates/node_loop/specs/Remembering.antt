@@ -1,7 +1,7 @@
 -- What a pace remembers of the frames that the ports were given.
 use Rattle.std.specs.Prelude.{◌≡◌, ◌⊎◌, ℕ, None}
 use Rattle.pace.specs.Plans.{port_of}
-use Rattle.pace.specs.declared.pace.Pace.{Pace}
+use Rattle.pace.specs.declared.pace.TurnPace.{TurnPace}
 use Rattle.pace.specs.declared.port.PortPace.{PortPace}
 
 -- The frame that the port was given last, and when, is remembered still; or the port has a new
@@ -11,6 +11,6 @@ StillGiven old new =
     ((new.given ≡ old.given) × (new.given_at ≡ old.given_at)) ⊎ (new.given ≡ None)
 
 -- So it is at each port, and the pace has the same manner.
-pub record Remembers (old new : Pace) : Type 0 where
+pub record Remembers (old new : TurnPace) : Type 0 where
   pub manner : new.manner ≡ old.manner
   pub ports : (p : ℕ) → StillGiven (port_of old.ports p) (port_of new.ports p)

@@ -23,7 +23,7 @@ use node_connections::port::NodePort;
 use node_connections::{Doors, reserve};
 use node_core::{Node, Ticked};
 use node_service::Notes;
-use pace::{Manner, Pace};
+use pace::{Manner, TurnPace};
 use state_writing::Store;
 use std::alloc::{AllocError, Allocator, Global};
 use topology::Net;
@@ -44,7 +44,7 @@ pub struct NodeRun<D: Doors, S: Store + Drop, A: Allocator + Copy = Global> {
     store: S,
     net: Net,
     node: Node<A>,
-    pace: Pace,
+    pace: TurnPace,
     /// One for each node, by its id. Only those of neighbours have connections.
     ports: Vec<NodePort<D::P>, A>,
     lobby: Lobby<D::P, A>,
@@ -98,7 +98,7 @@ impl<D: Doors, S: Store + Drop, A: Allocator + Copy> NodeRun<D, S, A> {
                 store,
                 net,
                 node,
-                pace: Pace::new(manner),
+                pace: TurnPace::new(manner),
                 ports,
                 lobby,
                 clients,

@@ -29,5 +29,5 @@ mod start;
 
 pub use look_window::USUAL_LIMIT;
 pub use record_files::process_parts::{
-    NodeFault, NodeWords, RecordSize, Refusal, Rights, USUAL_SIZE,
+    NodeFault, NodeWords, ProcessRefusal, RecordSize, Rights, USUAL_SIZE,
 };

@@ -1,7 +1,7 @@
 //! `node FILE ID DIR`: a node of a network as a process.
 ghost use Rattle.std.specs.Prelude.{◌≡◌, ◌↔◌, ◌<◌, Some, None, IfOk, IfErr, IsTrue, length};
 ghost use Rattle.topology.specs.Change.{is_same_frame};
-ghost use Rattle.record_files.specs.process_parts.declared.start.Stage.TheVariants.{Held};
+ghost use Rattle.record_files.specs.process_parts.declared.start.StartStage.TheVariants.{Held};
 ghost use Rattle.node_process.specs.Ends.{end_fault, ends_by};
 
 use crate::observer::Observer;
@@ -13,7 +13,7 @@ use node_folder::{
 };
 use node_loop::{Doors, NodeRun};
 use record_files::process_parts::{
-    AfterSave, NodeFault, NodePaths, NodeWords, Stage, after_save, read_network, set_mode,
+    AfterSave, NodeFault, NodePaths, NodeWords, StartStage, after_save, read_network, set_mode,
 };
 use std::alloc::Global;
 use std::fs::File;
@@ -37,7 +37,7 @@ pub fn run<R>(rt: &R, words: &NodeWords<'_>) -> Result<(), NodeFault>
 where
     R: Files<File = File> + Sockets + Clock + Env + Input + Print + Eprint + AllocGlobal,
 {
-    let mut stage = Stage::Begun;
+    let mut stage = StartStage::Begun;
     let net = check_words(rt, words, &mut stage)?;
     match take_place(rt, words, &mut stage) {
         // The place is held until the node ends.
@@ -60,7 +60,12 @@ where
 }
 
 /// Runs the node whose place is held, over sockets and a file of the folder.
-fn run_over_files<R>(rt: &R, seat: &Seat<'_, '_>, net: Net, stage: Stage) -> Result<(), NodeFault>
+fn run_over_files<R>(
+    rt: &R,
+    seat: &Seat<'_, '_>,
+    net: Net,
+    stage: StartStage,
+) -> Result<(), NodeFault>
 where
     R: Files<File = File> + Sockets + Clock + Env + Input + Print + Eprint + AllocGlobal,
     requires node { seat.now.words.now.id < net.nodes }
@@ -82,7 +87,7 @@ fn run_in_place<R, O: Opener, S: Store + Drop>(
     opener: &O,
     store: S,
     net: Net,
-    mut stage: Stage,
+    mut stage: StartStage,
 ) -> Result<(), NodeFault>
 where
     R: Files<File = File> + Sockets + Clock + Env + Input + Print + Eprint + AllocGlobal,

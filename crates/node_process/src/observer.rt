@@ -2,9 +2,9 @@
 ghost use Rattle.std.specs.Prelude.{◌≡◌, ◌↔◌, None, IfOk, IfSome, IsSome, not, is_some};
 ghost use Rattle.record_files.specs.Noted.{HasTurn};
 
-use look_window::Window;
+use look_window::LookNotes;
 use node_folder::{ClientSight, Stopwatch, Store};
-use node_journal::{Event, Journal};
+use node_journal::{NodeEvent, NodeJournal};
 use node_loop::{Doors, NodeRun, Notes, Turned};
 use record_files::Tape;
 use record_files::process_parts::{NodeFault, NodeWords};
@@ -17,9 +17,9 @@ pub struct Observer<'a, 'w, R> {
     /// Its clock.
     pub watch: Stopwatch<'a, R>,
     /// What it notes of itself for lookers.
-    pub window: Window<'w>,
+    pub window: LookNotes<'w>,
     /// What it says of itself.
-    pub journal: Journal<'a, R>,
+    pub journal: NodeJournal<'a, R>,
     /// Its deeds in the last turn, if it keeps a record.
     pub notes: Notes,
     /// Its record, if it keeps one.
@@ -48,8 +48,8 @@ impl<'a, 'w, R: Files<File = File> + Clock + Eprint + AllocGlobal> Observer<'a, 
         let now = watch.now();
         let (notes, tape) = recording(rt, words, run, now)?;
         Ok(Observer {
-            window: Window::open(rt, words.turn, words.version, now),
-            journal: Journal::begin(rt, words, now),
+            window: LookNotes::open(rt, words.turn, words.version, now),
+            journal: NodeJournal::begin(rt, words, now),
             notes,
             tape,
             watch,
@@ -168,7 +168,7 @@ impl<'a, 'w, R: Files<File = File> + Clock + Eprint + AllocGlobal> Observer<'a, 
     pub fn ends(&mut self, now: u64)
         ensures keeps { is_some self.new.tape ≡ is_some self.old.tape }
     {
-        self.journal.say(Event::Ends, now);
+        self.journal.say(NodeEvent::Ends, now);
         if let Some(tape) = &mut self.tape {
             tape.end();
         }

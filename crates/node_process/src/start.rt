@@ -4,11 +4,11 @@ ghost use Rattle.node_loop.specs.node_core.Site.{site_of};
 ghost use Rattle.node_loop.specs.node_core.View.{site_in};
 ghost use Rattle.record_files.specs.process_parts.Start.{may_end};
 ghost use Rattle.record_files.specs.process_parts.declared.fault.NodeFault.TheVariants.{Memory};
-ghost use Rattle.record_files.specs.process_parts.declared.start.Stage.TheVariants.{Held, Ready};
+ghost use Rattle.record_files.specs.process_parts.declared.start.StartStage.TheVariants.{Held, Ready};
 
 use node_folder::{Names, Opener, Seat, Started, Store, say_ready, start};
 use node_loop::{Doors, Node, NodeRun};
-use record_files::process_parts::{NodeFault, NodeWords, Stage};
+use record_files::process_parts::{NodeFault, NodeWords, StartStage};
 use std::alloc::Global;
 use std::rt::Env;
 use topology::Net;
@@ -20,7 +20,7 @@ pub fn start_node<'a, R, O: Opener, S: Store + Drop>(
     opener: &O,
     mut store: S,
     net: Net,
-    stage: &mut Stage,
+    stage: &mut StartStage,
 ) -> Result<(NodeRun<O::D, S>, Names<'a>), NodeFault>
 where
     R: Env + Print + AllocGlobal,
@@ -47,7 +47,7 @@ fn open_node<'a, R, O: Opener, S: Store + Drop>(
     net: Net,
     started: Started<Global>,
     store: S,
-    stage: &mut Stage,
+    stage: &mut StartStage,
 ) -> Result<(NodeRun<O::D, S>, Names<'a>), NodeFault>
 where
     R: Env + Print + AllocGlobal,

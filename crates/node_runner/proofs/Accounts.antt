@@ -5,7 +5,7 @@ use Rattle.std.specs.List.{AllByRecursion}
 use Rattle.topology.specs.Network.{Network}
 use Rattle.run_model.specs.node_core.Site.{site_of}
 use Rattle.run_model.specs.node_core.State.{LocalState}
-use Rattle.weaving.specs.declared.journal.Entry.{Entry}
+use Rattle.weaving.specs.declared.journal.JournalEntry.{JournalEntry}
 use Rattle.weaving.specs.Woven.{AreRising}
 use Rattle.link_model.specs.declared.item.Item.{Item}
 use Rattle.link_model.specs.declared.item.Item.TheVariants.{Noise, Frame}
@@ -61,11 +61,11 @@ all-push P [] y all one = (one, tt)
 all-push P (x ∷ xs) y all one = (all.0, all-push P xs y all.1 one)
 
 -- later clocks are above what earlier ones were above
-pub all-below : (xs : List Entry) (a b : ℕ) → a ≤ b → AllByRecursion (λ e. e.stamp ≤ a) xs → AllByRecursion (λ e. e.stamp ≤ b) xs
+pub all-below : (xs : List JournalEntry) (a b : ℕ) → a ≤ b → AllByRecursion (λ e. e.stamp ≤ a) xs → AllByRecursion (λ e. e.stamp ≤ b) xs
 all-below [] a b le all = tt
 all-below (x ∷ xs) a b le all = (let h = all.0 in omega arith, all-below xs a b le all.1)
 
-pub rising-push : (xs : List Entry) (clock : ℕ) (y : Entry) → AreRising xs → AllByRecursion (λ e. e.stamp ≤ clock) xs → clock < y.stamp → AreRising (xs ++ y ∷ [])
+pub rising-push : (xs : List JournalEntry) (clock : ℕ) (y : JournalEntry) → AreRising xs → AllByRecursion (λ e. e.stamp ≤ clock) xs → clock < y.stamp → AreRising (xs ++ y ∷ [])
 rising-push [] clock y rising below later = (tt, tt)
 rising-push (x ∷ xs) clock y rising below later =
     (all-push (λ e. x.stamp < e.stamp) xs y rising.0 (let h = below.0 in omega arith), rising-push xs clock y rising.1 below.1 later)

@@ -11,7 +11,7 @@ use Rattle.run_model.specs.World.{World}
 use Rattle.weaving.specs.Account.{Note, sent_to, taken_from, entry_of, Leads}
 use Rattle.node_runner.specs.declared.ports.Incoming.{Incoming}
 use Rattle.node_runner.specs.declared.ports.Outgoing.{Outgoing}
-use Rattle.node_runner.specs.declared.runner.Port.{Port}
+use Rattle.node_runner.specs.declared.runner.RunnerPort.{RunnerPort}
 use Rattle.node_runner.specs.declared.runner.Runner.{Runner}
 use Rattle.node_runner.specs.Ports.{SameIncoming, SameOutgoing}
 use Rattle.node_runner.specs.Runner.{IsNoted, IsPortNoted, IsReady, Does, IsSamePort, AreSamePorts, port_ids}
@@ -20,19 +20,19 @@ use Rattle.node_runner.proofs.Deeds.{Noted}
 use Rattle.node_runner.proofs.PortLists.{default-free, port-is-known, ports-same, ids-set, ports-said}
 
 -- p is the port at a place of the node
-pub record IsAt {A : Type 0} (a : Runner A) (k : ℕ) (p : Port A) : Type 0 where
+pub record IsAt {A : Type 0} (a : Runner A) (k : ℕ) (p : RunnerPort A) : Type 0 where
   pub within : k < length a.ports.items
   pub value : p ≡ slice_index_or a.ports.items k p
   pub ready : IsReady a
 
 -- a port of which one end is another of the same rings
-pub same-sending : {A : Type 0} (p : Port A) (q : Outgoing A) → SameOutgoing p.outgoing q → IsSamePort p (record p { outgoing = q })
+pub same-sending : {A : Type 0} (p : RunnerPort A) (q : Outgoing A) → SameOutgoing p.outgoing q → IsSamePort p (record p { outgoing = q })
 same-sending p q same = let stays : SameIncoming p.incoming p.incoming = search rules in (refl, same, stays)
 
-pub same-taking : {A : Type 0} (p : Port A) (q : Incoming A) → SameIncoming p.incoming q → IsSamePort p (record p { incoming = q })
+pub same-taking : {A : Type 0} (p : RunnerPort A) (q : Incoming A) → SameIncoming p.incoming q → IsSamePort p (record p { incoming = q })
 same-taking p q same = let stays : SameOutgoing p.outgoing p.outgoing = search rules in (refl, stays, same)
 
-module _ {A : Type 0} {a : Runner A} {k : ℕ} {p : Port A} (at : IsAt a k p) where
+module _ {A : Type 0} {a : Runner A} {k : ℕ} {p : RunnerPort A} (at : IsAt a k p) where
   pub known : Contains (site_in a.node).neighbours p.neighbour
   known =
       subst (λ ns. Contains ns p.neighbour) at.ready.ports
@@ -47,7 +47,7 @@ module _ {A : Type 0} {a : Runner A} {k : ℕ} {p : Port A} (at : IsAt a k p) wh
   pub port-was : (w : World) (v : ℕ) (past : List Note) → IsNoted w v past a → IsPortNoted w v past p
   port-was w v past was = subst (IsPortNoted w v past) (sym at.value) (was.ports k p at.within)
 
-  module _ (x : Port A) (same : IsSamePort p x) where
+  module _ (x : RunnerPort A) (same : IsSamePort p x) where
     there : p ≡ slice_index_or a.ports.items k x
     there = at.value ∙ default-free a.ports.items k p x at.within
 

@@ -7,32 +7,32 @@ use Rattle.std.proofs.lemmas.List.{length-set, get_or-set_same, get_or-set_other
 use Rattle.std.proofs.lemmas.List.Kept.{AllPairs-from_increasing}
 use Rattle.run_model.specs.World.{World}
 use Rattle.weaving.specs.Account.{Note, sent_to, taken_from}
-use Rattle.node_runner.specs.declared.runner.Port.{Port}
+use Rattle.node_runner.specs.declared.runner.RunnerPort.{RunnerPort}
 use Rattle.node_runner.specs.Ports.{IsSender, IsReceiver}
 use Rattle.node_runner.specs.Runner.{IsPortNoted, IsSamePort, AreSamePorts}
 use Rattle.node_runner.proofs.Accounts.{sent-on, taken-on}
 
 module _ {A : Type 0} where
-  abbrev neighbour : Port A → ℕ
+  abbrev neighbour : RunnerPort A → ℕ
   neighbour p = p.neighbour
 
-  pub same-port : (p : Port A) → IsSamePort p p
+  pub same-port : (p : RunnerPort A) → IsSamePort p p
   same-port p = search rules
 
-  pub all-same : (ps : List (Port A)) → AreSamePorts ps ps
+  pub all-same : (ps : List (RunnerPort A)) → AreSamePorts ps ps
   all-same ps = (refl, λ k d within. same-port (slice_index_or ps k d))
 
-  pub long : (ps : List (Port A)) → length (map neighbour ps) ≡ length ps
+  pub long : (ps : List (RunnerPort A)) → length (map neighbour ps) ≡ length ps
   long [] = refl
   long (p ∷ ps) = ap suc (long ps)
 
-  pub default-free : (ps : List (Port A)) (k : ℕ) (d e : Port A) → k < length ps → slice_index_or ps k d ≡ slice_index_or ps k e
+  pub default-free : (ps : List (RunnerPort A)) (k : ℕ) (d e : RunnerPort A) → k < length ps → slice_index_or ps k d ≡ slice_index_or ps k e
   default-free ps k d e within = grind (arith, common_steps)
 
-  pub port-is-known : (ps : List (Port A)) (k : ℕ) (d : Port A) → k < length ps → Contains (map neighbour ps) (slice_index_or ps k d).neighbour
+  pub port-is-known : (ps : List (RunnerPort A)) (k : ℕ) (d : RunnerPort A) → k < length ps → Contains (map neighbour ps) (slice_index_or ps k d).neighbour
   port-is-known ps k d within = (k, (let l = long ps in omega arith), get_or-map neighbour ps k d (slice_index_or ps k d).neighbour within)
 
-  differs : (ps : List (Port A)) (i j : ℕ) (d e : Port A) → IsStrictlyIncreasing (map neighbour ps) → i ≢ j → i < length ps → j < length ps
+  differs : (ps : List (RunnerPort A)) (i j : ℕ) (d e : RunnerPort A) → IsStrictlyIncreasing (map neighbour ps) → i ≢ j → i < length ps → j < length ps
       → (slice_index_or ps i d).neighbour ≢ (slice_index_or ps j e).neighbour
   differs ps i j d e ascend apart first second = λ same.
       let ns = map neighbour ps in
@@ -46,7 +46,7 @@ module _ {A : Type 0} where
         | inr lt ↦ let h = pairs j i 0 lt (omega arith) in absurd (omega arith)
       ]
 
-  pub ports-same : (ps : List (Port A)) (k : ℕ) (x : Port A) → k < length ps → IsSamePort (slice_index_or ps k x) x → AreSamePorts ps (set ps k x)
+  pub ports-same : (ps : List (RunnerPort A)) (k : ℕ) (x : RunnerPort A) → k < length ps → IsSamePort (slice_index_or ps k x) x → AreSamePorts ps (set ps k x)
   ports-same ps k x within same = (
     length-set ps k x,
     λ j d below. elim (cases_eq j k) [
@@ -58,13 +58,13 @@ module _ {A : Type 0} where
     ],
   )
 
-  pub ids-set : (ps : List (Port A)) (k : ℕ) (x : Port A) → k < length ps → x.neighbour ≡ (slice_index_or ps k x).neighbour → map neighbour (set ps k x) ≡ map neighbour ps
+  pub ids-set : (ps : List (RunnerPort A)) (k : ℕ) (x : RunnerPort A) → k < length ps → x.neighbour ≡ (slice_index_or ps k x).neighbour → map neighbour (set ps k x) ≡ map neighbour ps
   ids-set [] k x within same = refl
   ids-set (p ∷ ps) zero x within same = ap (λ n. n ∷ map neighbour ps) same
   ids-set (p ∷ ps) (suc k) x within same = ap (λ ns. p.neighbour ∷ ns) (ids-set ps k x (omega arith) same)
 
   module _ (w : World) (v : ℕ) (past es : List Note) where
-    pub port-stays : (p : Port A) → sent_to p.neighbour es ≡ [] → taken_from p.neighbour es ≡ [] → IsPortNoted w v past p → IsPortNoted w v (past ++ es) p
+    pub port-stays : (p : RunnerPort A) → sent_to p.neighbour es ≡ [] → taken_from p.neighbour es ≡ [] → IsPortNoted w v past p → IsPortNoted w v (past ++ es) p
     port-stays p none-sent none-taken was =
         let n = p.neighbour in
         let sends : sent_to n past ≡ sent_to n (past ++ es) = sym (sent-on n past es ∙ (ap (λ xs. sent_to n past ++ xs) none-sent ∙ append-nil (sent_to n past))) in
@@ -73,11 +73,11 @@ module _ {A : Type 0} where
           subst (λ xs. IsReceiver w.net.capacity (length (w.link n v)) xs p.incoming) takes was.1,
         )
 
-    pub ports-stay : (ps : List (Port A)) → ((u : ℕ) → (sent_to u es ≡ []) × (taken_from u es ≡ [])) → All (IsPortNoted w v past) ps → All (IsPortNoted w v (past ++ es)) ps
+    pub ports-stay : (ps : List (RunnerPort A)) → ((u : ℕ) → (sent_to u es ≡ []) × (taken_from u es ≡ [])) → All (IsPortNoted w v past) ps → All (IsPortNoted w v (past ++ es)) ps
     ports-stay ps none was = λ k d within.
         let p = slice_index_or ps k d in port-stays p (none p.neighbour).0 (none p.neighbour).1 (was k d within)
 
-    pub ports-said : (ps : List (Port A)) (k : ℕ) (x : Port A) → k < length ps → IsStrictlyIncreasing (map neighbour ps) → x.neighbour ≡ (slice_index_or ps k x).neighbour
+    pub ports-said : (ps : List (RunnerPort A)) (k : ℕ) (x : RunnerPort A) → k < length ps → IsStrictlyIncreasing (map neighbour ps) → x.neighbour ≡ (slice_index_or ps k x).neighbour
         → ((u : ℕ) → u ≢ x.neighbour → (sent_to u es ≡ []) × (taken_from u es ≡ [])) → All (IsPortNoted w v past) ps → IsPortNoted w v (past ++ es) x
         → All (IsPortNoted w v (past ++ es)) (set ps k x)
     ports-said ps k x within ascend same others was one = λ j d below. elim (cases_eq j k) [

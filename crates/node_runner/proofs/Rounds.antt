@@ -11,7 +11,7 @@ use Rattle.rtrb.specs.Ring.{SameProducer, SameConsumer}
 use Rattle.rtrb.specs.declared.producer.Producer.{Producer}
 use Rattle.rtrb.specs.declared.consumer.Consumer.{Consumer}
 use Rattle.weaving.specs.Account.{Note, Ticked, sent_to, taken_from}
-use Rattle.node_runner.specs.declared.runner.Port.{Port}
+use Rattle.node_runner.specs.declared.runner.RunnerPort.{RunnerPort}
 use Rattle.node_runner.specs.declared.runner.Runner.{Runner}
 use Rattle.node_runner.specs.Runner.{IsNoted, IsReady, Does, IsSamePort, AreSamePorts, IsOneSend, IsOneTake, port_ids, round_room}
 use Rattle.node_runner.specs.Rounds.{AreSendsTo, AreTakesFrom, IsRound, AreRounds}
@@ -28,7 +28,7 @@ producer-trans a b c x y = ((y.0.0 ∙ x.0.0, y.0.1 ∙ x.0.1, y.0.2 ∙ x.0.2, 
 consumer-trans : {T A P : Type 0} (a b c : Consumer T A P) → SameConsumer a b → SameConsumer b c → SameConsumer a c
 consumer-trans a b c x y = ((y.0.0 ∙ x.0.0, y.0.1 ∙ x.0.1, y.0.2 ∙ x.0.2, y.0.3 ∙ x.0.3), y.1 ∙ x.1)
 
-port-trans : {A : Type 0} (a b c : Port A) → IsSamePort a b → IsSamePort b c → IsSamePort a c
+port-trans : {A : Type 0} (a b c : RunnerPort A) → IsSamePort a b → IsSamePort b c → IsSamePort a c
 port-trans a b c x y = (
   y.0 ∙ x.0,
   (producer-trans a.outgoing.frames b.outgoing.frames c.outgoing.frames x.1.0 y.1.0, consumer-trans a.outgoing.places b.outgoing.places c.outgoing.places x.1.1 y.1.1),
@@ -36,7 +36,7 @@ port-trans a b c x y = (
 )
 
 module _ {A : Type 0} where
-  ports-trans : (xs ys zs : List (Port A)) → AreSamePorts xs ys → AreSamePorts ys zs → AreSamePorts xs zs
+  ports-trans : (xs ys zs : List (RunnerPort A)) → AreSamePorts xs ys → AreSamePorts ys zs → AreSamePorts xs zs
   ports-trans xs ys zs x y = (
     y.0 ∙ x.0,
     λ k d within. port-trans (slice_index_or xs k d) (slice_index_or ys k d) (slice_index_or zs k d) (x.1 k d within) (y.1 k d (subst (λ n. k < n) (sym x.0) within)),

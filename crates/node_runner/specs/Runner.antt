@@ -7,14 +7,14 @@ use Rattle.run_model.specs.World.{World}
 use Rattle.weaving.specs.declared.journal.Stamped.{Stamped}
 use Rattle.weaving.specs.Woven.{AreRising}
 use Rattle.weaving.specs.Account.{Note, Sent, Took, entry_of, sent_to, taken_from, Leads}
-use Rattle.node_runner.specs.declared.runner.Port.{Port}
+use Rattle.node_runner.specs.declared.runner.RunnerPort.{RunnerPort}
 use Rattle.node_runner.specs.declared.runner.Runner.{Runner}
 use Rattle.node_runner.specs.Stamps.{last_stamp}
 use Rattle.node_runner.specs.Ports.{IsSender, IsReceiver, SameOutgoing, SameIncoming}
 
 -- The ends of v's links to and from a neighbour have seen what the account says, in a run that
 -- began with this world.
-abbrev pub IsPortNoted : {A : Type 0} → World → ℕ → List Note → Port A → Type 0
+abbrev pub IsPortNoted : {A : Type 0} → World → ℕ → List Note → RunnerPort A → Type 0
 IsPortNoted w v account p =
     IsSender w.net.capacity (w.link v p.neighbour) (sent_to p.neighbour account) p.outgoing
     × IsReceiver w.net.capacity (length (w.link p.neighbour v)) (taken_from p.neighbour account) p.incoming
@@ -45,12 +45,12 @@ pub record IsReady {A : Type 0} (r : Runner A) : Type 0 where
   pub ports : port_ids r ≡ (site_in r.node).neighbours
 
 -- these are ends of the same rings
-abbrev pub IsSamePort : {A : Type 0} → Port A → Port A → Type 0
+abbrev pub IsSamePort : {A : Type 0} → RunnerPort A → RunnerPort A → Type 0
 IsSamePort a b = (b.neighbour ≡ a.neighbour) × SameOutgoing a.outgoing b.outgoing × SameIncoming a.incoming b.incoming
 
 -- each is the same port
-abbrev pub AreSamePorts : {A : Type 0} → List (Port A) → List (Port A) → Type 0
-AreSamePorts {A} ps qs = (length qs ≡ length ps) × ((k : ℕ) (d : Port A) → k < length ps → IsSamePort (slice_index_or ps k d) (slice_index_or qs k d))
+abbrev pub AreSamePorts : {A : Type 0} → List (RunnerPort A) → List (RunnerPort A) → Type 0
+AreSamePorts {A} ps qs = (length qs ≡ length ps) × ((k : ℕ) (d : RunnerPort A) → k < length ps → IsSamePort (slice_index_or ps k d) (slice_index_or qs k d))
 
 -- Between two moments a node did this: any account that held before holds now with these notes
 -- added. Each note has an entry, in room that was there.

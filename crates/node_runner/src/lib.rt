@@ -4,7 +4,7 @@
 //! A node sends over an [`Outgoing`] and takes from an [`Incoming`], its ends of the two links to
 //! a neighbour. Each link is a ring of `rtrb` for items, and one for the places that items leave
 //! free. Each item and each place has the stamp of the event that sent it. A [`Runner`] is a node
-//! with its [`Port`]s, its clock, and the journal of what it did.
+//! with its [`RunnerPort`]s, its clock, and the journal of what it did.
 //!
 //! ```
 //! let mut runner = Runner { id, node, ports, clock: 0, journal };
@@ -24,5 +24,5 @@ mod runner;
 
 pub use gates::{Gate, Meet, Open, Pace};
 pub use ports::{Incoming, Outgoing, StampBound};
-pub use runner::{Port, Runner};
+pub use runner::{Runner, RunnerPort};
 pub use weaving::{Journal, Stamped, weave};

@@ -3,7 +3,7 @@ ghost use Rattle.std.specs.Prelude.{◌≡◌, ◌+◌, ◌<◌, ◌≤◌, ◌*
 ghost use Rattle.std.specs.Prelude.{vec_capacity, slice_index_or};
 ghost use Rattle.run_model.specs.node_core.View.{site_in};
 ghost use Rattle.weaving.specs.Account.{Note, Ticked, Sent, Took};
-ghost use Rattle.node_runner.specs.declared.runner.Port.{Port};
+ghost use Rattle.node_runner.specs.declared.runner.RunnerPort.{RunnerPort};
 ghost use Rattle.node_runner.specs.Runner.{IsReady, Does, IsOneSend, IsOneTake, port_ids};
 ghost use Rattle.node_runner.specs.Runner.{round_room};
 ghost use Rattle.node_runner.specs.Rounds.{AreSendsTo, AreTakesFrom, IsRound, AreRounds};
@@ -16,11 +16,11 @@ use link_model::Item;
 use run_model::{Event, Node};
 use std::alloc::{Allocator, Global};
 use topology::laws as topology_laws;
-use weaving::{Entry, Journal};
+use weaving::{Journal, JournalEntry};
 
 /// A node's ends of the two links that join it to a neighbour.
 #[derive(Drop)]
-pub struct Port<A: Allocator = Global> {
+pub struct RunnerPort<A: Allocator = Global> {
     /// The neighbour's id.
     pub neighbour: u16,
     /// The end of the link to it.
@@ -37,7 +37,7 @@ pub struct Runner<A: Allocator = Global> {
     /// The node.
     pub node: Node<A>,
     /// Its ports, by ascending ids of the neighbours.
-    pub ports: Vec<Port<A>, A>,
+    pub ports: Vec<RunnerPort<A>, A>,
     /// The stamp of the last thing that it did; 0 at the start.
     pub clock: u64,
     /// What it did, in order.
@@ -57,7 +57,9 @@ impl<A: Allocator> Runner<A> {
             × (self.new.ports ≡ self.old.ports) }
     {
         self.clock = stamp;
-        self.journal.entries.push_reserved(Entry { stamp, event });
+        self.journal
+            .entries
+            .push_reserved(JournalEntry { stamp, event });
     }
 
     /// The node ticks.

@@ -18,5 +18,5 @@ mod stopping;
 
 pub use lines::{Ending, EndingLine};
 pub use runner::{RunnerLine, warn_of_runner};
-pub use steps::{Sight, Step, next};
+pub use steps::{LockSight, StopStep, next};
 pub use stopping::run;

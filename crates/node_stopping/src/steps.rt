@@ -6,7 +6,7 @@ use crate::lines::Ending;
 
 /// What is seen of a node's lock file.
 #[derive(Clone, Copy)]
-pub enum Sight {
+pub enum LockSight {
     /// It is not there, or nobody holds it.
     Free,
     /// A process holds it.
@@ -17,7 +17,7 @@ pub enum Sight {
 
 /// What is done next.
 #[derive(Clone, Copy)]
-pub enum Step {
+pub enum StopStep {
     /// Its stop file is made.
     Ask,
     /// It is looked at again after a while.
@@ -28,15 +28,15 @@ pub enum Step {
 
 /// What is done next with a node, by what is seen of it, whether its stop file was made, and whether the
 /// time is over.
-pub fn next(sight: Sight, was_asked: bool, is_late: bool) -> Step
+pub fn next(sight: LockSight, was_asked: bool, is_late: bool) -> StopStep
     ensures { result ≡ next sight was_asked is_late }
 {
     match sight {
-        Sight::Hidden => Step::Done(Ending::Hidden),
-        Sight::Free if was_asked => Step::Done(Ending::Ended),
-        Sight::Free => Step::Done(Ending::NotRunning),
-        Sight::Held if !was_asked => Step::Ask,
-        Sight::Held if is_late => Step::Done(Ending::Late),
-        Sight::Held => Step::Wait,
+        LockSight::Hidden => StopStep::Done(Ending::Hidden),
+        LockSight::Free if was_asked => StopStep::Done(Ending::Ended),
+        LockSight::Free => StopStep::Done(Ending::NotRunning),
+        LockSight::Held if !was_asked => StopStep::Ask,
+        LockSight::Held if is_late => StopStep::Done(Ending::Late),
+        LockSight::Held => StopStep::Wait,
     }
 }

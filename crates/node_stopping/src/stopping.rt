@@ -2,7 +2,7 @@
 ghost use Rattle.std.specs.Prelude.{◌≡◌, if◌then◌else◌, ◌≤◌};
 
 use crate::lines::{Ending, EndingLine};
-use crate::steps::{Sight, Step, next};
+use crate::steps::{LockSight, StopStep, next};
 use node_texts::NodePaths;
 use node_texts::desk_file::nodes_in;
 use std::fs::{File, OpenOptions};
@@ -69,7 +69,7 @@ fn is_kept_up<R: Files<File = File> + AllocGlobal>(rt: &R, dir: &str) -> bool {
 
 /// Whether a process holds a lock file.
 pub fn is_held<F: Files<File = File>>(files: &F, path: &str) -> bool {
-    look_at(files, path) == Sight::Held
+    look_at(files, path) == LockSight::Held
 }
 
 /// The nodes that are named, or those that have a socket in the folder.
@@ -82,7 +82,7 @@ fn nodes_of<R: Files + AllocGlobal>(rt: &R, dir: &str, ids: &[u16]) -> io::Resul
 
 /// A node that was looked at, and asked to end if it runs.
 #[derive(Clone, Copy, Drop)]
-struct Asked {
+struct AskedToEnd {
     id: u16,
     /// How it went, if it is done with.
     ending: Option<Ending>,
@@ -96,7 +96,7 @@ where
     let mut all = Vec::new(rt.alloc());
     for id in ids {
         let ending = ask(rt, dir, *id);
-        if all.push(Asked { id: *id, ending }).is_err() {
+        if all.push(AskedToEnd { id: *id, ending }).is_err() {
             return false;
         }
     }
@@ -118,8 +118,8 @@ fn ask<R: Files<File = File> + AllocGlobal>(rt: &R, dir: &str, id: u16) -> Optio
         return Some(Ending::Unasked);
     };
     match next(look_at(rt, paths.lock.as_str()), false, false) {
-        Step::Done(ending) => Some(ending),
-        Step::Ask | Step::Wait => {
+        StopStep::Done(ending) => Some(ending),
+        StopStep::Ask | StopStep::Wait => {
             let mut options = OpenOptions::new();
             let made = options
                 .write(true)
@@ -143,7 +143,11 @@ where
         return Ending::Late;
     };
     for look in 0..=looks {
-        if let Step::Done(ending) = next(look_at(rt, paths.lock.as_str()), true, look == looks) {
+        if let StopStep::Done(ending) = next(
+            look_at(rt, paths.lock.as_str()),
+            true,
+            look == looks,
+        ) {
             if ending == Ending::Ended {
                 // A node that was killed has left it, and its next start would end by it.
                 let _ = fs::remove_file(rt, paths.stop.as_str());
@@ -156,14 +160,14 @@ where
 }
 
 /// What is seen of a lock file. Nobody's lock is kept for longer than a look.
-fn look_at<F: Files<File = File>>(files: &F, path: &str) -> Sight {
+fn look_at<F: Files<File = File>>(files: &F, path: &str) -> LockSight {
     match fs::open(files, path) {
         Ok(file) => match file.try_lock() {
-            Ok(()) => Sight::Free,
-            Err(_) => Sight::Held,
+            Ok(()) => LockSight::Free,
+            Err(_) => LockSight::Held,
         },
-        Err(error) if error.kind() == ErrorKind::NotFound => Sight::Free,
-        Err(_) => Sight::Hidden,
+        Err(error) if error.kind() == ErrorKind::NotFound => LockSight::Free,
+        Err(_) => LockSight::Hidden,
     }
 }
 

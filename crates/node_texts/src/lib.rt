@@ -26,7 +26,7 @@ mod thousandths;
 
 pub use answers::{NodeAnswer, all_answered, report};
 pub use lines::{CapacityLine, End, EndLine, SOCKET_FRAMES};
-pub use look::{Look, link_parts, look_line};
+pub use look::{LookAnswer, link_parts, look_line};
 pub use look_parts::{LinkPart, LoanPart, ProcessPart, TurnPart};
 pub use paths::{LONGEST_SOCKET_NAME, NodePaths, links_name, longest_socket_name};
 pub use premises::{PremisesLine, TurnsSaid, premises_report};

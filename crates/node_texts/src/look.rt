@@ -9,11 +9,11 @@ use crate::status_line::OrWord;
 use std::alloc::{AllocError, Global};
 use std::fmt;
 use std::fmt::Write;
-use turn_watch::Notes;
+use turn_watch::TurnNotes;
 
 /// What a node says of itself to whoever looks.
 #[derive(Drop)]
-pub struct Look<'a> {
+pub struct LookAnswer<'a> {
     /// What its status line says.
     pub status: StatusLine,
     /// The link to each neighbour.
@@ -37,7 +37,7 @@ pub struct Look<'a> {
 pub fn link_parts(
     alloc: Global,
     neighbours: &[u16],
-    notes: &Notes,
+    notes: &TurnNotes,
     now: u64,
 ) -> Result<Vec<LinkPart>, AllocError>
     ensures { IfOk result (λ parts. parts.items ≡ link_parts notes.now.links now neighbours.now) }
@@ -53,7 +53,7 @@ pub fn link_parts(
 ///
 /// # Errors
 /// If memory runs out.
-pub fn look_line(alloc: Global, look: &Look<'_>) -> Result<String, AllocError>
+pub fn look_line(alloc: Global, look: &LookAnswer<'_>) -> Result<String, AllocError>
     ensures { IfOk result (λ line. string_bytes line
         ≡ look_text look.now.status look.now.links.now look.now.loans look.now.turns
         look.now.process look.now.version.now look.now.rounds) }
@@ -107,7 +107,7 @@ fn push_other(text: &mut String, link: &LinkPart) -> Result<(), AllocError>
 }
 
 /// Adds what is left but for the rounds.
-fn push_rest(text: &mut String, look: &Look<'_>) -> Result<(), AllocError>
+fn push_rest(text: &mut String, look: &LookAnswer<'_>) -> Result<(), AllocError>
     ensures { OnOk result (string_bytes text.new
         ≡ string_bytes text.old ++ rest_text look.now.loans look.now.turns look.now.process
         look.now.version.now) }

@@ -4,7 +4,7 @@ ghost use Rattle.pace.specs.Laws.{EachPortIsGiven, EndsAgreeOnCalls, TicksGoOn, 
 /// Whatever the fields hold, as after damage to them: each port is given a frame once the
 /// repetition time is over, a tick is left out for a lease alone and for 2 milliseconds at most,
 /// and a hold ends. So damage costs time, and whoever counts sweeps need not look at a pace. That
-/// no rest is longer than 2 milliseconds is a clause of `Pace::rest`.
+/// no rest is longer than 2 milliseconds is a clause of `TurnPace::rest`.
 pub fn damage_costs_time_alone()
     ensures given { EachPortIsGiven }
     ensures ticks { TicksGoOn }

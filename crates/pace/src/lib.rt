@@ -4,7 +4,7 @@
 //! A frame that is sent again means nothing to the protocol. So a run of equal frames can carry a
 //! signal that costs it nothing. The second equal frame in a row is a question, which is answered
 //! at once. Each fourth one is a call for haste, which goes on through the tree, if it follows the
-//! third at once: within half of the time after which a frame is given again, 4 milliseconds at most. A [`Pace`] keeps
+//! third at once: within half of the time after which a frame is given again, 4 milliseconds at most. A [`TurnPace`] keeps
 //! what was given and heard at each port and when, and says before each turn what its [`Plan`] is,
 //! and after it how long to rest.
 //!
@@ -32,5 +32,5 @@ mod pace;
 mod port;
 
 pub use node::{NodePace, Outlook};
-pub use pace::{Manner, PORTS, Pace, Plan};
+pub use pace::{Manner, PORTS, Plan, TurnPace};
 pub use port::{Calling, Hearing, PortPace, PortSight};

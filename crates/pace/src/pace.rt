@@ -46,20 +46,20 @@ pub struct Plan {
 
 /// What a node remembers, so that it is quiet if nobody is in haste. It takes no memory.
 #[derive(Drop)]
-pub struct Pace {
+pub struct TurnPace {
     manner: Manner,
     node: NodePace,
     ports: [PortPace; PORTS],
 }
 
-impl Pace {
+impl TurnPace {
     /// A node that has been given nothing and has heard nothing yet.
-    pub fn new(manner: Manner) -> Pace
+    pub fn new(manner: Manner) -> TurnPace
         ensures manner { result.manner ≡ manner }
         ensures node { result.node ≡ quiet_node }
         ensures ports { (p : ℕ) → port_of result.ports p ≡ fresh_port }
     {
-        Pace {
+        TurnPace {
             manner,
             node: NodePace::new(),
             ports: fresh_ports(),
@@ -68,10 +68,10 @@ impl Pace {
 
     /// A node that remembers this, whatever it is: by the port's number, what was given and heard
     /// there.
-    pub fn remembering(manner: Manner, node: NodePace, ports: [PortPace; PORTS]) -> Pace
+    pub fn remembering(manner: Manner, node: NodePace, ports: [PortPace; PORTS]) -> TurnPace
         ensures { (result.manner ≡ manner) × (result.node ≡ node) × (result.ports ≡ ports) }
     {
-        Pace {
+        TurnPace {
             manner,
             node,
             ports,

@@ -2,7 +2,7 @@
 use Rattle.std.proofs.Common.{◌≡◌, ◌≢◌, true, false, [], ◌∷◌, map, Some, None, refl, codes, arith}
 use Rattle.std.specs.Fmt.{digits}
 use Rattle.process_parts.specs.declared.fault.NodeFault.TheVariants.{NoNode, LongName, Folder, Running, UpRunning, Links, Looks, System, Memory}
-use Rattle.process_parts.specs.declared.start.Stage.TheVariants.{Begun, Checked, Entered, Held, Listening}
+use Rattle.process_parts.specs.declared.start.StartStage.TheVariants.{Begun, Checked, Entered, Held, Listening}
 use Rattle.process_parts.specs.declared.rights.Rights.TheVariants.{Usual, GroupLocks}
 use Rattle.process_parts.specs.declared.fault.Said.TheVariants.{OfNode, OfNoNode}
 use Rattle.process_parts.specs.Start.{may_end}

@@ -1,7 +1,7 @@
 -- Which faults may end a start, by how far it is.
 use Rattle.std.specs.Prelude.{Bool, true, false}
-use Rattle.process_parts.specs.declared.start.Stage.{Stage}
-use Rattle.process_parts.specs.declared.start.Stage.TheVariants.{Begun, Checked, Entered, Held, Listening}
+use Rattle.process_parts.specs.declared.start.StartStage.{StartStage}
+use Rattle.process_parts.specs.declared.start.StartStage.TheVariants.{Begun, Checked, Entered, Held, Listening}
 use Rattle.process_parts.specs.declared.fault.NodeFault.{NodeFault}
 use Rattle.process_parts.specs.declared.fault.NodeFault.TheVariants.{Network, NoNode, LongName}
 use Rattle.process_parts.specs.declared.fault.NodeFault.TheVariants.{Folder, RightsStay, Lock, Running}
@@ -10,7 +10,7 @@ use Rattle.process_parts.specs.declared.fault.NodeFault.TheVariants.{Links, Clie
 -- invalid words end a start before anything is made, a missing folder before its place is taken,
 -- and a place that another process holds before a socket is made; memory may be refused at any
 -- time
-abbrev pub may_end : Stage → NodeFault → Bool
+abbrev pub may_end : StartStage → NodeFault → Bool
 may_end stage Memory = true
 may_end Begun (Network fault) = true
 may_end Begun (NoNode nodes) = true

@@ -11,7 +11,7 @@ use std::alloc::AllocError;
 use std::fmt;
 use std::io::ErrorKind;
 
-/// Why a node does not run, or ends. Printed within a [`Refusal`].
+/// Why a node does not run, or ends. Printed within a [`ProcessRefusal`].
 #[derive(Clone, Copy, Drop)]
 pub enum NodeFault {
     /// The network file is refused.
@@ -75,7 +75,7 @@ pub fn fault_of(kind: ErrorKind) -> NodeFault
 /// A fault with the words of the command that it ends. Printed, it names the file and says what to
 /// do. It is the line on standard error, without `tokentree: `.
 #[derive(Drop)]
-pub struct Refusal<'a> {
+pub struct ProcessRefusal<'a> {
     /// The network file.
     pub file: &'a str,
     /// The folder.
@@ -86,7 +86,7 @@ pub struct Refusal<'a> {
     pub fault: NodeFault,
 }
 
-impl fmt::Display for Refusal<'_> {
+impl fmt::Display for ProcessRefusal<'_> {
     ghost output = { λ r. Some (refusal_text r.file.now r.dir.now r.id r.fault) };
 
     fn fmt<W: fmt::Write>(&self, f: &mut fmt::Formatter<W>) -> fmt::Result {
@@ -119,7 +119,7 @@ enum Said {
     OfSystem(&'static str),
 }
 
-impl Refusal<'_> {
+impl ProcessRefusal<'_> {
     /// What is said of the fault.
     fn said(&self) -> Said
         ensures { said_text self.now.file.now self.now.dir.now self.now.id result

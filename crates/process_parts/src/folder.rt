@@ -4,12 +4,12 @@ ghost use Rattle.node_keeping.specs.node_texts.Names.{longest_socket_name};
 ghost use Rattle.process_parts.specs.declared.fault.NodeFault.TheVariants.{LongName, Memory};
 ghost use Rattle.process_parts.specs.declared.fault.NodeFault.TheVariants.{Folder, RightsStay, Lock, Running};
 ghost use Rattle.process_parts.specs.declared.fault.NodeFault.TheVariants.{Links, Clients, Looks};
-ghost use Rattle.process_parts.specs.declared.start.Stage.TheVariants.{Checked, Entered, Held};
-ghost use Rattle.process_parts.specs.declared.start.Stage.TheVariants.{Listening};
+ghost use Rattle.process_parts.specs.declared.start.StartStage.TheVariants.{Checked, Entered, Held};
+ghost use Rattle.process_parts.specs.declared.start.StartStage.TheVariants.{Listening};
 
 use crate::fault::NodeFault;
 use crate::rights::Rights;
-use crate::start::Stage;
+use crate::start::StartStage;
 use mio::net::UnixListener;
 use node_keeping::{
     FileId, FileSight, LONGEST_SOCKET_NAME, NodePaths, links_name, longest_socket_name, sight_of,
@@ -51,7 +51,7 @@ pub fn make_folder<F: Files>(
     files: &F,
     dir: &str,
     rights: Rights,
-    stage: &mut Stage,
+    stage: &mut StartStage,
 ) -> Result<(), NodeFault>
     requires { stage.old ≡ Checked }
     ensures ok { IfOk result (λ _. stage.new ≡ Entered) }
@@ -65,7 +65,7 @@ pub fn make_folder<F: Files>(
     if rights == Rights::GroupLocks && set_mode(files, dir, Some(rights.folder())).is_err() {
         return Err(NodeFault::RightsStay);
     }
-    *stage = Stage::Entered;
+    *stage = StartStage::Entered;
     Ok(())
 }
 
@@ -90,12 +90,12 @@ fn is_folder<F: Files>(files: &F, dir: &str) -> bool {
 /// A process's place in a folder: a file that is locked as long as this value lives. However the
 /// process ends, the system unlocks it then.
 #[derive(Drop)]
-pub struct Place {
+pub struct FolderPlace {
     _file: File,
     id: FileId,
 }
 
-impl Place {
+impl FolderPlace {
     /// Whether the name of the place still leads to it. If not, another process may hold the place
     /// of that name.
     pub fn sight<F: Files>(&self, files: &F, path: &str) -> FileSight {
@@ -110,8 +110,8 @@ impl Place {
 pub fn hold_place<F: Files<File = File>>(
     files: &F,
     path: &str,
-    stage: &mut Stage,
-) -> Result<Place, NodeFault>
+    stage: &mut StartStage,
+) -> Result<FolderPlace, NodeFault>
     requires { stage.old ≡ Entered }
     ensures ok { IfOk result (λ _. stage.new ≡ Held) }
     ensures err { IfErr result (λ fault. ((fault ≡ Lock) ⊎ (fault ≡ Running))
@@ -128,9 +128,9 @@ pub fn hold_place<F: Files<File = File>>(
         Err(fs::TryLockError::WouldBlock) => return Err(NodeFault::Running),
         Err(_) => return Err(NodeFault::Lock),
     }
-    *stage = Stage::Held;
+    *stage = StartStage::Held;
     let id = id_of(&found);
-    Ok(Place { _file: file, id })
+    Ok(FolderPlace { _file: file, id })
 }
 
 /// Opens the file of a place, or makes it.
@@ -194,7 +194,7 @@ pub fn make_sockets<R: Files + Net>(
     rt: &R,
     paths: &NodePaths,
     rights: Rights,
-    stage: &mut Stage,
+    stage: &mut StartStage,
 ) -> Result<NodeSockets, NodeFault>
     requires { stage.old ≡ Held }
     ensures ok { IfOk result (λ _. stage.new ≡ Listening) }
@@ -210,7 +210,7 @@ pub fn make_sockets<R: Files + Net>(
     let Ok(looks) = bind_again(rt, paths.looks.as_str(), rights.own()) else {
         return Err(NodeFault::Looks);
     };
-    *stage = Stage::Listening;
+    *stage = StartStage::Listening;
     Ok(joined(links, clients, looks))
 }
 

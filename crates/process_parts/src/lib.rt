@@ -3,10 +3,10 @@
 //! may use what they make.
 //!
 //! ```
-//! let mut stage = Stage::Checked;
-//! make_folder(rt, "run", Rights::Usual, &mut stage)?;              // `Stage::Entered`
-//! let place = hold_place(rt, "run/lock-1", &mut stage)?;           // `Stage::Held`, while `place` lives
-//! let refusal = Refusal { file: "ring.toml", dir: "run", id: 1, fault: NodeFault::Running };
+//! let mut stage = StartStage::Checked;
+//! make_folder(rt, "run", Rights::Usual, &mut stage)?;              // `StartStage::Entered`
+//! let place = hold_place(rt, "run/lock-1", &mut stage)?;           // `StartStage::Held`, while `place` lives
+//! let refusal = ProcessRefusal { file: "ring.toml", dir: "run", id: 1, fault: NodeFault::Running };
 //! ```
 //!
 //! Contracts know nothing of the system's answers. So functions that call it promise in which order a
@@ -25,19 +25,19 @@ mod start;
 mod words;
 
 pub use capacity::warn_of_capacity;
-pub use fault::{NodeFault, Refusal, fault_of};
+pub use fault::{NodeFault, ProcessRefusal, fault_of};
 pub use folder::{
-    Listener, NodeSockets, Place, addresses_of, bind_again, check_names, file_up_to, hold_place,
-    make_folder, make_sockets, new_file, remove, set_mode, sight_at,
+    FolderPlace, Listener, NodeSockets, addresses_of, bind_again, check_names, file_up_to,
+    hold_place, make_folder, make_sockets, new_file, remove, set_mode, sight_at,
 };
 pub use network_file::{NetworkFault, network_of, read_network};
 pub use node_keeping::{
-    AfterSave, Complaint, Deed, End, EndLine, FileId, FileSight, Keeper, Lost, NodePaths,
+    AfterSave, Complaint, End, EndLine, FileId, FileSight, Keeper, KeeperDeed, Lost, NodePaths,
     ProcessPart, Seen, Sights, StopSight, UpCourse, UpSights, after_save, looks_for_stop,
 };
-pub use node_log::{Event, LogLine, NodeLog, TurnSight};
+pub use node_log::{LogLine, NodeEvent, NodeLog, TurnSight};
 pub use record_size::{RecordSize, USUAL_SIZE};
 pub use rights::Rights;
-pub use start::Stage;
+pub use start::StartStage;
 pub use unix_ends::{InputSight, Listeners, read_input, watch_input};
 pub use words::{NodeWords, UpWords};

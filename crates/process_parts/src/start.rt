@@ -6,7 +6,7 @@
 
 /// How far a start is.
 #[derive(Clone, Copy)]
-pub enum Stage {
+pub enum StartStage {
     /// Nothing is known to be right, and nothing is made.
     Begun,
     /// The network, the id and the folder's name are right. Nothing is made.

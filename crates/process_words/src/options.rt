@@ -13,7 +13,7 @@ use command_grammar::{Number, Parameter, WordFault, number_if_given};
 use command_words::{explain_network, explain_swap};
 use node_log::Level;
 use pace::Manner;
-use process_parts::{NodeFault, RecordSize, Refusal, Rights, USUAL_SIZE};
+use process_parts::{NodeFault, ProcessRefusal, RecordSize, Rights, USUAL_SIZE};
 use recovery_times::{TimeFault, micros_of};
 use std::process::ExitCode;
 use std::rt::Files;
@@ -182,7 +182,7 @@ pub fn ended<R: Files + Eprint + AllocGlobal>(
                 explain_network(rt, file, fault);
                 explain_swap(rt, file, dir);
             }
-            let refusal = Refusal {
+            let refusal = ProcessRefusal {
                 file,
                 dir,
                 id,

@@ -7,7 +7,7 @@ use configuration::{Event, Harm};
 
 /// How many of the events that entries became are of which kind. A count stays at its greatest value.
 #[derive(Clone, Copy)]
-pub struct Found {
+pub struct EventCounts {
     /// How many events there are.
     pub events: u64,
     /// How many of them are harms.
@@ -25,12 +25,12 @@ fn one_more(count: u64) -> u64
     count.saturating_add(1)
 }
 
-impl Found {
+impl EventCounts {
     /// Nothing.
-    pub fn new() -> Found
+    pub fn new() -> EventCounts
         ensures { result ≡ nothing }
     {
-        Found {
+        EventCounts {
             events: 0,
             harms: 0,
             lost: 0,

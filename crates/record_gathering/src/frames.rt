@@ -27,7 +27,7 @@ impl Passage {
 
 /// How many items stand in front of the first one that is this frame, and whether there is one.
 #[derive(Clone, Copy)]
-pub struct Place {
+pub struct FramePlace {
     /// How many; all items of the link, if none is this frame.
     pub in_front: usize,
     /// Whether there is one.
@@ -59,7 +59,7 @@ fn is_frame(frame: &Frame, item: &Item) -> bool
 }
 
 /// Where the earliest item is that is this frame, on its link.
-pub fn place_of<A: Allocator + Copy>(world: &Configuration<A>, passage: &Passage) -> Place
+pub fn place_of<A: Allocator + Copy>(world: &Configuration<A>, passage: &Passage) -> FramePlace
     requires from_in { passage.now.from < (world_of world.now).net.nodes }
     requires to_in { passage.now.to < (world_of world.now).net.nodes }
     ensures in_front { result.in_front ≡ in_front passage.now.frame
@@ -71,13 +71,13 @@ pub fn place_of<A: Allocator + Copy>(world: &Configuration<A>, passage: &Passage
     let count = world.under_way(from, to);
     for index in 0..count {
         if is_frame(&passage.frame, &world.item(from, to, index)) {
-            return Place {
+            return FramePlace {
                 in_front: index,
                 is_there: true,
             };
         }
     }
-    Place {
+    FramePlace {
         in_front: count,
         is_there: false,
     }

@@ -40,5 +40,5 @@ mod queue;
 pub use configuration::{Configuration, Event, Harm, Item};
 pub use facts::Fact;
 pub use fields::Field;
-pub use found::{Found, any_written};
+pub use found::{EventCounts, any_written};
 pub use gathering::Gathering;

@@ -15,13 +15,13 @@ const ROOM: usize = PAGE + LONGEST;
 
 /// Bytes that were given and are not yet read.
 #[derive(Drop)]
-pub struct Page<A: Allocator = Global> {
+pub struct UnreadBytes<A: Allocator = Global> {
     bytes: Vec<u8, A>,
     /// How many of them are read.
     start: usize,
 }
 
-impl<A: Allocator> Model for Page<A> {
+impl<A: Allocator> Model for UnreadBytes<A> {
     ghost use Rattle.std.specs.Prelude.{ℕ, ◌≤◌, List, drop, vec_capacity, vec_len};
 
     ghost Value = { List ℕ };
@@ -31,12 +31,12 @@ impl<A: Allocator> Model for Page<A> {
     ghost invariant = { λ p. (p.start ≤ vec_len p.bytes) × (4217 ≤ vec_capacity p.bytes) };
 }
 
-impl<A: Allocator> Page<A> {
+impl<A: Allocator> UnreadBytes<A> {
     /// No bytes. All memory is reserved here; `AllocError` comes only if that is refused.
-    pub fn new(alloc: A) -> Result<Page<A>, AllocError>
+    pub fn new(alloc: A) -> Result<UnreadBytes<A>, AllocError>
         ensures { IfOk result (λ page. page ≡ []) }
     {
-        Ok(Page {
+        Ok(UnreadBytes {
             bytes: Vec::with_capacity(alloc, ROOM)?,
             start: 0,
         })

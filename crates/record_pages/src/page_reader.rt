@@ -4,7 +4,7 @@ ghost use Rattle.byte_streams.specs.Streams.{CountsFailures};
 ghost use Rattle.record_pages.specs.Pages.{to_come, has_ended, IsAsked, IsAtHand, IsReadOf};
 ghost use Rattle.record_pages.specs.Pages.{FailsAsSource, ReadsNext};
 
-use crate::page::{LONGEST, PAGE, Page};
+use crate::page::{LONGEST, PAGE, UnreadBytes};
 use crate::stop::Stop;
 use byte_streams::{Failed, Source};
 use flight_records::{Entry, EntryReader, Unread, laws as flight_records_laws};
@@ -15,7 +15,7 @@ use std::alloc::{AllocError, Allocator, Global};
 pub struct PageReader<S, A: Allocator = Global> {
     source: S,
     /// What the source gave and is not yet read.
-    page: Page<A>,
+    page: UnreadBytes<A>,
     reader: EntryReader,
 }
 
@@ -27,7 +27,7 @@ impl<S: Source + Drop, A: Allocator> PageReader<S, A> {
     {
         Ok(PageReader {
             source,
-            page: Page::new(alloc)?,
+            page: UnreadBytes::new(alloc)?,
             reader: EntryReader::new(),
         })
     }
@@ -106,7 +106,10 @@ impl<S: Source + Drop, A: Allocator> PageReader<S, A> {
 }
 
 /// The entry at the front of a page.
-fn read_front<A: Allocator>(reader: &mut EntryReader, page: &mut Page<A>) -> Result<Entry, Stop>
+fn read_front<A: Allocator>(
+    reader: &mut EntryReader,
+    page: &mut UnreadBytes<A>,
+) -> Result<Entry, Stop>
     ensures { IsReadOf reader.old result page.old page.new reader.new }
 {
     flight_records_laws::pieces_are_read();

@@ -10,11 +10,11 @@ use Rattle.run_recording.specs.film_stills.Reels.{ReelView}
 use Rattle.run_recording.specs.Filmed.{room_of}
 use Rattle.run_recording.specs.Recordings.{IsRecorded, RecordingView}
 use Rattle.run_recording.specs.SimulatedText.{simulated_start}
-use Rattle.run_film.specs.declared.pace.Pace.{Pace}
+use Rattle.run_film.specs.declared.pace.FilmPace.{FilmPace}
 use Rattle.run_film.specs.Beats.{Film}
 use Rattle.run_film.specs.FilmTexts.{film_at, IsEachShown, IsReelOf, IsShowing}
 
-one_each : (reel : ReelView) (pace : Pace) → 10 ≤ pace.beats → reel.limit ≡ max pace.beats 3 - 1 → length reel.stills ≤ reel.limit → IsEachShown reel pace
+one_each : (reel : ReelView) (pace : FilmPace) → 10 ≤ pace.beats → reel.limit ≡ max pace.beats 3 - 1 → length reel.stills ≤ reel.limit → IsEachShown reel pace
 one_each reel pace some limit few =
     λ opening place there.
     let room : length reel.stills + 1 ≤ pace.beats = grind (arith, common_steps) in
@@ -30,7 +30,7 @@ reel_is : (net : Network) (window : Window) (es : List Event) (r : RecordingView
     → r.reel ≡ Some reel → IsReelOf net window es reel
 reel_is net window es r reel h same is = record { moments = h.stills; ended = r.ended; are = rw same at h.filmed; shown = rw is at h.reeled }
 
-module _ (net : Network) (window : Window) (es : List Event) (r : RecordingView) (pace : Pace) (h : IsRecorded (simulated_start net) es r) (same : r.window ≡ window)
+module _ (net : Network) (window : Window) (es : List Event) (r : RecordingView) (pace : FilmPace) (h : IsRecorded (simulated_start net) es r) (same : r.window ≡ window)
     (some : 10 ≤ pace.beats) (few : (reel : ReelView) → r.reel ≡ Some reel → length reel.stills ≤ reel.limit)
     {M : Type 0} (Shows : M → Film → Network → Type 0) (spelling : M → List ℕ) (Nests : List ℕ → Type 0) (made : M) (text : List ℕ)
     (plays : (reel : ReelView) (opening : Still) → r.reel ≡ Some reel → reel.opening ≡ Some opening → Shows made (film_at reel pace opening) net) where

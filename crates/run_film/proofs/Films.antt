@@ -10,8 +10,8 @@ use Rattle.run_film.specs.Beats.{Film}
 use Rattle.run_film.specs.Tracks.{track_shown}
 use Rattle.run_film.specs.Films.{IsPlayed, Keeps, ShowsFrames, ShowsNode, AddsNode}
 use Rattle.run_film.specs.Shapes.{symbol_shown}
-use Rattle.run_film.specs.declared.frames.Deed.{Deed}
-use Rattle.run_film.specs.declared.frames.Deed.TheVariants.{Sent, Taken, Lost}
+use Rattle.run_film.specs.declared.frames.FrameDeed.{FrameDeed}
+use Rattle.run_film.specs.declared.frames.FrameDeed.TheVariants.{Sent, Taken, Lost}
 use Rattle.run_film.specs.Symbols.{HasEdge, HasFrame, HasMarks, HasSymbols, IsDefined}
 
 -- a part that stands in a list stands in a longer one
@@ -119,7 +119,7 @@ frame_kept old new film u v keeps has = record {
 }
 
 -- what holds of each deed holds of all
-pub each_deed : (P : Deed → Type 0) → P Sent → P Taken → P Lost → (deed : Deed) → P deed
+pub each_deed : (P : FrameDeed → Type 0) → P Sent → P Taken → P Lost → (deed : FrameDeed) → P deed
 each_deed P sent taken lost Sent = sent
 each_deed P sent taken lost Taken = taken
 each_deed P sent taken lost Lost = lost

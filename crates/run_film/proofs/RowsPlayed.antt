@@ -14,10 +14,10 @@ use Rattle.run_recording.specs.film_stills.Reels.{ReelView, Shows}
 use Rattle.run_recording.specs.Filmed.{AreFilmed}
 use Rattle.run_recording.specs.Filmed.AreFilmed.{Start, Next}
 use Rattle.run_recording.specs.SimulatedText.{simulated_start}
-use Rattle.run_film.specs.declared.frames.Deed.{Deed}
-use Rattle.run_film.specs.declared.frames.Deed.TheVariants.{Sent, Taken, Lost}
-use Rattle.run_film.specs.declared.head.Said.{Said}
-use Rattle.run_film.specs.declared.pace.Pace.{Pace}
+use Rattle.run_film.specs.declared.frames.FrameDeed.{FrameDeed}
+use Rattle.run_film.specs.declared.frames.FrameDeed.TheVariants.{Sent, Taken, Lost}
+use Rattle.run_film.specs.declared.head.FilmHead.{FilmHead}
+use Rattle.run_film.specs.declared.pace.FilmPace.{FilmPace}
 use Rattle.run_film.specs.declared.stage.Stage.{Stage}
 use Rattle.run_film.specs.declared.track.Track.TheVariants.{Mark}
 use Rattle.run_film.specs.Beats.{Film}
@@ -146,7 +146,7 @@ no_arrows : (v : ℕ) → v < 1 → (w : ℕ) → w < 1 → ¬ IsTrue (parents_i
 no_arrows zero within w below there = grind (arith, there)
 no_arrows (suc v) within w below there = omega (arith, within)
 
-no_frames : (deed : Deed) (u v : ℕ) → ¬ IsTrue (done_in root_film deed u v)
+no_frames : (deed : FrameDeed) (u v : ℕ) → ¬ IsTrue (done_in root_film deed u v)
 no_frames Sent u v there = grind (arith, there)
 no_frames Taken u v there = grind (arith, there)
 no_frames Lost u v there = grind (arith, there)
@@ -195,7 +195,7 @@ parts_not-none film net shows = played_not-empty _ shows.sweeps
 
 -- ---- what stands round the graph
 
-abbrev said_of : ℕ → Said
+abbrev said_of : ℕ → FilmHead
 said_of refused = record { nodes = 4; events = 12; refused = refused; stills = 3; crowded = false }
 
 title-four : title_text (said_of 0) ≡ codes "A run of a lock on " ++ (decimal 4 ++ codes " nodes, as a film")
@@ -210,10 +210,10 @@ stills-calm = refl
 stills-crowded : stills_text (record (said_of 0) { crowded = true }) ≡ decimal 3 ++ codes " stills, fewer than moments that count: each is the last of a stretch"
 stills-crowded = refl
 
-headed_not-none : (said : Said) → ¬ IsHeaded [] said
+headed_not-none : (said : FilmHead) → ¬ IsHeaded [] said
 headed_not-none said (front, are) = ended_not-none _ _ (sym are)
 
-counted_not-none : (stage : Stage) (pace : Pace) → ¬ IsCounted [] stage pace
+counted_not-none : (stage : Stage) (pace : FilmPace) → ¬ IsCounted [] stage pace
 counted_not-none stage pace (front, are) = ended_not-none _ _ (sym are)
 
 -- ---- each still has a beat

@@ -3,14 +3,14 @@ use Rattle.std.specs.List.{list_any}
 use Rattle.topology.specs.Network.{are_joined}
 use Rattle.std.specs.Prelude.{Bool, ◌||◌, ℕ, ◌+◌, ◌/◌, ◌%◌, ◌==◌, nat_lt, if◌then◌else◌, List, [], ◌∷◌, ◌++◌, length, replicate}
 use Rattle.run_recording.specs.film_stills.declared.still.Still.{Still}
-use Rattle.run_film.specs.declared.pace.Pace.{Pace}
+use Rattle.run_film.specs.declared.pace.FilmPace.{FilmPace}
 use Rattle.run_film.specs.declared.pace.Shown.{Shown}
 
 -- the stills that a film shows: the first, the others, and how many beats there are for them
 pub record Film : Type 0 where
   pub opening : Still
   pub later : List Still
-  pub pace : Pace
+  pub pace : FilmPace
 
 -- those of the code
 abbrev pub film_of : Shown → Film

@@ -3,13 +3,13 @@ use Rattle.std.specs.Prelude.{◌≡◌, ℕ, ◌+◌, ◌-◌, List, [], ◌∷
 use Rattle.svg_drawing.specs.Drawn.{numbered}
 use Rattle.svg_drawing.specs.Grouped.{Grouped}
 use Rattle.svg_drawing.specs.Lengths.{px}
-use Rattle.run_film.specs.declared.pace.Pace.{Pace}
+use Rattle.run_film.specs.declared.pace.FilmPace.{FilmPace}
 use Rattle.run_film.specs.declared.stage.Stage.{Stage}
 use Rattle.run_film.specs.Tracks.{given, repeated_shown}
 
 -- a bar at the right end of the curves, which goes from their left end to their right end while the
 -- film plays
-abbrev pub cursor_shown : Stage → Pace → Grouped
+abbrev pub cursor_shown : Stage → FilmPace → Grouped
 cursor_shown stage pace = record {
   element = record {
     name = codes "rect";
@@ -25,5 +25,5 @@ cursor_shown stage pace = record {
 }
 
 -- the cursor stands over what else stands below the graph
-abbrev pub IsCounted : List Grouped → Stage → Pace → Type 0
+abbrev pub IsCounted : List Grouped → Stage → FilmPace → Type 0
 IsCounted groups stage pace = (front : List Grouped) × (groups ≡ front ++ (cursor_shown stage pace ∷ []))

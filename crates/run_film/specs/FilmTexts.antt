@@ -2,7 +2,7 @@
 use Rattle.std.specs.Prelude.{◌≡◌, ℕ, ◌≤◌, List, length, Some}
 use Rattle.topology.specs.Network.{Network}
 use Rattle.svg_drawing.specs.declared.element.Document.{Document}
-use Rattle.svg_drawing.specs.declared.element.Scene.{Scene}
+use Rattle.svg_drawing.specs.declared.element.GroupedDrawing.{GroupedDrawing}
 use Rattle.svg_drawing.specs.Grouped.{scene_shown}
 use Rattle.svg_drawing.specs.Spelling.{document_text, scene_text}
 use Rattle.svg_drawing.specs.Xml.{IsContent, IsDocument}
@@ -12,7 +12,7 @@ use Rattle.run_recording.specs.film_stills.declared.still.Still.{Still}
 use Rattle.run_recording.specs.film_stills.Reels.{ReelView, Shows}
 use Rattle.run_recording.specs.Filmed.{AreFilmed}
 use Rattle.run_recording.specs.SimulatedText.{simulated_start}
-use Rattle.run_film.specs.declared.pace.Pace.{Pace}
+use Rattle.run_film.specs.declared.pace.FilmPace.{FilmPace}
 use Rattle.run_film.specs.Beats.{Film, beats_at}
 use Rattle.run_film.specs.Films.{ShowsFilm}
 use Rattle.run_film.specs.Pages.{ShowsPage}
@@ -26,11 +26,11 @@ pub record IsReelOf (net : Network) (window : Window) (es : List Event) (reel : 
   pub shown : Shows reel moments
 
 -- the film of a reel, from its first moment on
-abbrev pub film_at : ReelView → Pace → Still → Film
+abbrev pub film_at : ReelView → FilmPace → Still → Film
 film_at reel pace opening = record { opening = opening; later = reel.stills; pace = pace }
 
 -- each still is shown for a beat at least
-abbrev pub IsEachShown : ReelView → Pace → Type 0
+abbrev pub IsEachShown : ReelView → FilmPace → Type 0
 IsEachShown reel pace = (opening : Still) (place : ℕ) → place ≤ length reel.stills → 1 ≤ beats_at (film_at reel pace opening) place
 
 -- A text shows a run: it spells, with tags that nest, what shows a reel of the run; if the window holds
@@ -40,7 +40,7 @@ pub record IsShowing {M : Type 0} (Shows : M → Film → Network → Type 0) (s
     (net : Network) (window : Window) (es : List Event) (text : List ℕ) : Type 0 where
   pub reel : ReelView
   pub of_run : IsReelOf net window es reel
-  pub pace : Pace
+  pub pace : FilmPace
   pub each : IsEachShown reel pace
   pub made : M
   pub plays : (opening : Still) → reel.opening ≡ Some opening → Shows made (film_at reel pace opening) net
@@ -49,7 +49,7 @@ pub record IsShowing {M : Type 0} (Shows : M → Film → Network → Type 0) (s
 
 -- a text is a film of a run
 abbrev pub IsFilm : Network → Window → List Event → List ℕ → Type 0
-IsFilm net window es text = IsShowing (λ (scene : Scene). ShowsFilm (scene_shown scene)) scene_text IsContent net window es text
+IsFilm net window es text = IsShowing (λ (scene : GroupedDrawing). ShowsFilm (scene_shown scene)) scene_text IsContent net window es text
 
 -- a text is a page with a film of a run
 abbrev pub IsPage : Network → Window → List Event → List ℕ → Type 0

@@ -7,8 +7,8 @@ use Rattle.svg_drawing.specs.Grouped.{Grouped}
 use Rattle.run_recording.specs.film_stills.declared.still.Still.{Still}
 use Rattle.run_recording.specs.run_model.declared.event.Event.{Event}
 use Rattle.run_recording.specs.run_model.declared.event.Event.TheVariants.{Send, Take, Lose}
-use Rattle.run_film.specs.declared.frames.Deed.{Deed}
-use Rattle.run_film.specs.declared.frames.Deed.TheVariants.{Sent, Taken, Lost}
+use Rattle.run_film.specs.declared.frames.FrameDeed.{FrameDeed}
+use Rattle.run_film.specs.declared.frames.FrameDeed.TheVariants.{Sent, Taken, Lost}
 use Rattle.run_film.specs.Beats.{Film, joins_in}
 use Rattle.run_film.specs.Shapes.{symbol_shown}
 use Rattle.run_film.specs.Tracks.{is_named, look_in, pair_code, waits_in}
@@ -61,18 +61,18 @@ abbrev pub is_framed : Network → Bool
 is_framed net = nat_le net.nodes 12
 
 -- an event does this with a frame from a node to another
-abbrev pub is_done : Deed → Option Event → ℕ → ℕ → Bool
+abbrev pub is_done : FrameDeed → Option Event → ℕ → ℕ → Bool
 is_done Sent (Some (Send a b)) u v = (a == u) && (b == v)
 is_done Taken (Some (Take a b)) u v = (a == u) && (b == v)
 is_done Lost (Some (Lose a b item)) u v = (a == u) && (b == v)
 is_done _ _ u v = false
 
 -- the last event of some still does it
-abbrev pub done_in : Film → Deed → ℕ → ℕ → Bool
+abbrev pub done_in : Film → FrameDeed → ℕ → ℕ → Bool
 done_in film deed u v = is_done deed film.opening.event u v || list_any (λ still. is_done deed still.event u v) film.later
 
 -- how the name of its symbol begins
-abbrev pub deed_code : Deed → List ℕ
+abbrev pub deed_code : FrameDeed → List ℕ
 deed_code Sent = codes "o"
 deed_code Taken = codes "i"
 deed_code Lost = codes "x"
@@ -80,7 +80,7 @@ deed_code Lost = codes "x"
 -- those of frames from a node to another: of what the last events of stills do with them, and of one that waits
 -- in some still
 pub record HasFrame (groups : List Grouped) (film : Film) (u v : ℕ) : Type 0 where
-  pub deeds : (deed : Deed) → IsTrue (done_in film deed u v) → IsDefined groups (pair_code (deed_code deed) u v)
+  pub deeds : (deed : FrameDeed) → IsTrue (done_in film deed u v) → IsDefined groups (pair_code (deed_code deed) u v)
   pub waiting : IsTrue (waits_in film u v) → IsDefined groups (pair_code (codes "m") u v)
 
 abbrev pub HasFrames : List Grouped → Film → Network → Type 0

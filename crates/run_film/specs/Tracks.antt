@@ -11,7 +11,7 @@ use Rattle.run_recording.specs.run_model.declared.event.Harm.TheVariants as harm
 use Rattle.run_recording.specs.film_stills.declared.look.Look.{Look}
 use Rattle.run_recording.specs.film_stills.declared.look.Place.{Place}
 use Rattle.run_recording.specs.film_stills.declared.still.Still.{Still}
-use Rattle.run_film.specs.declared.pace.Pace.{Pace}
+use Rattle.run_film.specs.declared.pace.FilmPace.{FilmPace}
 use Rattle.run_film.specs.declared.track.Track.{Track}
 use Rattle.run_film.specs.declared.track.Track.TheVariants.{Mark, Distance, Parent, Ticket, Strike, Damage as Damaged, Sweeps, Edge, Frame, Waiting}
 use Rattle.run_film.specs.Beats.{Film, beats_of, last_of}
@@ -138,14 +138,14 @@ values_of track [] = []
 values_of track (still ∷ stills) = value_of track still ++ more_values track stills
 
 -- for how many thousandths of a second a film plays: its seconds, and three in which it holds the end
-abbrev pub milliseconds : Pace → ℕ
+abbrev pub milliseconds : FilmPace → ℕ
 milliseconds pace = pace.seconds * 1000 + 3000
 
 abbrev pub given : List ℕ → List ℕ → Given
 given name value = record { name = name; value = value }
 
 -- an animation that lasts as long as the film, again and again
-abbrev pub repeated_shown : Drawn → Pace → Drawn
+abbrev pub repeated_shown : Drawn → FilmPace → Drawn
 repeated_shown play pace =
     with_given (with_given play (given (codes "dur") (decimal (milliseconds pace) ++ codes "ms"))) (given (codes "repeatCount") (codes "indefinite"))
 

@@ -14,27 +14,27 @@ use svg_drawing::{Element, Fixed, Group, Point, Px};
 
 /// Which nodes a curve counts.
 #[derive(Clone, Copy)]
-enum Curve {
+enum CountedNodes {
     /// The privileged ones.
     Privileged,
     /// Those that lend.
     Lending,
 }
 
-impl Curve {
+impl CountedNodes {
     /// How many it counts in a still.
     fn counted(self, still: &Still) -> usize {
         match self {
-            Curve::Privileged => still.privileged,
-            Curve::Lending => still.lending,
+            CountedNodes::Privileged => still.privileged,
+            CountedNodes::Lending => still.lending,
         }
     }
 
     /// How it is drawn.
     fn looks(self) -> &'static [Fixed] {
         match self {
-            Curve::Privileged => &PRIVILEGED,
-            Curve::Lending => &LENDING,
+            CountedNodes::Privileged => &PRIVILEGED,
+            CountedNodes::Lending => &LENDING,
         }
     }
 }
@@ -87,8 +87,8 @@ pub fn counts(alloc: Global, stage: &Stage, shown: Shown<'_>) -> Result<Vec<Grou
 fn under_cursor(alloc: Global, stage: &Stage, shown: Shown<'_>) -> Result<Vec<Group>, AllocError> {
     let chart = chart_of(stage, shown);
     let mut groups = Vec::new(alloc);
-    groups.push(curve_line(alloc, chart, shown, Curve::Privileged)?)?;
-    groups.push(curve_line(alloc, chart, shown, Curve::Lending)?)?;
+    groups.push(curve_line(alloc, chart, shown, CountedNodes::Privileged)?)?;
+    groups.push(curve_line(alloc, chart, shown, CountedNodes::Lending)?)?;
     let at = Point {
         x: LEFT,
         y: chart.ground + Px(20),
@@ -150,7 +150,7 @@ fn curve_line(
     alloc: Global,
     chart: Chart,
     shown: Shown<'_>,
-    curve: Curve,
+    curve: CountedNodes,
 ) -> Result<Group, AllocError> {
     let mut done = shown.beats_at(0);
     let start = (chart.ground - chart.node * curve.counted(shown.opening())).0;

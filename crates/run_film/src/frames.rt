@@ -29,7 +29,7 @@ const MOST_TRAVELLED: usize = 10;
 
 /// What an event does with a frame.
 #[derive(Clone, Copy)]
-pub enum Deed {
+pub enum FrameDeed {
     /// It is sent.
     Sent,
     /// It is taken.
@@ -61,9 +61,9 @@ pub fn put_frames_between(
     ensures frames { OnOk result (HasFrame (drawn groups.new.items) (film_of material.entry.shown) from to) }
     ensures keeps { OnOk result (Keeps (drawn groups.old.items) (drawn groups.new.items)) }
 {
-    put_frame(material, groups, Deed::Sent, from, to)?;
-    put_frame(material, groups, Deed::Taken, from, to)?;
-    put_frame(material, groups, Deed::Lost, from, to)?;
+    put_frame(material, groups, FrameDeed::Sent, from, to)?;
+    put_frame(material, groups, FrameDeed::Taken, from, to)?;
+    put_frame(material, groups, FrameDeed::Lost, from, to)?;
     put_waiting_symbol(material, groups, from, to)?;
     Ok(())
 }
@@ -72,7 +72,7 @@ pub fn put_frames_between(
 fn put_frame(
     material: Material<'_>,
     groups: &mut Vec<Group>,
-    deed: Deed,
+    deed: FrameDeed,
     from: u16,
     to: u16,
 ) -> Result<(), AllocError>
@@ -87,39 +87,44 @@ fn put_frame(
 }
 
 /// Whether an event does this with a frame from a node to another.
-fn is_done(deed: Deed, event: Option<Event>, u: u16, v: u16) -> bool
+fn is_done(deed: FrameDeed, event: Option<Event>, u: u16, v: u16) -> bool
     ensures { result ≡ is_done deed event u v }
 {
     match (deed, event) {
-        (Deed::Sent, Some(Event::Send { from, to })) => from == u && to == v,
-        (Deed::Taken, Some(Event::Take { from, to })) => from == u && to == v,
-        (Deed::Lost, Some(Event::Lose { from, to, .. })) => from == u && to == v,
+        (FrameDeed::Sent, Some(Event::Send { from, to })) => from == u && to == v,
+        (FrameDeed::Taken, Some(Event::Take { from, to })) => from == u && to == v,
+        (FrameDeed::Lost, Some(Event::Lose { from, to, .. })) => from == u && to == v,
         _ => false,
     }
 }
 
 /// Whether the last event of some still does it.
-fn is_done_in(shown: Shown<'_>, deed: Deed, u: u16, v: u16) -> bool
+fn is_done_in(shown: Shown<'_>, deed: FrameDeed, u: u16, v: u16) -> bool
     ensures { result ≡ done_in (film_of shown.entry) deed u v }
 {
     is_done(deed, shown.opening().event, u, v) || any_does(shown.later(), deed, u, v)
 }
 
 /// Whether the last event of some of these stills does it.
-fn any_does(stills: &[Still], deed: Deed, u: u16, v: u16) -> bool
+fn any_does(stills: &[Still], deed: FrameDeed, u: u16, v: u16) -> bool
     ensures { result ≡ list_any (λ still. is_done deed still.event u v) stills.now }
 {
     stills.iter().any(|still| is_done(deed, still.event, u, v))
 }
 
 /// The symbol of what is done with a frame from a node to another.
-fn frame_symbol(material: Material<'_>, deed: Deed, from: u16, to: u16) -> Result<Group, AllocError>
+fn frame_symbol(
+    material: Material<'_>,
+    deed: FrameDeed,
+    from: u16,
+    to: u16,
+) -> Result<Group, AllocError>
     ensures { IfOk result (λ group. (grouped_of group).element ≡ symbol_shown (pair_code (deed_code deed) from to)) }
 {
     match deed {
-        Deed::Sent => sent_frame(material, from, to),
-        Deed::Taken => taken_frame(material, from, to),
-        Deed::Lost => loss(material.alloc, material.stage, from, to),
+        FrameDeed::Sent => sent_frame(material, from, to),
+        FrameDeed::Taken => taken_frame(material, from, to),
+        FrameDeed::Lost => loss(material.alloc, material.stage, from, to),
     }
 }
 
@@ -133,7 +138,7 @@ fn sent_frame(material: Material<'_>, from: u16, to: u16) -> Result<Group, Alloc
         between_of(stage, from, to),
         middle_of(stage, from, to),
     ];
-    let travel = Travel::new(Deed::Sent, from, to, way);
+    let travel = Travel::new(FrameDeed::Sent, from, to, way);
     let name = format!(in alloc; "o{from}-{to}")?;
     let steps = first_quarter(alloc, stage, from, to)?;
     frame(material, travel, name.as_str(), steps.as_str())
@@ -149,7 +154,7 @@ fn taken_frame(material: Material<'_>, from: u16, to: u16) -> Result<Group, Allo
         between_of(stage, to, from),
         stage.at(to),
     ];
-    let travel = Travel::new(Deed::Taken, from, to, way);
+    let travel = Travel::new(FrameDeed::Taken, from, to, way);
     let name = format!(in alloc; "i{from}-{to}")?;
     let steps = last_quarter(alloc, stage, from, to)?;
     frame(material, travel, name.as_str(), steps.as_str())
@@ -180,7 +185,7 @@ fn frame(
 #[derive(Clone, Copy)]
 struct Travel {
     /// What is done.
-    deed: Deed,
+    deed: FrameDeed,
     /// Where the frame comes from.
     from: u16,
     /// Where it goes.
@@ -195,7 +200,7 @@ struct Travel {
 
 impl Travel {
     /// A frame that travels from the first of these places to the last.
-    fn new(deed: Deed, from: u16, to: u16, way: [Point; 3]) -> Travel {
+    fn new(deed: FrameDeed, from: u16, to: u16, way: [Point; 3]) -> Travel {
         let [start, between, end] = way;
         Travel {
             deed,

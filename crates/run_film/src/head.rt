@@ -39,7 +39,7 @@ pub const BELOW: Px = Px(150);
 
 /// What a film says of its run.
 #[derive(Clone, Copy)]
-pub struct Said {
+pub struct FilmHead {
     /// How many nodes there are.
     pub nodes: u16,
     /// How many events there were.
@@ -71,7 +71,7 @@ pub fn attributes(alloc: Global, stage: &Stage) -> Result<Vec<Attribute>, AllocE
 
 /// What stands first: the title and what the run was, which a screen reader says; and below all else
 /// the ground, with these words, how the stills stand for the run, and the legend.
-pub fn head(alloc: Global, stage: &Stage, said: Said) -> Result<Vec<Group>, AllocError>
+pub fn head(alloc: Global, stage: &Stage, said: FilmHead) -> Result<Vec<Group>, AllocError>
     ensures { IfOk result (λ groups. IsHeaded (map grouped_of groups.items) said) }
 {
     let mut groups = under_title(alloc, stage, said)?;
@@ -80,7 +80,7 @@ pub fn head(alloc: Global, stage: &Stage, said: Said) -> Result<Vec<Group>, Allo
 }
 
 /// The title.
-fn film_title(alloc: Global, said: Said) -> Result<Group, AllocError>
+fn film_title(alloc: Global, said: FilmHead) -> Result<Group, AllocError>
     ensures { IfOk result (λ group. grouped_of group
         ≡ alone (note_shown (codes "title") (title_text said))) }
 {
@@ -89,7 +89,7 @@ fn film_title(alloc: Global, said: Said) -> Result<Group, AllocError>
 }
 
 /// The words of the title.
-fn title_said(alloc: Global, said: Said) -> Result<String, AllocError>
+fn title_said(alloc: Global, said: FilmHead) -> Result<String, AllocError>
     ensures { IfOk result (λ text. string_bytes text ≡ title_text said) }
 {
     let nodes = said.nodes;
@@ -97,7 +97,7 @@ fn title_said(alloc: Global, said: Said) -> Result<String, AllocError>
 }
 
 /// What the run was.
-fn run_said(alloc: Global, said: Said) -> Result<String, AllocError>
+fn run_said(alloc: Global, said: FilmHead) -> Result<String, AllocError>
     ensures { IfOk result (λ text. string_bytes text ≡ said_text said) }
 {
     let (events, refused) = (said.events, said.refused);
@@ -105,7 +105,7 @@ fn run_said(alloc: Global, said: Said) -> Result<String, AllocError>
 }
 
 /// What follows the title.
-fn under_title(alloc: Global, stage: &Stage, said: Said) -> Result<Vec<Group>, AllocError> {
+fn under_title(alloc: Global, stage: &Stage, said: FilmHead) -> Result<Vec<Group>, AllocError> {
     let title = title_said(alloc, said)?;
     let was = run_said(alloc, said)?;
     let stills = stills_said(alloc, said)?;
@@ -125,7 +125,7 @@ fn under_title(alloc: Global, stage: &Stage, said: Said) -> Result<Vec<Group>, A
 const KEY: &str = "in a node: its distance; arrow: to its parent; thick: the true tree";
 
 /// Draws what they mean, beside the title.
-fn put_key(alloc: Global, groups: &mut Vec<Group>, said: Said) -> Result<(), AllocError> {
+fn put_key(alloc: Global, groups: &mut Vec<Group>, said: FilmHead) -> Result<(), AllocError> {
     let signs = if said.nodes <= MOST_FRAMED {
         "lightning: damage; dot: a frame under way; cross: one that is lost"
     } else {
@@ -156,7 +156,7 @@ fn written_line(alloc: Global, y: Px, text: &str) -> Result<Group, AllocError>
 }
 
 /// How many stills there are, and whether stretches are shown by their last state.
-fn stills_said(alloc: Global, said: Said) -> Result<String, AllocError>
+fn stills_said(alloc: Global, said: FilmHead) -> Result<String, AllocError>
     ensures { IfOk result (λ text. string_bytes text ≡ stills_text said) }
 {
     let stills = said.stills;

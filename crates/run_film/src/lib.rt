@@ -6,8 +6,8 @@
 //! script; what plays nothing shows the last still:
 //!
 //! ```
-//! let recording = record_film(alloc, &net, &mut source, Pace::of(&net, 20).most(), Window::ALL)?;
-//! let scene = film(alloc, &net, &recording, Pace::of(&net, 20))?;
+//! let recording = record_film(alloc, &net, &mut source, FilmPace::of(&net, 20).most(), Window::ALL)?;
+//! let scene = film(alloc, &net, &recording, FilmPace::of(&net, 20))?;
 //! let text = spelled_scene(alloc, &scene)?;      // bytes of a file that a browser plays
 //! ```
 //!
@@ -36,9 +36,9 @@ mod track;
 mod waiting;
 mod words;
 
-pub use pace::{Pace, Shown};
+pub use pace::{FilmPace, Shown};
 pub use playing::film;
 pub use run_recording::{Look, Place, Recording, Reel, SimFault, Still, Window, record_film};
-pub use svg_drawing::{Document, Scene, spelled_document, spelled_scene};
-pub use text::{FilmText, Wanted, film_text, page_text};
+pub use svg_drawing::{Document, GroupedDrawing, spelled_document, spelled_scene};
+pub use text::{FilmText, WantedFilm, film_text, page_text};
 pub use track::Track;

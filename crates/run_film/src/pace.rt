@@ -25,7 +25,7 @@ const MOST_BYTES: usize = 700_000;
 
 /// How many beats a film has, and how long it plays.
 #[derive(Clone, Copy)]
-pub struct Pace {
+pub struct FilmPace {
     /// The beats, but for those that hold the first still and the last.
     beats: u16,
     /// For how many beats the last still is held, besides its own.
@@ -34,10 +34,10 @@ pub struct Pace {
     seconds: u16,
 }
 
-impl Pace {
+impl FilmPace {
     /// The pace of a film of so many seconds, 2 to 600: ten beats a second, but for long films and
     /// large networks fewer.
-    pub fn of(net: &Net, seconds: u16) -> Pace
+    pub fn of(net: &Net, seconds: u16) -> FilmPace
         ensures seconds { result.seconds ≡ seconds }
         ensures some { 10 ≤ result.beats }
         ensures few { result.beats ≤ 600 }
@@ -45,7 +45,7 @@ impl Pace {
         let most = (MOST_CHANGES / net.nodes().max(1)).min(beats_within(net));
         let all = seconds.saturating_mul(10).min(MOST_BEATS).min(most).max(20);
         let held = u32::from(all) * HELD / u32::from(seconds.max(1));
-        Pace {
+        FilmPace {
             beats: all - 10,
             closing: held.max(1) as u16,
             seconds,
@@ -89,7 +89,7 @@ fn beats_within(net: &Net) -> u16 {
 pub struct Shown<'a> {
     opening: &'a Still,
     later: &'a [Still],
-    pace: Pace,
+    pace: FilmPace,
 }
 
 /// What is seen if there is no moment.
@@ -108,7 +108,7 @@ pub const EMPTY: Still = Still {
 
 impl<'a> Shown<'a> {
     /// These stills at this pace.
-    pub fn new(opening: &'a Still, later: &'a [Still], pace: Pace) -> Shown<'a>
+    pub fn new(opening: &'a Still, later: &'a [Still], pace: FilmPace) -> Shown<'a>
         ensures { film_of result
             ≡ record { opening = opening.now; later = later.now; pace = pace } }
     {
@@ -120,7 +120,7 @@ impl<'a> Shown<'a> {
     }
 
     /// The pace.
-    pub fn pace(self) -> Pace
+    pub fn pace(self) -> FilmPace
         ensures { result ≡ self.entry.pace }
     {
         self.pace

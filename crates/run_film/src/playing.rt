@@ -8,17 +8,17 @@ ghost use Rattle.run_film.specs.Films.{drawn, Keeps, ShowsFilm, ShowsParts};
 ghost use Rattle.run_film.specs.Pages.{ShowsPage};
 
 use crate::counts::counts;
-use crate::head::{Said, attributes, head};
+use crate::head::{FilmHead, attributes, head};
 use crate::material::Material;
 use crate::nodes::{put_frames, put_nodes, put_said};
-use crate::pace::{EMPTY, Pace, Shown};
+use crate::pace::{EMPTY, FilmPace, Shown};
 use crate::page::{controls, page_head};
 use crate::pairs::{Paired, put_pairs};
 use crate::stage::Stage;
 use crate::symbols::put_symbols;
 use run_recording::{Recording, Reel, Still, first_visits};
 use std::alloc::{AllocError, Global};
-use svg_drawing::{Document, Group, Scene};
+use svg_drawing::{Document, Group, GroupedDrawing};
 use topology::Net;
 
 /// The film of a run that was recorded for it, at a pace. If its window holds no moment, the network
@@ -27,8 +27,8 @@ pub fn film(
     alloc: Global,
     net: &Net,
     recording: &Recording,
-    pace: Pace,
-) -> Result<Scene, AllocError>
+    pace: FilmPace,
+) -> Result<GroupedDrawing, AllocError>
     ensures plays { (reel : ReelView) (opening : Still) → recording.now.reel ≡ Some reel
         → reel.opening ≡ Some opening
         → IfOk result (λ scene. ShowsFilm (scene_shown scene)
@@ -44,7 +44,7 @@ pub fn page(
     alloc: Global,
     net: &Net,
     recording: &Recording,
-    pace: Pace,
+    pace: FilmPace,
 ) -> Result<Document, AllocError>
     ensures plays { (reel : ReelView) (opening : Still) → recording.now.reel ≡ Some reel
         → reel.opening ≡ Some opening
@@ -62,7 +62,7 @@ pub fn page(
 }
 
 /// What is shown of a recording; if its window holds no moment, this still.
-fn shown_of<'a>(recording: &'a Recording, empty: &'a Still, pace: Pace) -> Shown<'a>
+fn shown_of<'a>(recording: &'a Recording, empty: &'a Still, pace: FilmPace) -> Shown<'a>
     ensures shown { (reel : ReelView) (opening : Still) → recording.now.reel ≡ Some reel
         → reel.opening ≡ Some opening
         → film_of result ≡ record { opening = opening; later = reel.stills; pace = pace } }
@@ -90,12 +90,12 @@ fn scene(
     net: &Net,
     recording: &Recording,
     shown: Shown<'_>,
-) -> Result<Scene, AllocError>
+) -> Result<GroupedDrawing, AllocError>
     ensures { IfOk result (λ scene. ShowsFilm (scene_shown scene) (film_of shown.entry) net.now) }
 {
     let order = first_visits(alloc, net)?;
     let stage = Stage::of(net, order.as_slice());
-    let said = Said {
+    let said = FilmHead {
         nodes: net.nodes(),
         events: recording.events(),
         refused: recording.refused(),
@@ -112,7 +112,7 @@ fn scene(
     groups.extend(counts(alloc, &stage, shown)?)?;
     put_symbols(material, &mut groups)?;
     put_parts(material, &mut groups)?;
-    Ok(Scene {
+    Ok(GroupedDrawing {
         attributes: attributes(alloc, &stage)?,
         groups,
     })

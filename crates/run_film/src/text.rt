@@ -3,7 +3,7 @@ ghost use Rattle.std.specs.Prelude.{ℕ, ◌≡◌, List, Some, IfOk};
 ghost use Rattle.run_recording.specs.SimulatedText.{events_of};
 ghost use Rattle.run_film.specs.FilmTexts.{IsFilm, IsPage};
 
-use crate::pace::Pace;
+use crate::pace::FilmPace;
 use crate::playing::{film, page};
 use byte_streams::Source;
 use run_recording::{SimFault, Window, record_film};
@@ -13,7 +13,7 @@ use topology::Net;
 
 /// What film a run makes.
 #[derive(Clone, Copy)]
-pub struct Wanted {
+pub struct WantedFilm {
     /// For how many seconds it plays, 2 to 600.
     pub seconds: u16,
     /// The moments that are shown.
@@ -39,12 +39,12 @@ pub fn film_text<S: Source>(
     alloc: Global,
     net: &Net,
     source: &mut S,
-    wanted: Wanted,
+    wanted: WantedFilm,
 ) -> Result<FilmText, SimFault>
     ensures { (bytes : List ℕ) → S.rest source.old ≡ Some bytes
         → IfOk result (λ made. IsFilm net.now wanted.window (events_of bytes) made.text.items) }
 {
-    let pace = Pace::of(net, wanted.seconds);
+    let pace = FilmPace::of(net, wanted.seconds);
     let recording = record_film(alloc, net, source, pace.most(), wanted.window)?;
     let scene = film(alloc, net, &recording, pace)?;
     Ok(FilmText {
@@ -61,12 +61,12 @@ pub fn page_text<S: Source>(
     alloc: Global,
     net: &Net,
     source: &mut S,
-    wanted: Wanted,
+    wanted: WantedFilm,
 ) -> Result<FilmText, SimFault>
     ensures { (bytes : List ℕ) → S.rest source.old ≡ Some bytes
         → IfOk result (λ made. IsPage net.now wanted.window (events_of bytes) made.text.items) }
 {
-    let pace = Pace::of(net, wanted.seconds);
+    let pace = FilmPace::of(net, wanted.seconds);
     let recording = record_film(alloc, net, source, pace.most(), wanted.window)?;
     let page = page(alloc, net, &recording, pace)?;
     Ok(FilmText {

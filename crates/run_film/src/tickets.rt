@@ -95,7 +95,7 @@ fn is_clear_of_lines(net: &Net, stage: &Stage, at: Point, half: Px) -> bool {
 
 /// Whether they keep clear of a line.
 fn is_clear_of_line(line: &Line, at: Point, half: Px) -> bool {
-    let words = Words { at, half };
+    let words = PlacedWords { at, half };
     words.are_clear_of_part(line.start, line.near)
         && words.are_clear_of_part(line.near, line.far)
         && words.are_clear_of_part(line.far, line.end)
@@ -103,12 +103,12 @@ fn is_clear_of_line(line: &Line, at: Point, half: Px) -> bool {
 
 /// Words at a place, with half of their width.
 #[derive(Clone, Copy)]
-struct Words {
+struct PlacedWords {
     at: Point,
     half: Px,
 }
 
-impl Words {
+impl PlacedWords {
     /// Whether they keep clear of the places along the straight line between two places, about 8 apart.
     fn are_clear_of_part(self, from: Point, to: Point) -> bool {
         let long = (apart(from.x, to.x) + apart(from.y, to.y)).0;

@@ -6,8 +6,8 @@ use Rattle.run_recording.specs.declared.column.Column.{Column}
 use Rattle.svg_drawing.specs.declared.canvas.Anchor.TheVariants.{Middle, End}
 use Rattle.svg_drawing.specs.declared.colours.Colour.TheVariants.{Red, Ink, Blue}
 use Rattle.run_picture.specs.declared.layout.page.Page.{Page}
-use Rattle.run_picture.specs.declared.layout.ruler.Mark.{Mark}
-use Rattle.run_picture.specs.declared.layout.ruler.Mark.TheVariants.{Damage, Sweep}
+use Rattle.run_picture.specs.declared.layout.ruler.RulerMark.{RulerMark}
+use Rattle.run_picture.specs.declared.layout.ruler.RulerMark.TheVariants.{Damage, Sweep}
 use Rattle.run_picture.specs.declared.layout.ruler.SweepNumber.{SweepNumber}
 use Rattle.svg_drawing.specs.Drawn.{Shown, form_shown, line_shown, path_shown, words_shown, whole}
 use Rattle.svg_drawing.specs.Lengths.{px}
@@ -27,7 +27,7 @@ tick_over page place column =
     else []
 
 -- either of them
-abbrev pub mark_over : Mark → Page → ℕ → Column → List ℕ
+abbrev pub mark_over : RulerMark → Page → ℕ → Column → List ℕ
 mark_over Damage = damage_over
 mark_over Sweep = tick_over
 

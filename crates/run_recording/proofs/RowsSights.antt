@@ -9,7 +9,7 @@ use Rattle.world.specs.run_model.Start.{default_world}
 use Rattle.world.specs.run_model.Step.{with_desk}
 use Rattle.run_recording.proofs.RowsTwo.{two_nodes, calm}
 use Rattle.run_recording.specs.declared.mark.Mark.TheVariants.{Settled, Privileged, Lending}
-use Rattle.run_recording.specs.declared.sight.Sight.{Sight}
+use Rattle.run_recording.specs.declared.sight.NodesSight.{NodesSight}
 use Rattle.run_recording.specs.Seen.{edge_at, edges_of, is_at, look_at, look_of, mark_of_look, nothing, nowhere, place_at, sight_of, IsSightOf}
 use Rattle.run_recording.specs.UnderWay.{sent_at, sent_between}
 use Rattle.run_recording.specs.SightSteps.{recounted, with_look, DiffersAt}
@@ -65,7 +65,7 @@ recounted-fewer = refl
 recounted_not-twice : recounted 3 true true ≢ 4
 recounted_not-twice = grind arith
 
-abbrev one : Sight
+abbrev one : NodesSight
 one = record { places = nowhere ∷ []; edges = []; looks = nothing ∷ []; marks = Settled ∷ []; privileged = 0; lending = 0 }
 
 -- a node without a look becomes privileged: its mark and the count show it

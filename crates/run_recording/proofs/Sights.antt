@@ -22,7 +22,7 @@ use Rattle.film_stills.specs.declared.look.Look.{Look}
 use Rattle.film_stills.specs.declared.look.Place.{Place}
 use Rattle.run_recording.specs.declared.mark.Mark.{Mark}
 use Rattle.run_recording.specs.declared.mark.Mark.TheVariants.{Settled}
-use Rattle.run_recording.specs.declared.sight.Sight.{Sight}
+use Rattle.run_recording.specs.declared.sight.NodesSight.{NodesSight}
 use Rattle.run_recording.specs.Seen.{is_at, look_at, look_by, look_of, looks_of, place_at, place_of, edges_of, mark_at, mark_of_look, marks_of, nothing, nowhere, places_of, sight_of}
 use Rattle.run_recording.specs.SightSteps.{DiffersAt, recounted, with_look}
 
@@ -115,7 +115,7 @@ recount_is f g v n same within few =
 -- ---- a node has another look
 
 -- what is equal in each part is equal
-pub sight_is : (a b : Sight) → a.places ≡ b.places → a.edges ≡ b.edges → a.looks ≡ b.looks → a.marks ≡ b.marks → a.privileged ≡ b.privileged → a.lending ≡ b.lending → a ≡ b
+pub sight_is : (a b : NodesSight) → a.places ≡ b.places → a.edges ≡ b.edges → a.looks ≡ b.looks → a.marks ≡ b.marks → a.privileged ≡ b.privileged → a.lending ≡ b.lending → a ≡ b
 sight_is a b places edges looks marks privileged lending = grind (arith, common_steps)
 
 -- a world with only the network and the nodes

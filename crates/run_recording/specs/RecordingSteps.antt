@@ -10,7 +10,7 @@ use Rattle.film_stills.specs.declared.still.Still.{Still}
 use Rattle.film_stills.specs.Reels.{ReelView, Shows}
 use Rattle.run_recording.specs.declared.column.Column.{Column}
 use Rattle.run_recording.specs.declared.recording.Take.{Take}
-use Rattle.run_recording.specs.declared.sight.Sight.{Sight}
+use Rattle.run_recording.specs.declared.sight.NodesSight.{NodesSight}
 use Rattle.run_recording.specs.declared.window.Window.{Window}
 use Rattle.run_recording.specs.Seen.{sight_of}
 use Rattle.run_recording.specs.Filmed.{filmed_if, still_of, IsReeled}
@@ -35,21 +35,21 @@ abbrev pub EndsThere : RecordingView → RecordingView → Type 0
 EndsThere old new = (start : World) (bytes : List ℕ) → IsReading start bytes old → IsRecorded start (events_of bytes) new
 
 -- the column of a moment, for every world with this sight
-abbrev pub IsMomentSeen : Sight → Network → Bool → ℕ → ℕ → Column → Type 0
+abbrev pub IsMomentSeen : NodesSight → Network → Bool → ℕ → ℕ → Column → Type 0
 IsMomentSeen sight net damaged before after column = (w : World) → sight ≡ sight_of w → net ≡ w.net → column ≡ moment_of w damaged before after
 
 -- the still of a moment, for every world with this sight and with so many frames under way
-abbrev pub IsStillSeen : Sight → List ℕ → Take → Still → Type 0
+abbrev pub IsStillSeen : NodesSight → List ℕ → Take → Still → Type 0
 IsStillSeen sight under_way take still = (w : World) → sight ≡ sight_of w → under_way ≡ under_way_of w → still ≡ still_of w take
 
 -- the reel gets one more still of a world with this sight
-abbrev pub AddsStillSeen : Sight → World → Take → ReelView → ReelView → Type 0
+abbrev pub AddsStillSeen : NodesSight → World → Take → ReelView → ReelView → Type 0
 AddsStillSeen sight there take old new =
     (w : World) (stills : List Still) → sight ≡ sight_of w → there ≡ w
     → Shows old stills → Shows new (stills ++ still_of w take ∷ [])
 
 -- the reel gets one more still of a world with this sight, if the window holds the moment
-abbrev pub KeepsStillSeen : Sight → World → Take → Window → ℕ → Option ReelView → Option ReelView → Type 0
+abbrev pub KeepsStillSeen : NodesSight → World → Take → Window → ℕ → Option ReelView → Option ReelView → Type 0
 KeepsStillSeen sight there take window ended old new =
     (w : World) (stills : List Still) → sight ≡ sight_of w → there ≡ w
     → IsReeled old stills → IsReeled new (stills ++ filmed_if window ended (still_of w take))

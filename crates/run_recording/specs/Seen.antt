@@ -10,7 +10,7 @@ use Rattle.run_recording.specs.declared.mark.Mark.{Mark}
 use Rattle.run_recording.specs.declared.mark.Mark.TheVariants.{Settled, Wrong, Privileged, Lending}
 use Rattle.film_stills.specs.declared.look.Look.{Look}
 use Rattle.film_stills.specs.declared.look.Place.{Place}
-use Rattle.run_recording.specs.declared.sight.Sight.{Sight}
+use Rattle.run_recording.specs.declared.sight.NodesSight.{NodesSight}
 
 -- both are none, or both are the same node
 abbrev pub is_same : Option ℕ → Option ℕ → Bool
@@ -97,7 +97,7 @@ abbrev pub mark_of_look : Look → Mark
 mark_of_look look = lending_or look.lent (if look.privileged then Privileged else if look.settled then Settled else Wrong)
 
 -- what is seen of a world at one moment
-abbrev pub sight_of : World → Sight
+abbrev pub sight_of : World → NodesSight
 sight_of w = record {
   places = places_of w.net;
   edges = edges_of w.net;
@@ -108,5 +108,5 @@ sight_of w = record {
 }
 
 -- this is the sight of the world
-pub record IsSightOf (w : World) (sight : Sight) : Type 0 where
+pub record IsSightOf (w : World) (sight : NodesSight) : Type 0 where
   pub is : sight ≡ sight_of w

@@ -2,7 +2,7 @@
 use Rattle.std.specs.Prelude.{◌≡◌, ◌≢◌, ◌≤◌, ℕ, ◌+◌, ◌-◌, ◌^◌, min, Bool, true, false, is_some, slice_set, slice_index_or}
 use Rattle.world.specs.run_model.World.{World}
 use Rattle.film_stills.specs.declared.look.Look.{Look}
-use Rattle.run_recording.specs.declared.sight.Sight.{Sight}
+use Rattle.run_recording.specs.declared.sight.NodesSight.{NodesSight}
 use Rattle.run_recording.specs.Seen.{mark_of_look, nothing}
 
 -- the worlds have one network, and their nodes differ at most at one id; if that has no node, they
@@ -21,7 +21,7 @@ recounted count true true = count
 recounted count false false = count
 
 -- the sight with another look of one node
-abbrev pub with_look : Sight → ℕ → Look → Sight
+abbrev pub with_look : NodesSight → ℕ → Look → NodesSight
 with_look s v look = record {
   places = s.places;
   edges = s.edges;

@@ -37,7 +37,7 @@ pub use layers::Layers;
 pub use mark::Mark;
 pub use recording::{Before, Recording, record, record_film, record_layers};
 pub use runs::{Run, runs_of};
-pub use sight::Sight;
+pub use sight::NodesSight;
 pub use strip::Strip;
 pub use tour::{first_visits, is_tree_edge};
 pub use window::Window;

@@ -23,7 +23,7 @@ use crate::change::Change;
 use crate::column::Counts;
 use crate::lanes::Lanes;
 use crate::mark::Mark;
-use crate::sight::Sight;
+use crate::sight::NodesSight;
 use crate::strip::Strip;
 use crate::under_way::under_way_of;
 use crate::window::Window;
@@ -56,7 +56,7 @@ pub struct Before {
 pub struct Recording<A: Allocator + Copy = Global> {
     judge: Judge<A>,
     /// What is seen of the nodes now.
-    sight: Sight,
+    sight: NodesSight,
     reader: EventReader,
     strip: Strip<A>,
     /// The stills of a film, if one is made.
@@ -213,7 +213,7 @@ pub struct Take {
 }
 
 /// The still of a film, by what is seen, and by how many frames are under way.
-fn still_of(sight: &Sight, under_way: [u16; MOST_WAYS], take: Take) -> Still
+fn still_of(sight: &NodesSight, under_way: [u16; MOST_WAYS], take: Take) -> Still
     ensures { IsStillSeen sight.now under_way take result }
 {
     Still {
@@ -236,7 +236,7 @@ fn keep_still<A: Allocator + Copy>(
     reel: &mut Option<Reel<A>>,
     window: Window,
     ended: u64,
-    sight: &Sight,
+    sight: &NodesSight,
     configuration: &Configuration<A>,
     take: &Take,
 )
@@ -255,7 +255,7 @@ fn keep_still<A: Allocator + Copy>(
 #[inline(never)]
 fn push_still<A: Allocator + Copy>(
     reel: &mut Reel<A>,
-    sight: &Sight,
+    sight: &NodesSight,
     configuration: &Configuration<A>,
     take: Take,
 )
@@ -290,7 +290,7 @@ fn keep_layers<A: Allocator + Copy>(
 /// `before` to `after`.
 #[inline(always)]
 fn counts_of<A: Allocator + Copy>(
-    sight: &Sight,
+    sight: &NodesSight,
     net: &Net<A>,
     damaged: bool,
     before: u64,
@@ -341,7 +341,7 @@ impl<A: Allocator + Copy> Recording<A> {
         ensures events { result.events ≡ 0 }
     {
         let judge = Judge::new(world);
-        let sight = Sight::of(judge.configuration());
+        let sight = NodesSight::of(judge.configuration());
         let start = counts_of(&sight, judge.configuration().net(), false, 0, 0);
         keep(&mut strip, window, 0, &sight.marks, Change::All, &start);
         let take = Take {

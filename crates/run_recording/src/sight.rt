@@ -22,7 +22,7 @@ use world::{Configuration, Event, Harm};
 /// It is kept from event to event: an event changes the look of at most one node, unless it is
 /// damage to the edges, which alone changes the true places.
 #[derive(Clone, Copy)]
-pub struct Sight {
+pub struct NodesSight {
     /// The true places.
     pub places: [Place; 64],
     /// The edges, with [`NO_EDGE`] at places without one.
@@ -182,14 +182,14 @@ fn recounted(count: usize, was: bool, is: bool) -> usize
     }
 }
 
-impl Sight {
+impl NodesSight {
     /// What is seen of a configuration.
-    pub fn of<A: Allocator + Copy>(configuration: &Configuration<A>) -> Sight
+    pub fn of<A: Allocator + Copy>(configuration: &Configuration<A>) -> NodesSight
         ensures { result ≡ sight_of (world_of configuration.now) }
     {
         let places = places_of(configuration.net());
         let looks = looks_of(configuration, &places);
-        Sight {
+        NodesSight {
             places,
             edges: edges_of(configuration.net()),
             looks,
@@ -256,7 +256,7 @@ impl Sight {
         ensures sight { self.new ≡ sight_of (world_of configuration.now) }
         ensures change { AreChangedBy result self.old.marks self.new.marks }
     {
-        *self = Sight::of(configuration);
+        *self = NodesSight::of(configuration);
         Change::All
     }
 

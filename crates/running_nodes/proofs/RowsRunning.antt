@@ -9,7 +9,7 @@ use Rattle.run_model.specs.World.{World}
 use Rattle.run_model.proofs.RowsTwo.{two_nodes, each-node, each-link}
 use Rattle.socket_links.specs.Counts.{Counts}
 use Rattle.accounts.specs.Deeds.{Deed, Ticks}
-use Rattle.pace.specs.declared.pace.Pace.{Pace}
+use Rattle.pace.specs.declared.pace.TurnPace.{TurnPace}
 use Rattle.node_loop.specs.Moments.{Moment}
 use Rattle.node_loop.specs.node_connections.declared.port.NodePort.{NodePort}
 use Rattle.processes.specs.Accounts.{Timed}
@@ -44,7 +44,7 @@ ticked v = if v == 0 then record { instant = 1; deed = Ticks } ∷ [] else []
 abbrev no_wires : Wires
 no_wires = record { junk = λ u v. []; ended = λ u v. []; acts = λ u v. [] }
 
-module _ {P : Type 0} (gave took : P → Option (List ℕ)) (counts : P → Counts) (pace : Pace)
+module _ {P : Type 0} (gave took : P → Option (List ℕ)) (counts : P → Counts) (pace : TurnPace)
     (port : NodePort P) (loose : port.link.pipe ≡ None) where
   abbrev moment : ℕ → Moment P
   moment v = record { node = view v; ports = port ∷ port ∷ []; pace = pace; let_go = false }

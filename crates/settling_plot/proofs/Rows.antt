@@ -4,8 +4,8 @@ use Rattle.std.proofs.lemmas.Grind.{common_steps}
 use Rattle.svg_drawing.specs.declared.colours.Colour.TheVariants.{Green}
 use Rattle.svg_drawing.specs.Drawn.{whole}
 use Rattle.settling_plot.specs.declared.curves.Scale.{Scale}
-use Rattle.settling_plot.specs.declared.figure.Layer.{Layer}
-use Rattle.settling_plot.specs.declared.figure.Layer.TheVariants.{Links, Tree, Served}
+use Rattle.settling_plot.specs.declared.figure.PlottedLayer.{PlottedLayer}
+use Rattle.settling_plot.specs.declared.figure.PlottedLayer.TheVariants.{Links, Tree, Served}
 use Rattle.settling_plot.specs.Axes.{axis_to, height_of, place_of, powers_below, right_of, x_of}
 use Rattle.settling_plot.specs.Curves.{corner_in}
 use Rattle.settling_plot.specs.Figures.{layer_pen}
@@ -79,10 +79,10 @@ axis_ends = (refl, refl)
 -- ---- layers
 
 -- no two layers have one colour, nor the same dashes
-colours_differ : (a b : Layer) → (layer_pen a).colour ≡ (layer_pen b).colour → a ≡ b
+colours_differ : (a b : PlottedLayer) → (layer_pen a).colour ≡ (layer_pen b).colour → a ≡ b
 colours_differ a b same = grind (arith, common_steps)
 
-dashes_differ : (a b : Layer) → (layer_pen a).dashes ≡ (layer_pen b).dashes → a ≡ b
+dashes_differ : (a b : PlottedLayer) → (layer_pen a).dashes ≡ (layer_pen b).dashes → a ≡ b
 dashes_differ a b same = grind (arith, common_steps)
 
 rows : (label_of Links ≡ 124) × (label_of Served ≡ 76)

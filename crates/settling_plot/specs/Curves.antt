@@ -5,8 +5,8 @@ use Rattle.svg_drawing.specs.Drawn.{Shown, path_shown}
 use Rattle.settling_plot.specs.declared.axis.Axis.{Axis}
 use Rattle.settling_plot.specs.declared.curves.Scale.{Scale}
 use Rattle.settling_plot.specs.declared.figure.Figure.{Figure}
-use Rattle.settling_plot.specs.declared.figure.Layer.{Layer}
-use Rattle.settling_plot.specs.declared.figure.Layer.TheVariants.{Links, Tree, Ring, Served}
+use Rattle.settling_plot.specs.declared.figure.PlottedLayer.{PlottedLayer}
+use Rattle.settling_plot.specs.declared.figure.PlottedLayer.TheVariants.{Links, Tree, Ring, Served}
 use Rattle.settling_plot.specs.Axes.{x_of, right_of, height_of}
 use Rattle.settling_plot.specs.Figures.{layer_pen, last_bound}
 use Rattle.settling_plot.specs.Tallies.{runs_at, runs_by}
@@ -33,7 +33,7 @@ curve_steps scale sweeps =
     codes "M72 378" ++ (flat_map (corner_in scale sweeps) (range_with_len 0 (scale.last + 1)) ++ end_step scale.axis)
 
 -- the curve of a layer
-abbrev pub curve_shown : Scale → Layer → List ℕ → Shown
+abbrev pub curve_shown : Scale → PlottedLayer → List ℕ → Shown
 curve_shown scale layer sweeps = path_shown (curve_steps scale sweeps) (layer_pen layer)
 
 -- over what the curves of a figure are drawn: all its runs, and up to the greatest of its bounds

@@ -3,16 +3,16 @@ use Rattle.std.specs.Prelude.{ℕ, ◌+◌, ◌*◌, List, [], ◌∷◌, ◌++�
 use Rattle.svg_drawing.specs.declared.canvas.Anchor.TheVariants.{Start}
 use Rattle.svg_drawing.specs.declared.colours.Colour.TheVariants.{Ink}
 use Rattle.svg_drawing.specs.Drawn.{Shown, line_shown, words_shown}
-use Rattle.settling_plot.specs.declared.figure.Layer.{Layer}
-use Rattle.settling_plot.specs.declared.figure.Layer.TheVariants.{Links, Tree, Ring, Served}
+use Rattle.settling_plot.specs.declared.figure.PlottedLayer.{PlottedLayer}
+use Rattle.settling_plot.specs.declared.figure.PlottedLayer.TheVariants.{Links, Tree, Ring, Served}
 use Rattle.settling_plot.specs.Figures.{layer_pen, layer_words, row_of}
 
 -- where a layer's entry begins: the four stand side by side, 160 wide each
-abbrev pub entry_x : Layer → ℕ
+abbrev pub entry_x : PlottedLayer → ℕ
 entry_x layer = 72 + 160 * row_of layer
 
 -- a piece of a layer's curve, and after it what the layer is called
-abbrev pub entry_shown : Layer → List Shown
+abbrev pub entry_shown : PlottedLayer → List Shown
 entry_shown layer =
     line_shown (entry_x layer) 438 (entry_x layer + 28) 438 (layer_pen layer)
     ∷ words_shown (entry_x layer + 34) 442 Start Ink (layer_words layer) ∷ []

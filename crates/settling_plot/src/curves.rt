@@ -7,7 +7,7 @@ ghost use Rattle.settling_plot.specs.Curves.{corner, curve_shown, curve_steps, c
 ghost use Rattle.settling_plot.specs.Curves.{end_step, scale_of};
 
 use crate::axis::{Axis, height};
-use crate::figure::{Distribution, Figure, Layer};
+use crate::figure::{Distribution, Figure, PlottedLayer};
 use crate::tally::tally;
 use std::alloc::{AllocError, Global};
 use std::fmt::Write;
@@ -23,10 +23,10 @@ pub(crate) fn draw_curves(
     ensures { OnOk result (drawn canvas.new ≡ drawn canvas.old ++ curves_shown axis figure.now) }
 {
     let scale = scale_of(axis, figure);
-    draw_curve(canvas, scale, Layer::Links, &figure.links)?;
-    draw_curve(canvas, scale, Layer::Tree, &figure.tree)?;
-    draw_curve(canvas, scale, Layer::Ring, &figure.ring)?;
-    draw_curve(canvas, scale, Layer::Served, &figure.served)
+    draw_curve(canvas, scale, PlottedLayer::Links, &figure.links)?;
+    draw_curve(canvas, scale, PlottedLayer::Tree, &figure.tree)?;
+    draw_curve(canvas, scale, PlottedLayer::Ring, &figure.ring)?;
+    draw_curve(canvas, scale, PlottedLayer::Served, &figure.served)
 }
 
 /// Over what the curves of a figure are drawn.
@@ -55,7 +55,7 @@ pub(crate) struct Scale {
 fn draw_curve(
     canvas: &mut Canvas,
     scale: Scale,
-    layer: Layer,
+    layer: PlottedLayer,
     distribution: &Distribution,
 ) -> Result<(), AllocError>
     requires { IsAxis scale.axis }

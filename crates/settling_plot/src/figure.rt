@@ -45,7 +45,7 @@ impl Figure {
 
 /// A layer of the proof.
 #[derive(Clone, Copy)]
-pub enum Layer {
+pub enum PlottedLayer {
     /// Every link is stable.
     Links,
     /// The tree is reached.
@@ -56,16 +56,16 @@ pub enum Layer {
     Served,
 }
 
-impl Layer {
+impl PlottedLayer {
     /// What the legend calls it.
     pub(crate) fn words(self) -> &'static str
         ensures { result.now ≡ layer_words self }
     {
         match self {
-            Layer::Links => "links stable",
-            Layer::Tree => "tree reached",
-            Layer::Ring => "token ring good",
-            Layer::Served => "network serves",
+            PlottedLayer::Links => "links stable",
+            PlottedLayer::Tree => "tree reached",
+            PlottedLayer::Ring => "token ring good",
+            PlottedLayer::Served => "network serves",
         }
     }
 
@@ -74,10 +74,10 @@ impl Layer {
         ensures { pen_of result ≡ layer_pen self }
     {
         match self {
-            Layer::Links => stroke(Colour::Sky, "none"),
-            Layer::Tree => stroke(Colour::Green, "9 3"),
-            Layer::Ring => stroke(Colour::Purple, "5 2"),
-            Layer::Served => stroke(Colour::Vermilion, "2 2"),
+            PlottedLayer::Links => stroke(Colour::Sky, "none"),
+            PlottedLayer::Tree => stroke(Colour::Green, "9 3"),
+            PlottedLayer::Ring => stroke(Colour::Purple, "5 2"),
+            PlottedLayer::Served => stroke(Colour::Vermilion, "2 2"),
         }
     }
 
@@ -86,10 +86,10 @@ impl Layer {
         ensures { result ≡ row_of self }
     {
         match self {
-            Layer::Links => 0,
-            Layer::Tree => 1,
-            Layer::Ring => 2,
-            Layer::Served => 3,
+            PlottedLayer::Links => 0,
+            PlottedLayer::Tree => 1,
+            PlottedLayer::Ring => 2,
+            PlottedLayer::Served => 3,
         }
     }
 }

@@ -4,7 +4,7 @@ ghost use Rattle.svg_drawing.specs.Drawn.{drawn};
 ghost use Rattle.settling_plot.specs.Legend.{entry_x, entry_shown, legend_shown};
 
 use crate::axis::LEFT;
-use crate::figure::Layer;
+use crate::figure::PlottedLayer;
 use std::alloc::AllocError;
 use svg_drawing::{Anchor, Canvas, Colour, Point, Px};
 
@@ -15,14 +15,14 @@ const LEGEND: Px = Px(442);
 pub(crate) fn draw_legend(canvas: &mut Canvas) -> Result<(), AllocError>
     ensures { OnOk result (drawn canvas.new ≡ drawn canvas.old ++ legend_shown) }
 {
-    draw_entry(canvas, Layer::Links)?;
-    draw_entry(canvas, Layer::Tree)?;
-    draw_entry(canvas, Layer::Ring)?;
-    draw_entry(canvas, Layer::Served)
+    draw_entry(canvas, PlottedLayer::Links)?;
+    draw_entry(canvas, PlottedLayer::Tree)?;
+    draw_entry(canvas, PlottedLayer::Ring)?;
+    draw_entry(canvas, PlottedLayer::Served)
 }
 
 /// Draws a piece of a layer's curve, and after it what the layer is called.
-fn draw_entry(canvas: &mut Canvas, layer: Layer) -> Result<(), AllocError>
+fn draw_entry(canvas: &mut Canvas, layer: PlottedLayer) -> Result<(), AllocError>
     ensures { OnOk result (drawn canvas.new ≡ drawn canvas.old ++ entry_shown layer) }
 {
     let x = entry_x(layer);
@@ -37,7 +37,7 @@ fn draw_entry(canvas: &mut Canvas, layer: Layer) -> Result<(), AllocError>
 }
 
 /// Where a layer's entry begins.
-fn entry_x(layer: Layer) -> Px
+fn entry_x(layer: PlottedLayer) -> Px
     ensures { result.0 ≡ entry_x layer }
 {
     LEFT + Px(160) * layer.row()

@@ -29,5 +29,5 @@ mod plot;
 mod tally;
 
 pub use axis::Axis;
-pub use figure::{Distribution, Figure, Layer};
+pub use figure::{Distribution, Figure, PlottedLayer};
 pub use plot::{draw, plotted};

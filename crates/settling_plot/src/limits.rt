@@ -6,7 +6,7 @@ ghost use Rattle.settling_plot.specs.Limits.{limit_shown, limit_words, limits_sh
 ghost use Rattle.settling_plot.specs.Limits.{label_of};
 
 use crate::axis::{Axis, GROUND};
-use crate::figure::{Figure, Layer};
+use crate::figure::{Figure, PlottedLayer};
 use std::alloc::{AllocError, Global};
 use svg_drawing::{Anchor, Canvas, Colour, Point, Px, Stroke};
 
@@ -19,14 +19,19 @@ pub(crate) fn draw_limits(
     requires { IsAxis axis }
     ensures { OnOk result (drawn canvas.new ≡ drawn canvas.old ++ limits_shown axis figure.now) }
 {
-    draw_limit(canvas, axis, Layer::Links, figure.links.bound)?;
-    draw_limit(canvas, axis, Layer::Tree, figure.tree.bound)?;
-    draw_limit(canvas, axis, Layer::Ring, figure.ring.bound)?;
-    draw_limit(canvas, axis, Layer::Served, figure.served.bound)
+    draw_limit(canvas, axis, PlottedLayer::Links, figure.links.bound)?;
+    draw_limit(canvas, axis, PlottedLayer::Tree, figure.tree.bound)?;
+    draw_limit(canvas, axis, PlottedLayer::Ring, figure.ring.bound)?;
+    draw_limit(canvas, axis, PlottedLayer::Served, figure.served.bound)
 }
 
 /// Draws the bound of a layer: a line up to the layer's row, and there left of it what it is.
-fn draw_limit(canvas: &mut Canvas, axis: Axis, layer: Layer, bound: u32) -> Result<(), AllocError>
+fn draw_limit(
+    canvas: &mut Canvas,
+    axis: Axis,
+    layer: PlottedLayer,
+    bound: u32,
+) -> Result<(), AllocError>
     requires { IsAxis axis }
     ensures { OnOk result (drawn canvas.new ≡ drawn canvas.old ++ limit_shown axis layer bound) }
 {
@@ -40,14 +45,14 @@ fn draw_limit(canvas: &mut Canvas, axis: Axis, layer: Layer, bound: u32) -> Resu
 }
 
 /// The baseline of the words at a layer's bound.
-fn label(layer: Layer) -> Px
+fn label(layer: PlottedLayer) -> Px
     ensures { result.0 ≡ label_of layer }
 {
     Px(124) - Px(16) * layer.row()
 }
 
 /// The line of a layer's bound.
-fn thin(layer: Layer) -> Stroke
+fn thin(layer: PlottedLayer) -> Stroke
     ensures { pen_of result ≡ thin_pen layer }
 {
     Stroke::whole(layer.stroke().colour, 1)

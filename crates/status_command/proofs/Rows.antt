@@ -6,7 +6,7 @@ use Rattle.status_command.specs.declared.question.Question.TheVariants.{Status, 
 use Rattle.status_command.specs.declared.screen.Screen.TheVariants.{Blocks, Lines}
 use Rattle.status_command.specs.Asking.{question_path, AreWordsOf, is_answered, line_or_empty, nodes_of}
 use Rattle.std.specs.declared.io.ErrorKind.TheVariants as kind
-use Rattle.status_command.specs.declared.notice.Notice.TheVariants.{Output, Closed, Memory}
+use Rattle.status_command.specs.declared.notice.StatusNotice.TheVariants.{Output, Closed, Memory}
 use Rattle.status_command.specs.NoticeText.{notice_line}
 use Rattle.status_command.specs.Reasons.{notice_status, why_not_written, IsEnd}
 use Rattle.status_command.specs.Shown.{after_block, is_in_place, minute_after}

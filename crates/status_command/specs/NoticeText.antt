@@ -1,9 +1,9 @@
 -- The lines on standard error.
 use Rattle.std.specs.Prelude.{ℕ, List, ◌++◌, codes, decimal}
 use Rattle.network_file.specs.FaultText.{network_fault_text}
-use Rattle.status_command.specs.declared.notice.Notice.{Notice}
-use Rattle.status_command.specs.declared.notice.Notice.TheVariants.{NoFolder, Forbidden, NoSockets}
-use Rattle.status_command.specs.declared.notice.Notice.TheVariants.{NeverWas, OtherNetwork, NoNetwork, NoInterval, System, Memory, Output, Closed}
+use Rattle.status_command.specs.declared.notice.StatusNotice.{StatusNotice}
+use Rattle.status_command.specs.declared.notice.StatusNotice.TheVariants.{NoFolder, Forbidden, NoSockets}
+use Rattle.status_command.specs.declared.notice.StatusNotice.TheVariants.{NeverWas, OtherNetwork, NoNetwork, NoInterval, System, Memory, Output, Closed}
 
 -- that a node never ran in a folder
 abbrev pub never_ran_text : List ℕ → ℕ → List ℕ
@@ -18,7 +18,7 @@ foreign_text file folder node =
     ++ (codes ", which the network of " ++ (file ++ codes " has not"))))
 
 -- what each says
-abbrev pub notice_text : Notice → List ℕ
+abbrev pub notice_text : StatusNotice → List ℕ
 notice_text (NoFolder folder) = codes "there is no folder " ++ folder.now
 notice_text (Forbidden folder) = codes "this user may not use the sockets in " ++ folder.now
 notice_text (NoSockets folder) = codes "no node has a socket in " ++ (folder.now ++ codes ": start one there")
@@ -32,9 +32,9 @@ notice_text Output = codes "standard output cannot be written"
 notice_text Closed = codes "output Closed"
 
 -- the line, which begins with the program's name
-abbrev pub notice_line : Notice → List ℕ
+abbrev pub notice_line : StatusNotice → List ℕ
 notice_line notice = codes "tokentree: " ++ notice_text notice
 
 -- the line of a check that could not read the nodes
-abbrev pub unknown_line : Notice → List ℕ
+abbrev pub unknown_line : StatusNotice → List ℕ
 unknown_line notice = codes "tokentree UNKNOWN - " ++ notice_text notice

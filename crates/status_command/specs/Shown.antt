@@ -6,13 +6,13 @@ use Rattle.status_readings.specs.declared.minute.NodeLoans.{NodeLoans}
 use Rattle.status_readings.specs.declared.minute.Sample.{Sample}
 use Rattle.status_readings.specs.JsonData.{IsStatusLine}
 use Rattle.status_readings.specs.Minute.{sample_of, with_sample}
-use Rattle.status_command.specs.declared.status.Form.{Form}
-use Rattle.status_command.specs.declared.status.Form.TheVariants as form
+use Rattle.status_command.specs.declared.status.AnswerForm.{AnswerForm}
+use Rattle.status_command.specs.declared.status.AnswerForm.TheVariants as form
 use Rattle.status_command.specs.declared.screen.Screen.{Screen}
 use Rattle.status_command.specs.declared.screen.Screen.TheVariants.{Terminal, Blocks}
 
 -- the answers as lines, or as JSON on one line
-abbrev pub IsTextOf : Form → List NodeAnswer → List ℕ → Type 0
+abbrev pub IsTextOf : AnswerForm → List NodeAnswer → List ℕ → Type 0
 IsTextOf form.Lines answers text = text ≡ report_text answers
 IsTextOf form.Json answers text = IsStatusLine answers text
 

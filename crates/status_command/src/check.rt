@@ -5,7 +5,7 @@ ghost use Rattle.status_readings.specs.CheckText.{figures};
 ghost use Rattle.status_readings.specs.Verdict.{finding};
 
 use crate::folder::{first_beyond, why_no_nodes};
-use crate::notice::{Notice, UnknownLine};
+use crate::notice::{StatusNotice, UnknownLine};
 use crate::status::{WAIT, answers_of, why_not_asked};
 use network_file::read_network;
 use node_texts::NodeAnswer;
@@ -52,15 +52,15 @@ fn checked<'a, R: std::net::Net + Files + Clock + AllocGlobal>(
     rt: &R,
     folder: &'a str,
     file: &'a str,
-) -> Result<CheckLine, Notice<'a>> {
+) -> Result<CheckLine, StatusNotice<'a>> {
     let net = match read_network(rt, file) {
         Ok(net) => net,
-        Err(fault) => return Err(Notice::NoNetwork { file, fault }),
+        Err(fault) => return Err(StatusNotice::NoNetwork { file, fault }),
     };
     see_folder(rt, folder, file, &net)?;
     match nodes_of(rt.alloc(), &net) {
         Ok(nodes) => judged(rt, folder, &net, nodes.as_slice()),
-        Err(_) => Err(Notice::Memory),
+        Err(_) => Err(StatusNotice::Memory),
     }
 }
 
@@ -70,10 +70,10 @@ fn see_folder<'a, R: Files + AllocGlobal>(
     folder: &'a str,
     file: &'a str,
     net: &Net,
-) -> Result<(), Notice<'a>> {
+) -> Result<(), StatusNotice<'a>> {
     match nodes_in(rt, folder) {
         Ok(found) => match first_beyond(found.as_slice(), net.nodes()) {
-            Some(node) => Err(Notice::OtherNetwork { file, folder, node }),
+            Some(node) => Err(StatusNotice::OtherNetwork { file, folder, node }),
             None => Ok(()),
         },
         Err(error) => Err(why_no_nodes(error.kind(), folder)),
@@ -97,7 +97,7 @@ fn judged<'a, R: std::net::Net + Clock + AllocGlobal>(
     folder: &'a str,
     net: &Net,
     nodes: &[u16],
-) -> Result<CheckLine, Notice<'a>> {
+) -> Result<CheckLine, StatusNotice<'a>> {
     let first = reading(rt, folder, nodes)?;
     thread::sleep(rt, Duration::from_secs(BETWEEN_READINGS));
     let second = reading(rt, folder, nodes)?;
@@ -127,7 +127,7 @@ fn reading<'a, R: std::net::Net + Clock + AllocGlobal>(
     rt: &R,
     folder: &'a str,
     nodes: &[u16],
-) -> Result<Vec<NodeAnswer>, Notice<'a>> {
+) -> Result<Vec<NodeAnswer>, StatusNotice<'a>> {
     match answers_of(rt, rt.alloc(), folder, nodes, WAIT) {
         Ok(answers) => Ok(answers),
         Err(error) => Err(why_not_asked(error.kind())),

@@ -4,7 +4,7 @@ ghost use Rattle.std.specs.Ordering.{nat_cmp};
 ghost use Rattle.std.specs.List.{find};
 ghost use Rattle.status_command.specs.Reasons.{why_no_nodes};
 
-use crate::notice::Notice;
+use crate::notice::StatusNotice;
 use node_texts::NodePaths;
 use node_texts::desk_file::nodes_in;
 use std::alloc::Global;
@@ -21,7 +21,7 @@ pub fn nodes_asked<'a, R: Files + AllocGlobal>(
     rt: &R,
     folder: &'a str,
     named: &[u16],
-) -> Result<Vec<u16>, Notice<'a>>
+) -> Result<Vec<u16>, StatusNotice<'a>>
     ensures named { IfOk result (λ nodes. named.now ≢ [] → nodes.items ≡ named.now) }
     ensures ascending { IfOk result (λ nodes. named.now ≡ [] → IsSorted nat_cmp nodes.items) }
     ensures some { IfOk result (λ nodes. nodes.items ≢ []) }
@@ -32,7 +32,7 @@ pub fn nodes_asked<'a, R: Files + AllocGlobal>(
         copied(rt.alloc(), named)
     };
     match nodes {
-        Ok(nodes) if nodes.is_empty() => Err(Notice::NoSockets(folder)),
+        Ok(nodes) if nodes.is_empty() => Err(StatusNotice::NoSockets(folder)),
         Ok(nodes) => Ok(nodes),
         Err(error) => Err(why_no_nodes(error.kind(), folder)),
     }
@@ -46,14 +46,14 @@ fn copied(alloc: Global, nodes: &[u16]) -> io::Result<Vec<u16>>
 }
 
 /// Why the nodes of a folder are not known, by the system's answer.
-pub fn why_no_nodes<'a>(kind: ErrorKind, folder: &'a str) -> Notice<'a>
+pub fn why_no_nodes<'a>(kind: ErrorKind, folder: &'a str) -> StatusNotice<'a>
     ensures { result ≡ why_no_nodes kind folder.entry }
 {
     match kind {
-        ErrorKind::NotFound | ErrorKind::NotADirectory => Notice::NoFolder(folder),
-        ErrorKind::OutOfMemory => Notice::Memory,
-        ErrorKind::Uncategorized => Notice::System,
-        _ => Notice::Forbidden(folder),
+        ErrorKind::NotFound | ErrorKind::NotADirectory => StatusNotice::NoFolder(folder),
+        ErrorKind::OutOfMemory => StatusNotice::Memory,
+        ErrorKind::Uncategorized => StatusNotice::System,
+        _ => StatusNotice::Forbidden(folder),
     }
 }
 

@@ -5,7 +5,7 @@
 //! [`report`](node_texts::report) says what is printed of the answers.
 //!
 //! ```
-//! let status = status::run(rt, "/run/lock", &[], Form::Lines);  // 0 if each node answered, else 1
+//! let status = status::run(rt, "/run/lock", &[], AnswerForm::Lines);  // 0 if each node answered, else 1
 //! let status = check::run(rt, "/run/lock", "ring.toml");        // 0 OK, 1 WARNING, 2 CRITICAL, 3 UNKNOWN
 //! ```
 //!
@@ -25,7 +25,7 @@ pub mod status;
 pub mod watch;
 mod windows;
 
-pub use looks::Part;
-pub use notice::{Notice, NoticeLine, refused};
-pub use status::Form;
+pub use looks::LinePart;
+pub use notice::{StatusNotice, StatusNoticeLine, refused};
+pub use status::AnswerForm;
 pub use watch::Watch;

@@ -6,7 +6,7 @@ ghost use Rattle.status_command.specs.Asking.{text_or_empty, text_in, loans_in};
 use crate::answering::first_line;
 use crate::asking::{Asked, ask_all};
 use crate::folder::nodes_asked;
-use crate::notice::{Notice, reported, why_not_written};
+use crate::notice::{StatusNotice, reported, why_not_written};
 use crate::question::Question;
 use crate::status::{NO_ANSWER, WAIT, why_not_asked};
 use node_texts::{PremisesLine, TurnsSaid, premises_report};
@@ -18,7 +18,7 @@ use std::time::Clock;
 
 /// What to show of the nodes' lines for lookers.
 #[derive(Clone, Copy, Drop)]
-pub enum Part {
+pub enum LinePart {
     /// The longest times between two turns.
     Premises,
     /// How each link stands.
@@ -31,7 +31,7 @@ pub fn run<R: Net + Files + Clock + Print + Eprint + AllocGlobal>(
     rt: &R,
     folder: &str,
     nodes: &[u16],
-    part: Part,
+    part: LinePart,
 ) -> u8
     ensures { IsEnd result }
 {
@@ -47,8 +47,8 @@ fn print_part<'a, R: Net + Files + Clock + Print + Eprint + AllocGlobal>(
     rt: &R,
     folder: &'a str,
     nodes: &[u16],
-    part: Part,
-) -> Result<bool, Notice<'a>> {
+    part: LinePart,
+) -> Result<bool, StatusNotice<'a>> {
     let nodes = nodes_asked(rt, folder, nodes)?;
     let asked = ask_all(
         rt,
@@ -68,14 +68,14 @@ fn print_part<'a, R: Net + Files + Clock + Print + Eprint + AllocGlobal>(
 fn print_said<'a, R: Print + Eprint + AllocGlobal>(
     rt: &R,
     all: &[Asked],
-    part: Part,
-) -> Result<bool, Notice<'a>> {
+    part: LinePart,
+) -> Result<bool, StatusNotice<'a>> {
     let said = match part {
-        Part::Premises => premises_text(rt.alloc(), all),
-        Part::Links => links_text(rt.alloc(), all),
+        LinePart::Premises => premises_text(rt.alloc(), all),
+        LinePart::Links => links_text(rt.alloc(), all),
     };
     let Ok((text, all_said)) = said else {
-        return Err(Notice::Memory);
+        return Err(StatusNotice::Memory);
     };
     match rt.print(text.as_str()) {
         Ok(()) => Ok(all_said),

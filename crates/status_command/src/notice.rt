@@ -14,7 +14,7 @@ const READER_GONE: u8 = 141;
 
 /// Why nothing is shown of the nodes. Printed, it is the message without the program's name.
 #[derive(Clone, Copy, Drop)]
-pub enum Notice<'a> {
+pub enum StatusNotice<'a> {
     /// There is no such folder.
     NoFolder(&'a str),
     /// The folder may not be read or entered.
@@ -49,28 +49,30 @@ pub enum Notice<'a> {
     Closed,
 }
 
-impl fmt::Display for Notice<'_> {
+impl fmt::Display for StatusNotice<'_> {
     ghost output = { λ notice. Some (notice_text notice) };
 
     fn fmt<W: fmt::Write>(&self, f: &mut fmt::Formatter<W>) -> fmt::Result {
         match *self {
-            Notice::NoFolder(folder) => OfFolder(NO_FOLDER, folder).fmt(f),
-            Notice::Forbidden(folder) => OfFolder(FORBIDDEN, folder).fmt(f),
-            Notice::NoSockets(folder) => {
+            StatusNotice::NoFolder(folder) => FolderNotice(NO_FOLDER, folder).fmt(f),
+            StatusNotice::Forbidden(folder) => FolderNotice(FORBIDDEN, folder).fmt(f),
+            StatusNotice::NoSockets(folder) => {
                 write!(f, "no node has a socket in {folder}: start one there")
             }
-            Notice::NeverWas { folder, node } => NeverRan { folder, node }.fmt(f),
-            Notice::OtherNetwork { file, folder, node } => Foreign { file, folder, node }.fmt(f),
-            Notice::NoNetwork { file, fault } => write!(f, "{file}: {fault}"),
-            Notice::NoInterval => f.write_str(
+            StatusNotice::NeverWas { folder, node } => NeverRan { folder, node }.fmt(f),
+            StatusNotice::OtherNetwork { file, folder, node } => Foreign { file, folder, node }.fmt(
+                f,
+            ),
+            StatusNotice::NoNetwork { file, fault } => write!(f, "{file}: {fault}"),
+            StatusNotice::NoInterval => f.write_str(
                 "--every is no time from 0.1 to 3600 seconds, with at most 3 decimals",
             ),
-            Notice::System => {
+            StatusNotice::System => {
                 f.write_str("the system has no descriptor, poll or clock to give; try again")
             }
-            Notice::Memory => f.write_str("out of memory"),
-            Notice::Output => f.write_str("standard output cannot be written"),
-            Notice::Closed => f.write_str("output Closed"),
+            StatusNotice::Memory => f.write_str("out of memory"),
+            StatusNotice::Output => f.write_str("standard output cannot be written"),
+            StatusNotice::Closed => f.write_str("output Closed"),
         }
     }
 }
@@ -82,9 +84,9 @@ const FORBIDDEN: &str = "this user may not use the sockets in ";
 
 /// What is said of a folder, and its name.
 #[derive(Drop)]
-struct OfFolder<'a>(&'static str, &'a str);
+struct FolderNotice<'a>(&'static str, &'a str);
 
-impl fmt::Display for OfFolder<'_> {
+impl fmt::Display for FolderNotice<'_> {
     ghost output = { λ words. Some (words.0.now ++ words.1.now) };
 
     fn fmt<W: fmt::Write>(&self, f: &mut fmt::Formatter<W>) -> fmt::Result {
@@ -133,9 +135,9 @@ impl fmt::Display for Foreign<'_> {
 
 /// The whole line of a notice, without its newline.
 #[derive(Drop)]
-pub struct NoticeLine<'a>(pub Notice<'a>);
+pub struct StatusNoticeLine<'a>(pub StatusNotice<'a>);
 
-impl fmt::Display for NoticeLine<'_> {
+impl fmt::Display for StatusNoticeLine<'_> {
     ghost output = { λ line. Some (notice_line line.0) };
 
     fn fmt<W: fmt::Write>(&self, f: &mut fmt::Formatter<W>) -> fmt::Result {
@@ -145,43 +147,43 @@ impl fmt::Display for NoticeLine<'_> {
 }
 
 /// Reports why nothing is shown, unless the reader of it is gone, and returns the exit status.
-pub fn reported<R: Eprint>(rt: &R, notice: Notice<'_>) -> u8
+pub fn reported<R: Eprint>(rt: &R, notice: StatusNotice<'_>) -> u8
     ensures status { result ≡ notice_status notice.entry }
     ensures end { IsEnd result }
 {
-    if let Notice::Closed = notice {
+    if let StatusNotice::Closed = notice {
         return READER_GONE;
     }
-    let _ = rt.eprintln(NoticeLine(notice));
+    let _ = rt.eprintln(StatusNoticeLine(notice));
     1
 }
 
 /// Why nothing more is shown, by the error of standard output. If that refused it, the system's words
 /// are said on standard error.
-pub fn why_not_written<'a, R: Eprint>(rt: &R, error: io::Error) -> Notice<'a>
+pub fn why_not_written<'a, R: Eprint>(rt: &R, error: io::Error) -> StatusNotice<'a>
     ensures { result ≡ why_not_written (error_kind error) }
 {
     match error.kind() {
-        ErrorKind::BrokenPipe => Notice::Closed,
-        ErrorKind::OutOfMemory => Notice::Memory,
+        ErrorKind::BrokenPipe => StatusNotice::Closed,
+        ErrorKind::OutOfMemory => StatusNotice::Memory,
         _ => {
             let _ = eprintln!(rt; "tokentree: standard output: {error}");
-            Notice::Output
+            StatusNotice::Output
         }
     }
 }
 
 /// Reports why a command line is invalid, and returns the exit status.
-pub fn refused<R: Eprint>(rt: &R, notice: Notice<'_>) -> u8
+pub fn refused<R: Eprint>(rt: &R, notice: StatusNotice<'_>) -> u8
     ensures { result ≡ 2 }
 {
-    let _ = rt.eprintln(NoticeLine(notice));
+    let _ = rt.eprintln(StatusNoticeLine(notice));
     2
 }
 
 /// The line of a check that could not read the nodes, without its newline.
 #[derive(Drop)]
-pub struct UnknownLine<'a>(pub Notice<'a>);
+pub struct UnknownLine<'a>(pub StatusNotice<'a>);
 
 impl fmt::Display for UnknownLine<'_> {
     ghost output = { λ line. Some (unknown_line line.0) };

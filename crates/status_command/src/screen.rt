@@ -1,11 +1,11 @@
 //! How a watch is shown: in place on a terminal, or as one block after the other.
 ghost use Rattle.std.specs.Prelude.{◌≡◌, ◌==◌, ◌||◌, true, false, OnOk};
-ghost use Rattle.status_command.specs.declared.screen.End.TheVariants.{NotYet};
+ghost use Rattle.status_command.specs.declared.screen.WatchEnd.TheVariants.{NotYet};
 ghost use Rattle.status_command.specs.declared.screen.Screen.TheVariants.{Lines};
-ghost use Rattle.status_command.specs.declared.status.Form.TheVariants.{Json};
+ghost use Rattle.status_command.specs.declared.status.AnswerForm.TheVariants.{Json};
 ghost use Rattle.status_command.specs.Shown.{after_block, is_in_place};
 
-use crate::status::Form;
+use crate::status::AnswerForm;
 use std::alloc::{AllocError, Global};
 use std::fmt::Write;
 use std::fs::File;
@@ -17,7 +17,7 @@ use std::{fs, io, thread};
 
 /// Whether a watch goes on.
 #[derive(Clone, Copy, Drop)]
-pub enum End {
+pub enum WatchEnd {
     /// Nobody asked for its end.
     NotYet,
     /// Somebody did.
@@ -46,12 +46,12 @@ impl Screen {
     /// are not echoed, and Ctrl-C is a key.
     pub fn begin<R: Files<File = File> + Print + Processes + AllocGlobal>(
         rt: &R,
-        form: Form,
+        form: AnswerForm,
     ) -> Screen
         // JSON is for programs, also on a terminal.
         ensures { form ≡ Json → result ≡ Lines }
     {
-        if form == Form::Json {
+        if form == AnswerForm::Json {
             return Screen::Lines;
         }
         if !is_terminal(rt, "/dev/stdout") {
@@ -85,7 +85,7 @@ impl Screen {
     }
 
     /// Rests for so many milliseconds, or until somebody types a key that ends the watch.
-    pub fn rest<R: Clock + Input>(&self, rt: &R, millis: u64) -> End
+    pub fn rest<R: Clock + Input>(&self, rt: &R, millis: u64) -> WatchEnd
         // Keys are read only from a terminal.
         ensures { is_in_place self.now ≡ false → result ≡ NotYet }
     {
@@ -93,7 +93,7 @@ impl Screen {
             Screen::Terminal(_) => typed_end(rt, Duration::from_millis(millis)),
             _ => {
                 thread::sleep(rt, Duration::from_millis(millis));
-                End::NotYet
+                WatchEnd::NotYet
             }
         }
     }
@@ -162,21 +162,21 @@ fn in_place(alloc: Global, block: &str) -> Result<String, AllocError> {
 }
 
 /// Waits until somebody types a key that ends a watch, at most for this long.
-fn typed_end<R: Clock + Input>(rt: &R, rest: Duration) -> End {
+fn typed_end<R: Clock + Input>(rt: &R, rest: Duration) -> WatchEnd {
     let Ok(start) = Instant::now(rt) else {
-        return End::Asked;
+        return WatchEnd::Asked;
     };
     for _ in 0..u64::MAX {
         if has_end_key(rt) {
-            return End::Asked;
+            return WatchEnd::Asked;
         }
         match start.elapsed(rt) {
             Ok(time) if time < rest => {}
-            Ok(_) => return End::NotYet,
-            Err(_) => return End::Asked,
+            Ok(_) => return WatchEnd::NotYet,
+            Err(_) => return WatchEnd::Asked,
         }
     }
-    End::NotYet
+    WatchEnd::NotYet
 }
 
 /// Whether a key that ends a watch was typed, or the terminal is gone.

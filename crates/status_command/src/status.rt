@@ -6,7 +6,7 @@ ghost use Rattle.status_command.specs.Reasons.{why_not_asked, IsEnd};
 
 use crate::asking::ask_all;
 use crate::folder::{nodes_asked, was_never};
-use crate::notice::{Notice, NoticeLine, reported, why_not_written};
+use crate::notice::{StatusNotice, StatusNoticeLine, reported, why_not_written};
 use crate::question::Question;
 use crate::windows::{answers_with, without_room};
 use node_texts::{NodeAnswer, all_answered, report};
@@ -26,7 +26,7 @@ pub const NO_ANSWER: u8 = 1;
 
 /// The form in which answers are printed.
 #[derive(Clone, Copy, Drop)]
-pub enum Form {
+pub enum AnswerForm {
     /// A line for each node, and their counts.
     Lines,
     /// A line with a JSON object.
@@ -45,7 +45,7 @@ pub fn run<R: Net + Files + Clock + Print + Eprint + AllocGlobal>(
     rt: &R,
     folder: &str,
     nodes: &[u16],
-    form: Form,
+    form: AnswerForm,
 ) -> u8
     ensures { IsEnd result }
 {
@@ -61,8 +61,8 @@ fn print_status<'a, R: Net + Files + Clock + Print + Eprint + AllocGlobal>(
     rt: &R,
     folder: &'a str,
     nodes: &[u16],
-    form: Form,
-) -> Result<bool, Notice<'a>> {
+    form: AnswerForm,
+) -> Result<bool, StatusNotice<'a>> {
     let nodes = nodes_asked(rt, folder, nodes)?;
     match answers_of(rt, rt.alloc(), folder, nodes.as_slice(), WAIT) {
         Ok(answers) => print_answers(rt, folder, answers.as_slice(), form),
@@ -91,12 +91,12 @@ pub fn answers_of<R: Net + Clock>(
 }
 
 /// Why nodes are not asked, by the system's answer.
-pub fn why_not_asked<'a>(kind: ErrorKind) -> Notice<'a>
+pub fn why_not_asked<'a>(kind: ErrorKind) -> StatusNotice<'a>
     ensures { result ≡ why_not_asked kind }
 {
     match kind {
-        ErrorKind::Uncategorized => Notice::System,
-        _ => Notice::Memory,
+        ErrorKind::Uncategorized => StatusNotice::System,
+        _ => StatusNotice::Memory,
     }
 }
 
@@ -105,10 +105,10 @@ fn print_answers<'a, R: Files + Print + Eprint + AllocGlobal>(
     rt: &R,
     folder: &'a str,
     answers: &[NodeAnswer],
-    form: Form,
-) -> Result<bool, Notice<'a>> {
+    form: AnswerForm,
+) -> Result<bool, StatusNotice<'a>> {
     let Ok(text) = text_of(rt.alloc(), answers, form) else {
-        return Err(Notice::Memory);
+        return Err(StatusNotice::Memory);
     };
     match rt.print(text.as_str()) {
         Ok(()) => {
@@ -123,12 +123,16 @@ fn print_answers<'a, R: Files + Print + Eprint + AllocGlobal>(
 ///
 /// # Errors
 /// If memory runs out.
-pub fn text_of(alloc: Global, answers: &[NodeAnswer], form: Form) -> Result<String, AllocError>
+pub fn text_of(
+    alloc: Global,
+    answers: &[NodeAnswer],
+    form: AnswerForm,
+) -> Result<String, AllocError>
     ensures { IfOk result (λ text. IsTextOf form answers.now (string_bytes text)) }
 {
     match form {
-        Form::Lines => report(alloc, answers),
-        Form::Json => {
+        AnswerForm::Lines => report(alloc, answers),
+        AnswerForm::Json => {
             let mut text = status_json(alloc, answers)?;
             text.push_str("\n")?;
             Ok(text)
@@ -141,7 +145,7 @@ fn tell_of_absent<R: Files + Eprint + AllocGlobal>(rt: &R, folder: &str, answers
     for answer in answers {
         let node = answer.node;
         if answer.line.is_none() && was_never(rt, folder, node) {
-            let _ = rt.eprintln(NoticeLine(Notice::NeverWas { folder, node }));
+            let _ = rt.eprintln(StatusNoticeLine(StatusNotice::NeverWas { folder, node }));
         }
     }
 }

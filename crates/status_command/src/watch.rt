@@ -8,10 +8,10 @@ ghost use Rattle.status_command.specs.Shown.{minute_after};
 use crate::asking::ask_all;
 use crate::folder::nodes_asked;
 use crate::looks::loans_of;
-use crate::notice::{Notice, reported, why_not_written};
+use crate::notice::{StatusNotice, reported, why_not_written};
 use crate::question::Question;
-use crate::screen::{End, Screen};
-use crate::status::{Form, answers_of, text_of, why_not_asked};
+use crate::screen::{Screen, WatchEnd};
+use crate::status::{AnswerForm, answers_of, text_of, why_not_asked};
 use node_texts::NodeAnswer;
 use status_readings::{Minute, NodeLoans, Sample, picture};
 use std::alloc::{AllocError, Global};
@@ -36,7 +36,7 @@ pub struct Watch<'a> {
     /// How many milliseconds pass between two readings.
     pub every: u64,
     /// The form in which they are shown.
-    pub form: Form,
+    pub form: AnswerForm,
 }
 
 /// Shows how nodes stand again and again: in place on a terminal, until Ctrl-C or `q` is typed;
@@ -62,9 +62,9 @@ fn show_all<'a, R: Net + Files + Clock + Input + Print + Eprint + AllocGlobal>(
     rt: &R,
     watch: &Watch<'a>,
     screen: &mut Screen,
-) -> Result<(), Notice<'a>> {
+) -> Result<(), StatusNotice<'a>> {
     let Ok(start) = Instant::now(rt) else {
-        return Err(Notice::System);
+        return Err(StatusNotice::System);
     };
     let mut minute = Minute::new(rt.alloc());
     for _ in 0..u64::MAX {
@@ -72,7 +72,7 @@ fn show_all<'a, R: Net + Files + Clock + Input + Print + Eprint + AllocGlobal>(
         if let Err(error) = screen.show(rt, text.as_str()) {
             return Err(why_not_written(rt, error));
         }
-        if let End::Asked = screen.rest(rt, watch.every) {
+        if let WatchEnd::Asked = screen.rest(rt, watch.every) {
             return Ok(());
         }
     }
@@ -85,11 +85,11 @@ fn shown<'a, R: Net + Files + Clock + AllocGlobal>(
     watch: &Watch<'a>,
     start: Instant,
     minute: &mut Minute,
-) -> Result<String, Notice<'a>> {
+) -> Result<String, StatusNotice<'a>> {
     let nodes = nodes_asked(rt, watch.folder, watch.nodes)?;
     let read = match watch.form {
-        Form::Json => json(rt, rt.alloc(), watch.folder, nodes.as_slice()),
-        Form::Lines => block(
+        AnswerForm::Json => json(rt, rt.alloc(), watch.folder, nodes.as_slice()),
+        AnswerForm::Lines => block(
             rt,
             rt.alloc(),
             watch.folder,
@@ -107,7 +107,7 @@ fn shown<'a, R: Net + Files + Clock + AllocGlobal>(
 /// A reading as JSON.
 fn json<R: Net + Clock>(rt: &R, alloc: Global, folder: &str, nodes: &[u16]) -> io::Result<String> {
     let answers = answers_of(rt, alloc, folder, nodes, WAIT)?;
-    Ok(text_of(alloc, answers.as_slice(), Form::Json)?)
+    Ok(text_of(alloc, answers.as_slice(), AnswerForm::Json)?)
 }
 
 /// A reading as a picture, with the loans of the last minute.

@@ -73,7 +73,7 @@ impl fmt::Display for Finding {
 
 /// A count of nodes. Printed, it is a figure of the line, with a space in front.
 #[derive(Clone, Copy, Drop)]
-struct Figure {
+struct NodeCount {
     /// What is counted.
     label: &'static str,
     /// How many there are.
@@ -82,17 +82,17 @@ struct Figure {
     most: usize,
 }
 
-impl Figure {
+impl NodeCount {
     /// So many of so many.
-    fn new(label: &'static str, value: usize, most: usize) -> Figure
+    fn new(label: &'static str, value: usize, most: usize) -> NodeCount
         ensures label { result.label.now ≡ label.now }
         ensures counts { (result.value ≡ value) × (result.most ≡ most) }
     {
-        Figure { label, value, most }
+        NodeCount { label, value, most }
     }
 }
 
-impl fmt::Display for Figure {
+impl fmt::Display for NodeCount {
     ghost output = { λ figure. Some (figure_text figure.label.now figure.value figure.most) };
 
     #[tactic(auto, unfolding(crate::specs::CheckText::figure_text))]
@@ -108,11 +108,11 @@ impl fmt::Display for Figures {
         write!(
             f,
             "{}{}{}{}{}",
-            Figure::new("nodes", self.nodes, self.nodes),
-            Figure::new("answering", self.answering, self.nodes),
-            Figure::new("wrong", self.wrong, self.nodes),
-            Figure::new("privileged", self.privileged, self.nodes),
-            Figure::new("lending", self.lending, self.nodes)
+            NodeCount::new("nodes", self.nodes, self.nodes),
+            NodeCount::new("answering", self.answering, self.nodes),
+            NodeCount::new("wrong", self.wrong, self.nodes),
+            NodeCount::new("privileged", self.privileged, self.nodes),
+            NodeCount::new("lending", self.lending, self.nodes)
         )
     }
 }

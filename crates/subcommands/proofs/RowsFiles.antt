@@ -10,9 +10,9 @@ use Rattle.command_parts.specs.schedules.damage_tool.Draws.{draw, draw_junk}
 use Rattle.command_parts.specs.world.declared.simulation.Summary.{Summary as Simulated}
 use Rattle.experiments.specs.declared.measured_run.Recovery.{Recovery}
 use Rattle.experiments.specs.declared.measured_run.Scheduler.TheVariants as scheduler
-use Rattle.experiments.specs.declared.summary.Summary.{Summary}
+use Rattle.experiments.specs.declared.summary.ThreeNumberSummary.{ThreeNumberSummary}
 use Rattle.experiments.specs.Summary.{IsSummaryOf}
-use Rattle.subcommands.specs.declared.measure.Plan.{Plan}
+use Rattle.subcommands.specs.declared.measure.MeasurePlan.{MeasurePlan}
 use Rattle.network_commands.specs.BoundData.{count}
 use Rattle.subcommands.specs.Damaged.{junk_text, scrambled_file, seeded}
 use Rattle.subcommands.specs.Hints.{loan_hint}
@@ -61,7 +61,7 @@ junk_not-none e = let lengths : 1 ≡ 0 = ap length e in omega (arith, lengths)
 abbrev run : Recovery
 run = record { seed = 4; sweeps = 5; seen = 35 }
 
-abbrev summary : Summary
+abbrev summary : ThreeNumberSummary
 summary = record { least = 5; median = 5; most = 5 }
 
 one-sorted : IsSorted nat_cmp (5 ∷ [])
@@ -122,7 +122,7 @@ module _ (text : List ℕ) where
   json_not-without m none = let sums : ◌≡◌ {A = List ℕ} (5 ∷ []) [] = rw none at m.sums_up in absurd cc
 
 -- a plan of no runs: none has failed to serve
-abbrev no_runs : Plan
+abbrev no_runs : MeasurePlan
 no_runs = record { runs = 0; seed = 4; scheduler = scheduler.Rounds; table = false; progress = false }
 
 none-served : HaveServed [] 35

@@ -1,7 +1,7 @@
 -- A small example of what is plotted of measured runs, and one that looks like it and is none.
 use Rattle.std.proofs.Common.{◌≡◌, ◌≢◌, [], ◌∷◌, refl, arith}
 use Rattle.experiments.specs.declared.layered_run.Settling.{Settling}
-use Rattle.settling_plot.specs.declared.figure.Layer.TheVariants.{Links, Tree, Ring, Served}
+use Rattle.settling_plot.specs.declared.figure.PlottedLayer.TheVariants.{Links, Tree, Ring, Served}
 use Rattle.subcommands.specs.MeasuredPlot.{settled_sweeps}
 
 -- a run that had its 35 sweeps and served, and one that was too short

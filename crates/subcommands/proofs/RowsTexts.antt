@@ -12,7 +12,7 @@ use Rattle.experiments.specs.declared.plan.Order.TheVariants as order
 use Rattle.experiments.specs.declared.plan.PlanFault.TheVariants as plan
 use Rattle.command_parts.specs.command_faults.declared.fault.Fault.TheVariants as fault
 use Rattle.subcommands.specs.declared.schedule.Turns.TheVariants as turns
-use Rattle.subcommands.specs.declared.measure.Plan.{Plan}
+use Rattle.subcommands.specs.declared.measure.MeasurePlan.{MeasurePlan}
 use Rattle.subcommands.specs.Cut.{IsCutTo}
 use Rattle.subcommands.specs.Damaged.{junk_text}
 use Rattle.subcommands.specs.Measured.{AreRunsOf, has_served, HaveServed, run_line, run_lines, served_sweeps, summary_line}
@@ -74,7 +74,7 @@ all_not-served h =
     grind (arith, All-head P (recovery 5 2 7) [] (All-tail P (recovery 4 5 8) (recovery 5 2 7 ∷ []) h))
 
 -- one run does not meet a plan of two, nor do runs of other seeds
-abbrev two_runs : Plan
+abbrev two_runs : MeasurePlan
 two_runs = record { runs = 2; seed = 4; scheduler = scheduler.Rounds; table = false; progress = false }
 
 runs_not-one : (r : Recovery) → ¬ AreRunsOf (IsRunOf two_nodes two_runs.scheduler) two_runs (r ∷ [])

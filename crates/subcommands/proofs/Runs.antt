@@ -5,7 +5,7 @@ use Rattle.std.specs.List.{AllZip, Contains, range_with_len}
 use Rattle.std.specs.declared.alloc.Global.{Global}
 use Rattle.std.specs.declared.vec.Vec.{Vec}
 use Rattle.subcommands.specs.Measured.{AreOfSeeds, AreRunsOf}
-use Rattle.subcommands.specs.declared.measure.Plan.{Plan}
+use Rattle.subcommands.specs.declared.measure.MeasurePlan.{MeasurePlan}
 
 module _ {R E : Type 0} (IsRun : ℕ → R → Type 0) (seed : ℕ) (answers : ℕ → Result R E → Type 0)
     (each : (i : ℕ) (r : R) → answers i (Ok r) → IsRun (seed + i) r) where
@@ -21,7 +21,7 @@ module _ {R E : Type 0} (IsRun : ℕ → R → Type 0) (seed : ℕ) (answers : �
       ((each a r all.0, subst (λ k. AreOfSeeds IsRun k rs) next rest.0), ap suc rest.1)
 
 -- the gathered runs are those of the plan, or one of them was refused
-pub runs-of : {R E : Type 0} (IsRun : ℕ → R → Type 0) (plan : Plan) (answers : ℕ → Result R E → Type 0)
+pub runs-of : {R E : Type 0} (IsRun : ℕ → R → Type 0) (plan : MeasurePlan) (answers : ℕ → Result R E → Type 0)
     → ((i : ℕ) (r : R) → answers i (Ok r) → IsRun (plan.seed + i) r)
     → (numbers : List ℕ) (gathered : List (Result R E)) (v : Result (Vec R Global) E)
     → numbers ≡ range_with_len 0 (plan.runs - 0) → AllZip answers numbers gathered

@@ -3,10 +3,10 @@ use Rattle.std.specs.Prelude.{◌≡◌, ℕ, Bool, ◌||◌, ◌&&◌, not, nat
 use Rattle.topology.specs.Network.{Network, bound_of}
 use Rattle.topology.specs.Eccentricity.{sharp_of}
 use Rattle.experiments.specs.declared.measured_run.Recovery.{Recovery}
-use Rattle.experiments.specs.declared.summary.Summary.{Summary}
+use Rattle.experiments.specs.declared.summary.ThreeNumberSummary.{ThreeNumberSummary}
 use Rattle.experiments.specs.Summary.{IsSummaryOf}
 use Rattle.network_commands.specs.Bound.{number_line}
-use Rattle.subcommands.specs.declared.measure.Plan.{Plan}
+use Rattle.subcommands.specs.declared.measure.MeasurePlan.{MeasurePlan}
 
 -- a run had as many sweeps as the bound says, and served by then
 abbrev pub has_served : Recovery → ℕ → Bool
@@ -33,14 +33,14 @@ served_sweeps [] bound = []
 served_sweeps (r ∷ rs) bound = if has_served r bound then r.sweeps ∷ served_sweeps rs bound else served_sweeps rs bound
 
 -- `sweeps least K median K most K`, or `none` for each if no run has served
-abbrev pub summary_line : Option Summary → List ℕ
+abbrev pub summary_line : Option ThreeNumberSummary → List ℕ
 summary_line None = codes "sweeps least none median none most none\n"
 summary_line (Some s) =
     codes "sweeps least " ++ (decimal s.least
     ++ (codes " median " ++ (decimal s.median ++ (codes " most " ++ (decimal s.most ++ codes "\n")))))
 
 -- the number of runs, the summary of those that have served, and both bounds
-abbrev pub totals : Network → ℕ → Option Summary → List ℕ
+abbrev pub totals : Network → ℕ → Option ThreeNumberSummary → List ℕ
 totals net runs summary =
     number_line (codes "runs") runs
     ++ (summary_line summary
@@ -48,7 +48,7 @@ totals net runs summary =
 
 -- the text of the runs on a network: their lines, and their summary
 pub record IsMeasured (net : Network) (runs : List Recovery) (table : Bool) (text : List ℕ) : Type 0 where
-  pub summary : Option Summary
+  pub summary : Option ThreeNumberSummary
   pub sums_up : IsSummaryOf (served_sweeps runs (sharp_of net)) summary
   pub text_is : text ≡ run_lines (sharp_of net) table runs ++ totals net (length runs) summary
 
@@ -58,7 +58,7 @@ AreOfSeeds IsRun seed [] = Unit {0}
 AreOfSeeds IsRun seed (r ∷ rs) = IsRun seed r × AreOfSeeds IsRun (seed + 1) rs
 
 -- all such runs of a plan: as many as it says, from its first seed on
-pub record AreRunsOf {R : Type 0} (IsRun : ℕ → R → Type 0) (plan : Plan) (runs : List R) : Type 0 where
+pub record AreRunsOf {R : Type 0} (IsRun : ℕ → R → Type 0) (plan : MeasurePlan) (runs : List R) : Type 0 where
   pub all : length runs ≡ plan.runs
   pub each : AreOfSeeds IsRun plan.seed runs
 

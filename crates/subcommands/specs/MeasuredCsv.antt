@@ -5,7 +5,7 @@ use Rattle.topology.specs.Eccentricity.{sharp_of}
 use Rattle.experiments.specs.Layered.{IsSettlingOf}
 use Rattle.experiments.specs.declared.layered_run.Settling.{Settling}
 use Rattle.subcommands.specs.Measured.{AreRunsOf}
-use Rattle.subcommands.specs.declared.measure.Plan.{Plan}
+use Rattle.subcommands.specs.declared.measure.MeasurePlan.{MeasurePlan}
 
 -- a run had as many sweeps as the bound says, and served by then
 abbrev pub has_settled : Settling → ℕ → Bool
@@ -33,7 +33,7 @@ abbrev pub HaveSettled : List Settling → ℕ → Type 0
 HaveSettled ss bound = All (λ s. IsTrue (has_settled s bound)) ss
 
 -- the text is that of the runs of a plan on a network, and the flag says whether each has served
-pub record IsPlanCsv (net : Network) (plan : Plan) (text : List ℕ) (served : Bool) : Type 0 where
+pub record IsPlanCsv (net : Network) (plan : MeasurePlan) (text : List ℕ) (served : Bool) : Type 0 where
   pub runs : List Settling
   pub are_runs : AreRunsOf (IsSettlingOf net plan.scheduler) plan runs
   pub text_is : text ≡ csv_text (sharp_of net) runs

@@ -7,12 +7,12 @@ use Rattle.serde_json.specs.Written.{IsInOrder}
 use Rattle.topology.specs.Network.{Network, bound_of}
 use Rattle.topology.specs.Eccentricity.{sharp_of}
 use Rattle.experiments.specs.declared.measured_run.Recovery.{Recovery}
-use Rattle.experiments.specs.declared.summary.Summary.{Summary}
+use Rattle.experiments.specs.declared.summary.ThreeNumberSummary.{ThreeNumberSummary}
 use Rattle.experiments.specs.Shown.{IsRunOf}
 use Rattle.experiments.specs.Summary.{IsSummaryOf}
 use Rattle.network_commands.specs.BoundData.{count, or_null}
 use Rattle.subcommands.specs.Measured.{AreRunsOf, has_served, HaveServed, IsMeasured, served_sweeps}
-use Rattle.subcommands.specs.declared.measure.Plan.{Plan}
+use Rattle.subcommands.specs.declared.measure.MeasurePlan.{MeasurePlan}
 
 -- after how many sweeps a run served, or null
 abbrev pub sweeps_data : ℕ → Recovery → Data
@@ -30,7 +30,7 @@ runs_data bound table (r ∷ rs) =
     else runs_data bound table rs
 
 -- the least, the median and the most, or null for each if no run has served
-abbrev pub summary_members : Option Summary → Members → Members
+abbrev pub summary_members : Option ThreeNumberSummary → Members → Members
 summary_members summary others =
     put (codes "most") (or_null (option_map (λ s. s.most) summary))
     (put (codes "median") (or_null (option_map (λ s. s.median) summary))
@@ -44,13 +44,13 @@ measured_members net runs table others =
     (put (codes "seeds") (array (items_of (runs_data (sharp_of net) table runs)))
     (put (codes "runs") (count (length runs)) others)))
 
-abbrev pub measured_data : Network → List Recovery → Bool → Option Summary → Data
+abbrev pub measured_data : Network → List Recovery → Bool → Option ThreeNumberSummary → Data
 measured_data net runs table summary =
     object (measured_members net runs table (summary_members summary no_members))
 
 -- the text is the object of the runs on a network, with the summary of those that have served
 pub record IsMeasuredJson (net : Network) (runs : List Recovery) (table : Bool) (text : List ℕ) : Type 0 where
-  pub summary : Option Summary
+  pub summary : Option ThreeNumberSummary
   pub sums_up : IsSummaryOf (served_sweeps runs (sharp_of net)) summary
   pub in_order : IsInOrder text (measured_data net runs table summary)
 
@@ -60,7 +60,7 @@ IsTextOrJson true net runs table text = IsMeasuredJson net runs table text
 IsTextOrJson false net runs table text = IsMeasured net runs table text
 
 -- the text is that of the runs of a plan on a network, and the flag says whether each has served
-pub record IsPlanMeasured (is_json : Bool) (net : Network) (plan : Plan) (text : List ℕ) (served : Bool) : Type 0 where
+pub record IsPlanMeasured (is_json : Bool) (net : Network) (plan : MeasurePlan) (text : List ℕ) (served : Bool) : Type 0 where
   pub runs : List Recovery
   pub are_runs : AreRunsOf (IsRunOf net plan.scheduler) plan runs
   pub measured : IsTextOrJson is_json net runs plan.table text

@@ -6,29 +6,29 @@ use Rattle.experiments.specs.Layered.{IsSettlingOf}
 use Rattle.experiments.specs.declared.layered_run.Settling.{Settling}
 use Rattle.settling_plot.specs.Plot.{IsPlotted}
 use Rattle.settling_plot.specs.declared.figure.Figure.{Figure}
-use Rattle.settling_plot.specs.declared.figure.Layer.{Layer}
-use Rattle.settling_plot.specs.declared.figure.Layer.TheVariants.{Links, Tree, Ring, Served}
+use Rattle.settling_plot.specs.declared.figure.PlottedLayer.{PlottedLayer}
+use Rattle.settling_plot.specs.declared.figure.PlottedLayer.TheVariants.{Links, Tree, Ring, Served}
 use Rattle.subcommands.specs.Measured.{AreRunsOf}
 use Rattle.subcommands.specs.MeasuredCsv.{csv_text, has_settled, HaveSettled}
-use Rattle.subcommands.specs.declared.measure.Plan.{Plan}
-use Rattle.subcommands.specs.declared.measure_plot.Report.{Report}
+use Rattle.subcommands.specs.declared.measure.MeasurePlan.{MeasurePlan}
+use Rattle.subcommands.specs.declared.measure_plot.PlanReport.{PlanReport}
 
 -- after how many sweeps a layer stood for good in a run
-abbrev pub sweeps_of : Layer → Settling → ℕ
+abbrev pub sweeps_of : PlottedLayer → Settling → ℕ
 sweeps_of Links s = s.links
 sweeps_of Tree s = s.tree
 sweeps_of Ring s = s.ring
 sweeps_of Served s = s.served
 
 -- the same of each of the runs that served by the bound
-abbrev pub settled_sweeps : ℕ → Layer → List Settling → List ℕ
+abbrev pub settled_sweeps : ℕ → PlottedLayer → List Settling → List ℕ
 settled_sweeps bound layer [] = []
 settled_sweeps bound layer (s ∷ ss) =
     if has_settled s bound then sweeps_of layer s ∷ settled_sweeps bound layer ss else settled_sweeps bound layer ss
 
 -- What is plotted of the runs of a plan on a network: when each layer stood for good in those that
 -- served, and by when no run is later, as the theorem on layers says (`IsSettlingWithin`).
-pub record IsFigureOf (net : Network) (plan : Plan) (runs : List Settling) (f : Figure) : Type 0 where
+pub record IsFigureOf (net : Network) (plan : MeasurePlan) (runs : List Settling) (f : Figure) : Type 0 where
   pub nodes : f.nodes ≡ net.nodes
   pub all : f.runs ≡ plan.runs
   pub seed : f.seed ≡ plan.seed
@@ -43,7 +43,7 @@ pub record IsFigureOf (net : Network) (plan : Plan) (runs : List Settling) (f : 
 
 -- the rows and the plot are those of the runs of a plan on a network, and the flag says whether each
 -- has served
-pub record IsReportOf (net : Network) (plan : Plan) (report : Report) : Type 0 where
+pub record IsReportOf (net : Network) (plan : MeasurePlan) (report : PlanReport) : Type 0 where
   pub runs : List Settling
   pub are_runs : AreRunsOf (IsSettlingOf net plan.scheduler) plan runs
   pub rows_are : string_bytes report.rows ≡ csv_text (sharp_of net) runs

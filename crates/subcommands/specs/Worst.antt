@@ -7,7 +7,7 @@ use Rattle.experiments.specs.declared.delay.Delay.{Delay}
 use Rattle.network_commands.specs.Bound.{number_line}
 use Rattle.subcommands.specs.declared.worst.Extent.{Extent}
 use Rattle.subcommands.specs.declared.worst.Extent.TheVariants.{Searches, Minutes}
-use Rattle.subcommands.specs.declared.worst.Found.{Found}
+use Rattle.subcommands.specs.declared.worst.LatestRun.{LatestRun}
 
 -- how many searches there were, the seed of the one that found the latest run, after how many sweeps that run served, and both bounds
 abbrev pub worst_text : Network → ℕ → ℕ → Delay → List ℕ
@@ -18,7 +18,7 @@ worst_text net searches seed delay =
     ++ (number_line (codes "sharp") (sharp_of net) ++ number_line (codes "sweeps-bound") (bound_of net))))
 
 -- the delay of a run that was found is that of its events, judged from their start
-abbrev pub IsJudged : Network → Found → Type 0
+abbrev pub IsJudged : Network → LatestRun → Type 0
 IsJudged net found = IsReplayed net found.run.harms.items found.run.events.items (Some found.run.delay)
 
 -- there were as many searches as were asked for; of those that go on for minutes there are at least 16

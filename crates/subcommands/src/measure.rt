@@ -14,7 +14,7 @@ use crate::measure_csv::plan_csv;
 use crate::measure_json::measured_json;
 use crate::side_by_side::measured;
 use command_parts::{Fault, printed, read_network};
-use experiments::{Recovery, Scheduler, Summary, summary_of};
+use experiments::{Recovery, Scheduler, ThreeNumberSummary, summary_of};
 use network_commands::bound::push_number;
 use std::alloc::{AllocError, Global};
 use std::fmt::Write;
@@ -26,7 +26,7 @@ use topology::Net;
 
 /// What to measure.
 #[derive(Clone, Copy)]
-pub struct Plan {
+pub struct MeasurePlan {
     /// How many runs there are.
     pub runs: u32,
     /// The seed of the first run; each further run has the next seed.
@@ -58,7 +58,7 @@ pub enum Form {
 pub fn run<R: Files + Print + Eprint + Clock + AllocGlobal + Threads + Sync>(
     rt: &R,
     network: &str,
-    plan: Plan,
+    plan: MeasurePlan,
     form: Form,
 ) -> Result<ExitCode, Fault>
     ensures ok { DoneMeansZeroOr 1 result }
@@ -92,7 +92,7 @@ fn plan_text<R: Eprint + Clock + Threads + Sync>(
     rt: &R,
     alloc: Global,
     net: &Net,
-    plan: Plan,
+    plan: MeasurePlan,
     is_json: bool,
 ) -> Result<(String, bool), AllocError>
     ensures { IfOk result (λ said. IsPlanMeasured is_json net.now plan (string_bytes said.0) said.1) }
@@ -174,7 +174,7 @@ fn push_totals(
     text: &mut String,
     net: &Net,
     runs: usize,
-    summary: Option<Summary>,
+    summary: Option<ThreeNumberSummary>,
 ) -> Result<(), AllocError>
     ensures { OnOk result (string_bytes text.new
         ≡ string_bytes text.old ++ totals net.now runs summary) }
@@ -243,13 +243,13 @@ pub(crate) fn served_sweeps(
 }
 
 /// Adds the line of the least, the median and the most.
-fn push_summary(text: &mut String, summary: Option<Summary>) -> Result<(), AllocError>
+fn push_summary(text: &mut String, summary: Option<ThreeNumberSummary>) -> Result<(), AllocError>
     ensures { OnOk result (string_bytes text.new
         ≡ string_bytes text.old ++ summary_line summary) }
 {
     match summary {
         Some(
-            Summary {
+            ThreeNumberSummary {
                 least,
                 median,
                 most,

@@ -4,7 +4,7 @@ ghost use Rattle.std.specs.Prelude.{string_bytes};
 ghost use Rattle.subcommands.specs.MeasuredCsv.{csv_row, csv_rows, csv_text, has_settled};
 ghost use Rattle.subcommands.specs.MeasuredCsv.{HaveSettled, IsPlanCsv};
 
-use crate::measure::Plan;
+use crate::measure::MeasurePlan;
 use crate::side_by_side::measured;
 use experiments::Settling;
 use std::alloc::{AllocError, Global};
@@ -18,7 +18,7 @@ pub(crate) fn plan_csv<R: Eprint + Clock + Threads + Sync>(
     rt: &R,
     alloc: Global,
     net: &Net,
-    plan: Plan,
+    plan: MeasurePlan,
 ) -> Result<(String, bool), AllocError>
     ensures { IfOk result (λ said. IsPlanCsv net.now plan (string_bytes said.0) said.1) }
 {

@@ -7,7 +7,7 @@ ghost use Rattle.network_commands.specs.BoundData.{or_null};
 ghost use Rattle.subcommands.specs.MeasuredData.{sweeps_data, measured_data, IsMeasuredJson};
 
 use crate::measure::{has_served, served_sweeps};
-use experiments::{Recovery, Summary, summary_of};
+use experiments::{Recovery, ThreeNumberSummary, summary_of};
 use serde_json::{Map, Value, push, put};
 use std::alloc::{AllocError, Global};
 use topology::Net;
@@ -37,7 +37,7 @@ fn measured_value(
     net: &Net,
     runs: &[Recovery],
     table: bool,
-    summary: Option<Summary>,
+    summary: Option<ThreeNumberSummary>,
 ) -> Result<Value, AllocError>
     ensures { IfOk result (λ value. view value ≡ measured_data net.now runs.now table summary) }
 {
@@ -69,7 +69,7 @@ fn put_runs(
 fn put_summary(
     map: &mut Map<String, Value>,
     alloc: Global,
-    summary: Option<Summary>,
+    summary: Option<ThreeNumberSummary>,
 ) -> Result<(), AllocError>
     ensures { OnOk result (members_view map.new.entries
         ≡ summary_members summary (members_view map.old.entries)) }

@@ -5,12 +5,12 @@ ghost use Rattle.subcommands.specs.MeasuredPlot.{IsFigureOf, IsReportOf, settled
 ghost use Rattle.subcommands.specs.MeasuredPlot.{sweeps_of};
 ghost use Rattle.subcommands.specs.Faults.{IsUnplotted};
 
-use crate::measure::{Plan, ending};
+use crate::measure::{MeasurePlan, ending};
 use crate::measure_csv::{csv_text, has_settled, have_settled};
 use crate::side_by_side::measured;
 use command_parts::{Fault, PathFault, printed, read_network};
 use experiments::Settling;
-use settling_plot::{Distribution, Figure, Layer, plotted};
+use settling_plot::{Distribution, Figure, PlottedLayer, plotted};
 use std::alloc::{AllocError, Global};
 use std::fs;
 use std::io::Write;
@@ -22,7 +22,7 @@ use topology::Net;
 
 /// What is said of the runs of a plan.
 #[derive(Drop)]
-pub struct Report {
+pub struct PlanReport {
     /// A row for each run, after the names of the columns.
     pub rows: String,
     /// The plot of their distributions.
@@ -41,7 +41,7 @@ pub struct Report {
 pub fn run<'a, R: Files + Print + Eprint + Clock + AllocGlobal + Threads + Sync>(
     rt: &R,
     network: &str,
-    plan: Plan,
+    plan: MeasurePlan,
     path: &'a str,
 ) -> Result<ExitCode, PathFault<'a>>
     ensures ok { DoneMeansZeroOr 1 result }
@@ -63,13 +63,13 @@ fn report_of<R: Eprint + Clock + Threads + Sync>(
     rt: &R,
     alloc: Global,
     net: &Net,
-    plan: Plan,
-) -> Result<Report, AllocError>
+    plan: MeasurePlan,
+) -> Result<PlanReport, AllocError>
     ensures { IfOk result (IsReportOf net.now plan) }
 {
     let runs: Vec<Settling> = measured(rt, alloc, net, plan)?;
     let figure = figure_of(alloc, net, plan, runs.as_slice())?;
-    Ok(Report {
+    Ok(PlanReport {
         rows: csv_text(alloc, runs.as_slice(), net.sharp_bound())?,
         plot: plotted(alloc, &figure)?,
         all_served: have_settled(runs.as_slice(), net.sharp_bound()),
@@ -81,7 +81,7 @@ fn report_of<R: Eprint + Clock + Threads + Sync>(
 pub fn figure_of(
     alloc: Global,
     net: &Net,
-    plan: Plan,
+    plan: MeasurePlan,
     runs: &[Settling],
 ) -> Result<Figure, AllocError>
     ensures { IfOk result (IsFigureOf net.now plan runs.now) }
@@ -93,19 +93,19 @@ pub fn figure_of(
         runs: plan.runs,
         seed: plan.seed,
         links: Distribution {
-            sweeps: settled_sweeps(alloc, runs, bound, Layer::Links)?,
+            sweeps: settled_sweeps(alloc, runs, bound, PlottedLayer::Links)?,
             bound: 6,
         },
         tree: Distribution {
-            sweeps: settled_sweeps(alloc, runs, bound, Layer::Tree)?,
+            sweeps: settled_sweeps(alloc, runs, bound, PlottedLayer::Tree)?,
             bound: 6 + 4 * (distance + 2),
         },
         ring: Distribution {
-            sweeps: settled_sweeps(alloc, runs, bound, Layer::Ring)?,
+            sweeps: settled_sweeps(alloc, runs, bound, PlottedLayer::Ring)?,
             bound: bound.saturating_sub(1),
         },
         served: Distribution {
-            sweeps: settled_sweeps(alloc, runs, bound, Layer::Served)?,
+            sweeps: settled_sweeps(alloc, runs, bound, PlottedLayer::Served)?,
             bound,
         },
     })
@@ -116,7 +116,7 @@ fn settled_sweeps(
     alloc: Global,
     runs: &[Settling],
     bound: u32,
-    layer: Layer,
+    layer: PlottedLayer,
 ) -> Result<Vec<u64>, AllocError>
     ensures { IfOk result (λ sweeps. sweeps.items ≡ settled_sweeps bound layer runs.now) }
 {
@@ -130,14 +130,14 @@ fn settled_sweeps(
 }
 
 /// After how many sweeps a layer stood for good in a run.
-fn sweeps_of(run: &Settling, layer: Layer) -> u64
+fn sweeps_of(run: &Settling, layer: PlottedLayer) -> u64
     ensures { result ≡ sweeps_of layer run.now }
 {
     match layer {
-        Layer::Links => run.links,
-        Layer::Tree => run.tree,
-        Layer::Ring => run.ring,
-        Layer::Served => run.served,
+        PlottedLayer::Links => run.links,
+        PlottedLayer::Tree => run.tree,
+        PlottedLayer::Ring => run.ring,
+        PlottedLayer::Served => run.served,
     }
 }
 

@@ -6,7 +6,7 @@ ghost use Rattle.experiments.specs.declared.measured_run.Scheduler.{Scheduler};
 ghost use Rattle.topology.specs.Network.{Network};
 ghost use Rattle.subcommands.specs.Measured.{AreRunsOf};
 
-use crate::measure::Plan;
+use crate::measure::MeasurePlan;
 use command_parts::Progress;
 use experiments::{Recovery, Scheduler, Settling, measure_layers, measure_run};
 use rayon::prelude::*;
@@ -70,7 +70,7 @@ pub fn measured<R: Eprint + Clock + Threads + Sync, M: Measurement>(
     rt: &R,
     alloc: Global,
     net: &Net,
-    plan: Plan,
+    plan: MeasurePlan,
 ) -> Result<Vec<M>, AllocError>
     ensures { IfOk result (λ runs. AreRunsOf (M.is_of net.now plan.scheduler) plan runs.items) }
 {
@@ -91,7 +91,7 @@ fn make_runs<R: Eprint + Clock + Threads + Sync, M: Measurement>(
     rt: &R,
     alloc: Global,
     net: &Net,
-    plan: Plan,
+    plan: MeasurePlan,
     progress: &Option<Progress>,
 ) -> Result<Vec<M>, AllocError>
     ensures { IfOk result (λ runs. AreRunsOf (M.is_of net.now plan.scheduler) plan runs.items) }

@@ -42,7 +42,7 @@ pub enum Extent {
 
 /// What is searched.
 #[derive(Clone, Copy)]
-pub struct Plan {
+pub struct SearchPlan {
     /// How many searches there are.
     pub extent: Extent,
     /// The first one's seed; each other has the next one.
@@ -55,7 +55,7 @@ pub struct Plan {
 
 /// The latest run that was found.
 #[derive(Drop)]
-pub struct Found {
+pub struct LatestRun {
     /// How many searches there were.
     pub searches: u32,
     /// The seed of the search that found it.
@@ -73,7 +73,7 @@ pub struct Found {
 pub fn run<R: Files + Print + Eprint + Clock + AllocGlobal + Threads + Sync>(
     rt: &R,
     network: &str,
-    plan: Plan,
+    plan: SearchPlan,
     events: Option<&str>,
 ) -> Result<ExitCode, Fault>
     ensures ok { DoneMeansZero result }
@@ -130,8 +130,8 @@ pub(crate) fn latest<R: Eprint + Clock + Threads + Sync>(
     rt: &R,
     alloc: Global,
     net: &Net,
-    plan: Plan,
-) -> Result<Found, AllocError>
+    plan: SearchPlan,
+) -> Result<LatestRun, AllocError>
     // It is judged again from its start, whatever the searches did.
     ensures judged { IfOk result (IsJudged net.now) }
     ensures searches { IfOk result (λ found. AreAsMany plan.extent found.searches) }
@@ -142,7 +142,7 @@ pub(crate) fn latest<R: Eprint + Clock + Threads + Sync>(
         seed,
         steps: plan.steps,
     };
-    Ok(Found {
+    Ok(LatestRun {
         searches: latest.searches,
         seed,
         run: climb(alloc, net, search)?,
@@ -154,7 +154,7 @@ fn all_searched<R: Eprint + Clock + Threads + Sync>(
     rt: &R,
     alloc: Global,
     net: &Net,
-    plan: Plan,
+    plan: SearchPlan,
 ) -> Result<Best, AllocError>
     ensures { IfOk result (λ best. AreAsMany plan.extent best.searches) }
 {
@@ -170,7 +170,7 @@ fn all_searched<R: Eprint + Clock + Threads + Sync>(
 }
 
 /// Begins the line that shows the progress, if it is asked for.
-fn begin_progress<R: Clock>(rt: &R, plan: Plan) -> Option<Progress> {
+fn begin_progress<R: Clock>(rt: &R, plan: SearchPlan) -> Option<Progress> {
     if !plan.progress {
         return None;
     }
@@ -185,7 +185,7 @@ fn until<R: Eprint + Clock + Threads + Sync>(
     rt: &R,
     alloc: Global,
     net: &Net,
-    plan: Plan,
+    plan: SearchPlan,
     minutes: u32,
     progress: &Option<Progress>,
 ) -> Result<Best, AllocError>
@@ -222,7 +222,7 @@ fn batch<R: Eprint + Clock + Threads + Sync>(
     rt: &R,
     alloc: Global,
     net: &Net,
-    plan: Plan,
+    plan: SearchPlan,
     latest: Best,
     count: u32,
     progress: &Option<Progress>,
@@ -239,7 +239,7 @@ fn searched<R: Eprint + Clock + Threads + Sync>(
     rt: &R,
     alloc: Global,
     net: &Net,
-    plan: Plan,
+    plan: SearchPlan,
     first: u32,
     count: u32,
     progress: &Option<Progress>,
@@ -274,7 +274,7 @@ fn first_greatest(numbers: &[u64]) -> (u32, u64) {
 }
 
 /// The lines of a run that was found.
-pub fn worst_text(alloc: Global, net: &Net, found: &Found) -> Result<String, AllocError>
+pub fn worst_text(alloc: Global, net: &Net, found: &LatestRun) -> Result<String, AllocError>
     ensures { IfOk result (λ text. string_bytes text
         ≡ worst_text net.now found.now.searches found.now.seed found.now.run.delay) }
 {

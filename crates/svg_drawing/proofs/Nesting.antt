@@ -5,7 +5,7 @@ use Rattle.std.proofs.lemmas.List.{append-nil}
 use Rattle.svg_drawing.specs.declared.element.Element.{Element}
 use Rattle.svg_drawing.specs.declared.element.Drawing.{Drawing}
 use Rattle.svg_drawing.specs.declared.element.Group.{Group}
-use Rattle.svg_drawing.specs.declared.element.Scene.{Scene}
+use Rattle.svg_drawing.specs.declared.element.GroupedDrawing.{GroupedDrawing}
 use Rattle.svg_drawing.specs.declared.element.Document.{Document}
 use Rattle.svg_drawing.specs.Spelling.{escaped, start_tag, end_tag, element_text, drawing_text, group_text, scene_text, document_content}
 use Rattle.svg_drawing.specs.Xml.{IsContent}
@@ -69,7 +69,7 @@ groups_nest (g ∷ gs) rest more =
     (group_nests g (flat_map group_text gs ++ rest) (groups_nest gs rest more))
 
 -- a drawing whose elements hold others, before other content
-scene_before : (s : Scene) (rest : List ℕ) → IsContent rest → IsContent (scene_text s ++ rest)
+scene_before : (s : GroupedDrawing) (rest : List ℕ) → IsContent rest → IsContent (scene_text s ++ rest)
 scene_before s rest more =
     let start = start_tag (codes "svg") s.attributes.items in
     let held = flat_map group_text s.groups.items in
@@ -81,7 +81,7 @@ scene_before s rest more =
     subst IsContent (regrouped start (codes "\n") held end (codes "\n") rest) all
 
 -- the whole of it
-pub scene_nests : (s : Scene) → IsContent (scene_text s)
+pub scene_nests : (s : GroupedDrawing) → IsContent (scene_text s)
 scene_nests s = subst IsContent (append-nil (scene_text s)) (scene_before s [] Nothing)
 
 -- a document after its first line

@@ -4,7 +4,7 @@ use Rattle.std.proofs.Common.{◌≡◌, ◌≢◌, List, [], ◌∷◌, codes, 
 use Rattle.svg_drawing.specs.declared.element.Document.{Document}
 use Rattle.svg_drawing.specs.declared.element.Element.{Element}
 use Rattle.svg_drawing.specs.declared.element.Group.{Group}
-use Rattle.svg_drawing.specs.declared.element.Scene.{Scene}
+use Rattle.svg_drawing.specs.declared.element.GroupedDrawing.{GroupedDrawing}
 use Rattle.svg_drawing.specs.Drawn.{note_shown}
 use Rattle.svg_drawing.specs.Grouped.{Grouped, grouped_of, scene_given, scene_shown, with_inside}
 use Rattle.svg_drawing.specs.Spelling.{document_text, group_text, scene_text}
@@ -33,7 +33,7 @@ module _ (g : Group) (e : Element) (element : g.element ≡ e) (name : e.name.no
   group-text : group_text g ≡ codes "<g>1&lt;2<title>b</title>\n</g>\n"
   group-text = rw (element, inside, name, bare, text, inner, plain, words) refl
 
-  module _ (s : Scene) (given : s.attributes.items ≡ []) (one : s.groups.items ≡ g ∷ []) where
+  module _ (s : GroupedDrawing) (given : s.attributes.items ≡ []) (one : s.groups.items ≡ g ∷ []) where
     scene-one : scene_shown s ≡ shown_group ∷ []
     scene-one = rw one (ap (λ x. x ∷ []) grouped-one)
 

@@ -2,7 +2,7 @@
 use Rattle.std.specs.Prelude.{List, [], ◌∷◌, ◌++◌, map}
 use Rattle.svg_drawing.specs.Drawn.{Given, Shown, given_of, shown_of}
 use Rattle.svg_drawing.specs.declared.element.Group.{Group}
-use Rattle.svg_drawing.specs.declared.element.Scene.{Scene}
+use Rattle.svg_drawing.specs.declared.element.GroupedDrawing.{GroupedDrawing}
 
 -- an element, and those that it holds
 pub record Grouped : Type 0 where
@@ -18,8 +18,8 @@ abbrev pub with_inside : Grouped → Shown → Grouped
 with_inside g shown = record { element = g.element; inside = g.inside ++ shown ∷ [] }
 
 -- what a drawing shows: its attributes, and its groups, the undermost first
-abbrev pub scene_shown : Scene → List Grouped
+abbrev pub scene_shown : GroupedDrawing → List Grouped
 scene_shown scene = map grouped_of scene.groups.items
 
-abbrev pub scene_given : Scene → List Given
+abbrev pub scene_given : GroupedDrawing → List Given
 scene_given scene = map given_of scene.attributes.items

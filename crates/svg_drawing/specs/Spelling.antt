@@ -5,7 +5,7 @@ use Rattle.svg_drawing.specs.declared.element.Attribute.{Attribute}
 use Rattle.svg_drawing.specs.declared.element.Element.{Element}
 use Rattle.svg_drawing.specs.declared.element.Drawing.{Drawing}
 use Rattle.svg_drawing.specs.declared.element.Group.{Group}
-use Rattle.svg_drawing.specs.declared.element.Scene.{Scene}
+use Rattle.svg_drawing.specs.declared.element.GroupedDrawing.{GroupedDrawing}
 use Rattle.svg_drawing.specs.declared.element.Document.{Document}
 
 -- a byte as it is written: no `<`, `>`, `&` or `"` stands in a text
@@ -47,7 +47,7 @@ group_text g =
     ++ (escaped (string_bytes g.element.text) ++ (flat_map element_text g.inside.items ++ (end_tag g.element.name.now ++ codes "\n")))
 
 -- an element `svg` that holds the groups
-abbrev pub scene_text : Scene → List ℕ
+abbrev pub scene_text : GroupedDrawing → List ℕ
 scene_text s =
     start_tag (codes "svg") s.attributes.items ++ (codes "\n" ++ (flat_map group_text s.groups.items ++ (end_tag (codes "svg") ++ codes "\n")))
 

@@ -159,7 +159,7 @@ impl Group {
 
 /// A drawing whose elements may hold others: an element `svg` that holds groups.
 #[derive(Drop)]
-pub struct Scene {
+pub struct GroupedDrawing {
     /// The attributes of the element `svg`.
     pub attributes: Vec<Attribute>,
     /// What it holds, the undermost first.
@@ -172,7 +172,7 @@ pub struct Document {
     /// What stands before the drawing.
     pub before: Vec<Group>,
     /// The drawing.
-    pub scene: Scene,
+    pub scene: GroupedDrawing,
     /// What stands after the drawing.
     pub after: Vec<Group>,
 }

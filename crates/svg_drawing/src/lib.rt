@@ -25,6 +25,6 @@ mod spelling;
 
 pub use canvas::{Anchor, Canvas, Point, Stroke};
 pub use colours::Colour;
-pub use element::{Attribute, Document, Drawing, Element, Fixed, Group, Scene};
+pub use element::{Attribute, Document, Drawing, Element, Fixed, Group, GroupedDrawing};
 pub use px::Px;
 pub use spelling::{spelled, spelled_document, spelled_scene};

@@ -7,7 +7,7 @@ ghost use Rattle.svg_drawing.specs.Spelling.{document_text, group_text};
 ghost use Rattle.svg_drawing.specs.Spelling.{scene_text};
 ghost use Rattle.svg_drawing.specs.Xml.{IsContent, IsDocument};
 
-use crate::element::{Attribute, Document, Drawing, Element, Group, Scene};
+use crate::element::{Attribute, Document, Drawing, Element, Group, GroupedDrawing};
 use std::alloc::{AllocError, Global};
 
 /// The text of a drawing, an XML document whose tags nest.
@@ -25,7 +25,7 @@ pub fn spelled(alloc: Global, drawing: &Drawing) -> Result<Vec<u8>, AllocError>
 }
 
 /// The text of a drawing whose elements hold others, an XML document whose tags nest.
-pub fn spelled_scene(alloc: Global, scene: &Scene) -> Result<Vec<u8>, AllocError>
+pub fn spelled_scene(alloc: Global, scene: &GroupedDrawing) -> Result<Vec<u8>, AllocError>
     ensures text { IfOk result (λ text. text.items ≡ scene_text scene.now) }
     ensures nests { IfOk result (λ text. IsContent text.items) }
 {
@@ -52,7 +52,7 @@ pub fn spelled_document(alloc: Global, document: &Document) -> Result<Vec<u8>, A
 }
 
 /// Adds a drawing whose elements hold others.
-fn push_scene(text: &mut Vec<u8>, scene: &Scene) -> Result<(), AllocError>
+fn push_scene(text: &mut Vec<u8>, scene: &GroupedDrawing) -> Result<(), AllocError>
     ensures { OnOk result (text.new.items ≡ text.old.items ++ scene_text scene.now) }
 {
     push_start(text, "svg", scene.attributes.as_slice())?;

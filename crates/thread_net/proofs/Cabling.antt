@@ -8,7 +8,7 @@ use Rattle.std.proofs.lemmas.List.Elements.{All-append, All-nil}
 use Rattle.topology.specs.Network.{are_joined, neighbours_in, neighbours_of}
 use Rattle.judge.specs.run_model.World.{World}
 use Rattle.judge.specs.configuration.LinksView.{LinksView}
-use Rattle.node_runner.specs.declared.runner.Port.{Port}
+use Rattle.node_runner.specs.declared.runner.RunnerPort.{RunnerPort}
 use Rattle.node_runner.specs.Runner.{IsPortNoted}
 use Rattle.thread_net.specs.Cables.{IsOver, IsCable, IsCableOn, IsCabledOnce, AreFurnished, ends_at, ids_in, row, port_to}
 
@@ -45,48 +45,48 @@ or_else (Some x) other = Some x
 or_else None other = other
 
 -- both are there, and are the ends of the same links, or neither is there
-abbrev IsMutual : {A : Type 0} → Option (Port A) → Option (Port A) → Type 0
+abbrev IsMutual : {A : Type 0} → Option (RunnerPort A) → Option (RunnerPort A) → Type 0
 IsMutual (Some p) (Some q) = IsCable p q
 IsMutual (Some p) None = ⊥
 IsMutual None (Some q) = ⊥
 IsMutual None None = Unit {0}
 
 module _ {A : Type 0} where
-  found-append : (ps qs : List (Port A)) (j : ℕ) → port_to (ps ++ qs) j ≡ or_else (port_to ps j) (port_to qs j)
+  found-append : (ps qs : List (RunnerPort A)) (j : ℕ) → port_to (ps ++ qs) j ≡ or_else (port_to ps j) (port_to qs j)
   found-append [] qs j = refl
   found-append (p ∷ ps) qs j = let later = found-append ps qs j in grind (arith, common_steps)
 
-  mutual-or : (a b c d : Option (Port A)) → IsMutual a b → IsMutual c d → IsMutual (or_else a c) (or_else b d)
+  mutual-or : (a b c d : Option (RunnerPort A)) → IsMutual a b → IsMutual c d → IsMutual (or_else a c) (or_else b d)
   mutual-or a b c d first second = grind (arith, common_steps, first, second)
 
-  mutual-cabled : (a b : Option (Port A)) → IsMutual a b → (a ≡ None → ⊥) → IsCableOn a b
+  mutual-cabled : (a b : Option (RunnerPort A)) → IsMutual a b → (a ≡ None → ⊥) → IsCableOn a b
   mutual-cabled a b is some = grind (arith, common_steps, is, some)
 
-  has-port : (ps : List (Port A)) (v : ℕ) → Contains (ids_in ps) v → port_to ps v ≡ None → ⊥
+  has-port : (ps : List (RunnerPort A)) (v : ℕ) → Contains (ids_in ps) v → port_to ps v ≡ None → ⊥
   has-port [] v (k, within, at) none = absurd (omega arith)
   has-port (p ∷ ps) v (zero, within, at) none = grind (arith, common_steps, at, none)
   has-port (p ∷ ps) v (suc k, within, at) none = let later = has-port ps v (k, omega arith, at) in grind (arith, common_steps, later, none)
 
-  mutual-ends : (u v : ℕ) (p q : Port A) → u < v → p.neighbour ≡ v → q.neighbour ≡ u → IsCable p q → (i j : ℕ) → IsMutual (port_to (ends_at u p v q i) j) (port_to (ends_at u p v q j) i)
+  mutual-ends : (u v : ℕ) (p q : RunnerPort A) → u < v → p.neighbour ≡ v → q.neighbour ≡ u → IsCable p q → (i j : ℕ) → IsMutual (port_to (ends_at u p v q i) j) (port_to (ends_at u p v q j) i)
   mutual-ends u v p q order to-v to-u cable i j = grind (arith, common_steps, order, to-v, to-u, cable)
 
-  new-ids : (u v : ℕ) (p q : Port A) → p.neighbour ≡ v → q.neighbour ≡ u → (x : ℕ) → ids_in (ends_at u p v q x) ≡ ends_at u v v u x
+  new-ids : (u v : ℕ) (p q : RunnerPort A) → p.neighbour ≡ v → q.neighbour ≡ u → (x : ℕ) → ids_in (ends_at u p v q x) ≡ ends_at u v v u x
   new-ids u v p q to-v to-u x = grind (arith, common_steps, to-v, to-u)
 
-  all-ends : (P : ℕ → Port A → Type 0) (u v : ℕ) (p q : Port A) → P u p → P v q → (x : ℕ) → All (P x) (ends_at u p v q x)
+  all-ends : (P : ℕ → RunnerPort A → Type 0) (u v : ℕ) (p q : RunnerPort A) → P u p → P v q → (x : ℕ) → All (P x) (ends_at u p v q x)
   all-ends P u v p q at-u at-v x = grind (arith, common_steps, at-u, at-v)
 
 -- ---- what has been laid
 
 -- Each node has a port to each of its neighbours below its bound, ascending, as a run from this world
 -- begins, and ports that lead to each other are the ends of the same links.
-pub record IsLaid {A : Type 0} (w : World) (bound : ℕ → ℕ) (rows : List (List (Port A))) : Type 0 where
+pub record IsLaid {A : Type 0} (w : World) (bound : ℕ → ℕ) (rows : List (List (RunnerPort A))) : Type 0 where
   pub ids : (x : ℕ) → x < w.net.nodes → ids_in (row rows x) ≡ neighbours_in (bound x) w.net.edges x
   pub said : (x : ℕ) → x < w.net.nodes → All (IsPortNoted w x []) (row rows x)
   pub joint : (i j : ℕ) → IsMutual (port_to (row rows i) j) (port_to (row rows j) i)
 
-module _ {A : Type 0} (w : World) (rows : List (List (Port A))) where
-  pub laid-more : (l : LinksView) (more : List (List (Port A))) (n u v : ℕ) → IsOver w l → u < v → are_joined w.net.edges v u ≡ are_joined w.net.edges u v → are_joined w.net.edges u v ≡ true
+module _ {A : Type 0} (w : World) (rows : List (List (RunnerPort A))) where
+  pub laid-more : (l : LinksView) (more : List (List (RunnerPort A))) (n u v : ℕ) → IsOver w l → u < v → are_joined w.net.edges v u ≡ are_joined w.net.edges u v → are_joined w.net.edges u v ≡ true
       → IsCabledOnce l u v rows more → IsLaid w (reach n u v) rows → IsLaid w (reach n u (v + 1)) more
   laid-more l more n u v over order back joined it laid =
       let ends = ends_at u it.near v it.far in

@@ -19,7 +19,7 @@ use Rattle.node_runner.specs.weaving.Journals.{journal_of, entry_count}
 use Rattle.node_runner.specs.weaving.Laws.{GoesThrough, WovenIsRun}
 use Rattle.node_runner.specs.weaving.Matched.{AreMatched, IsLinkMatched, stamps}
 use Rattle.node_runner.specs.weaving.Woven.{AreRising, IsWoven}
-use Rattle.node_runner.specs.declared.runner.Port.{Port}
+use Rattle.node_runner.specs.declared.runner.RunnerPort.{RunnerPort}
 use Rattle.node_runner.specs.declared.runner.Runner.{Runner}
 use Rattle.node_runner.specs.Ports.{IsSender, IsReceiver}
 use Rattle.node_runner.specs.Runner.{IsPortNoted, AreSamePorts, IsSamePort, port_ids}
@@ -35,14 +35,14 @@ use Rattle.thread_net.proofs.Matching.{own-deeds, own-ticks, Rise, link-matched}
 use Rattle.std.proofs.lemmas.Slice.Zip.{AllZip-left, AllZip-long}
 use Rattle.std.specs.declared.alloc.Global.{Global}
 use Rattle.std.specs.declared.vec.Vec.{Vec}
-use Rattle.thread_net.specs.declared.seats.Seats.{Seats}
+use Rattle.thread_net.specs.declared.seats.RunnerSeats.{RunnerSeats}
 use Rattle.judge.specs.node_core.Site.{site_of}
 use Rattle.judge.specs.node_core.View.{NodeView, site_in}
 use Rattle.judge.specs.configuration.LinksView.{LinksView, spare_pairs, under_way}
 use Rattle.judge.specs.Parts.{AreOneWorlds}
 use Rattle.judge.specs.Stretch.{StretchView, HasRoomFor}
-use Rattle.node_runner.specs.weaving.declared.journal.Entry.{Entry}
-use Rattle.thread_net.specs.declared.threads.Outcome.{Outcome}
+use Rattle.node_runner.specs.weaving.declared.journal.JournalEntry.{JournalEntry}
+use Rattle.thread_net.specs.declared.threads.ReturnedRunner.{ReturnedRunner}
 use Rattle.thread_net.specs.Keeps.{Keeps}
 use Rattle.thread_net.specs.Outcomes.{IsOutcomeOf, have_run, has_run, runners_in, turns_of}
 use Rattle.thread_net.specs.declared.prepare.Prepared.{Prepared}
@@ -86,7 +86,7 @@ idle-link capacity old = record {
 }
 
 -- what holds of all ports holds of the one that leads to a node
-found : {A : Type 0} (Q : Port A → Type 0) (ps : List (Port A)) (v : ℕ) (p : Port A) → port_to ps v ≡ Some p → All Q ps → Q p × (p.neighbour ≡ v)
+found : {A : Type 0} (Q : RunnerPort A → Type 0) (ps : List (RunnerPort A)) (v : ℕ) (p : RunnerPort A) → port_to ps v ≡ Some p → All Q ps → Q p × (p.neighbour ≡ v)
 found Q [] v p is all = absurd (none-some p is)
 found Q (q ∷ ps) v p is all = elim (cases_Bool (q.neighbour == v)) [
   | inl here ↦ let same = same_Some q p (rw here at is) in (subst Q same (All-head Q q ps all), grind (arith, common_steps, here, same))
@@ -142,7 +142,7 @@ module _ {A : Type 0} (w : World) (turns : ℕ → ℕ) (rs : List (Runner A)) (
   all-rising v = subst AreRising (sym (known v).journal) (known v).rising
 
   -- the link of two nodes that are joined
-  on-ports : (u v : ℕ) (a b : Option (Port A)) → port_to (row (rows_of rs) u) v ≡ a → port_to (row (rows_of rs) v) u ≡ b → IsFlushedOn a b
+  on-ports : (u v : ℕ) (a b : Option (RunnerPort A)) → port_to (row (rows_of rs) u) v ≡ a → port_to (row (rows_of rs) v) u ≡ b → IsFlushedOn a b
       → IsLinkMatched w.net.capacity (w.link u v) (sent_to v (account u)) (taken_from u (account v)) (left_on_ports a b)
   on-ports u v None b to-v to-u is = elim is [ ]
   on-ports u v (Some p) None to-v to-u is = elim is [ ]
@@ -222,7 +222,7 @@ is-back w turns v r now true range start (deeds, does, rounds, few, first) =
     }
 is-back w turns v r now false range start same = rw same (record { notes = []; said = start.said; rounds = refl; first = λ some. absurd (omega arith) })
 
-all-same : (ps : List (Port Global)) → AreSamePorts ps ps
+all-same : (ps : List (RunnerPort Global)) → AreSamePorts ps ps
 all-same ps = (refl, λ k d within. search rules)
 
 same-ports : (turns : ℕ) (r now : Runner Global) (ran : Bool) → Keeps turns r now ran → AreSamePorts r.ports.items now.ports.items
@@ -243,7 +243,7 @@ few-entries turns r now false (none, ids) same = let nothing = ap length none in
 
 -- ---- all that came back
 
-same-rows : (turns : ℕ) (rs : List (Runner Global)) (os : List Outcome) (x : ℕ) → AllZip (IsOutcomeOf turns) rs os → AreSamePorts (row (rows_of rs) x) (row (rows_of (runners_in os)) x)
+same-rows : (turns : ℕ) (rs : List (Runner Global)) (os : List ReturnedRunner) (x : ℕ) → AllZip (IsOutcomeOf turns) rs os → AreSamePorts (row (rows_of rs) x) (row (rows_of (runners_in os)) x)
 same-rows turns [] [] x all = all-same []
 same-rows turns [] (o ∷ os) x all = elim all [ ]
 same-rows turns (r ∷ rs) [] x all = elim all [ ]
@@ -251,7 +251,7 @@ same-rows turns (r ∷ rs) (o ∷ os) zero all = same-ports turns r o.runner o.r
 same-rows turns (r ∷ rs) (o ∷ os) (suc x) all = same-rows turns rs os x all.1
 
 -- the entries of some nodes fit if there is room for all of theirs
-all-fit : (turns : ℕ) (rs : List (Runner Global)) (os : List Outcome) → All IsFresh rs → AllZip (IsOutcomeOf turns) rs os → entry_count (entries_of_all (runners_in os)) ≤ total_room turns (nodes_of rs)
+all-fit : (turns : ℕ) (rs : List (Runner Global)) (os : List ReturnedRunner) → All IsFresh rs → AllZip (IsOutcomeOf turns) rs os → entry_count (entries_of_all (runners_in os)) ≤ total_room turns (nodes_of rs)
 all-fit turns [] [] fresh all = omega arith
 all-fit turns [] (o ∷ os) fresh all = elim all [ ]
 all-fit turns (r ∷ rs) [] fresh all = elim all [ ]
@@ -261,13 +261,13 @@ all-fit turns (r ∷ rs) (o ∷ os) fresh all =
     omega (arith, one, later)
 
 -- the same port is found, or none
-abbrev IsSameFound : {A : Type 0} → Option (Port A) → Option (Port A) → Type 0
+abbrev IsSameFound : {A : Type 0} → Option (RunnerPort A) → Option (RunnerPort A) → Type 0
 IsSameFound (Some p) (Some q) = IsSamePort p q
 IsSameFound (Some p) None = ⊥
 IsSameFound None (Some q) = ⊥
 IsSameFound None None = Unit {0}
 
-same-found : {A : Type 0} (ps qs : List (Port A)) (v : ℕ) → AreSamePorts ps qs → IsSameFound (port_to ps v) (port_to qs v)
+same-found : {A : Type 0} (ps qs : List (RunnerPort A)) (v : ℕ) → AreSamePorts ps qs → IsSameFound (port_to ps v) (port_to qs v)
 same-found [] [] v same = tt
 same-found [] (q ∷ qs) v same = absurd (let l = same.0 in omega arith)
 same-found (p ∷ ps) [] v same = absurd (let l = same.0 in omega arith)
@@ -276,10 +276,10 @@ same-found (p ∷ ps) (q ∷ qs) v same =
     let rest = same-found ps qs v ((let l = same.0 in omega arith), λ k d there. same.1 (suc k) d (omega arith)) in
     grind (arith, common_steps, one, rest)
 
-cabled-stays : {A : Type 0} (a c b d : Option (Port A)) → IsSameFound a c → IsSameFound b d → IsCableOn a b → IsCableOn c d
+cabled-stays : {A : Type 0} (a c b d : Option (RunnerPort A)) → IsSameFound a c → IsSameFound b d → IsCableOn a b → IsCableOn c d
 cabled-stays a c b d x y is = grind (arith, common_steps, x, y, is)
 
-module _ (w : World) (turns : ℕ) (rs : List (Runner Global)) (os : List Outcome) (range : IsWorldInRange w) (start : AreAtStart w turns rs) (all : AllZip (IsOutcomeOf turns) rs os) where
+module _ (w : World) (turns : ℕ) (rs : List (Runner Global)) (os : List ReturnedRunner) (range : IsWorldInRange w) (start : AreAtStart w turns rs) (all : AllZip (IsOutcomeOf turns) rs os) where
   pub came-count : length os ≡ w.net.nodes
   came-count = let b = AllZip-long (IsOutcomeOf turns) rs os all in let c = start.count in omega arith
 
@@ -287,7 +287,7 @@ module _ (w : World) (turns : ℕ) (rs : List (Runner Global)) (os : List Outcom
   have-done did same = record {
     count = length-map os (λ o. o.runner) ∙ came-count;
     each = λ v now vn.
-        let d : Outcome = record { runner = now; ran = true } in
+        let d : ReturnedRunner = record { runner = now; ran = true } in
         let here : v < length os = let c = came-count in omega arith in
         let there : v < length rs = let c = start.count in omega arith in
         let kept = rw (slice_get-get_or rs v now there, slice_get-get_or os v d here) at (AllZip-left (IsOutcomeOf turns) rs os all v) in
@@ -301,12 +301,12 @@ module _ (w : World) (turns : ℕ) (rs : List (Runner Global)) (os : List Outcom
 
 -- ---- who ran
 
-pub all-ran : (os : List Outcome) → have_run os ≡ true → (v : ℕ) → v < length os → has_run os v ≡ true
+pub all-ran : (os : List ReturnedRunner) → have_run os ≡ true → (v : ℕ) → v < length os → has_run os v ≡ true
 all-ran [] ran v within = absurd (omega (arith, within))
 all-ran (o ∷ os) ran zero within = grind (arith, common_steps, ran)
 all-ran (o ∷ os) ran (suc v) within = all-ran os (grind (arith, common_steps, ran)) v (omega arith)
 
-some-idle : (os : List Outcome) → have_run os ≡ false → (v : ℕ) × (v < length os) × (has_run os v ≡ false)
+some-idle : (os : List ReturnedRunner) → have_run os ≡ false → (v : ℕ) × (v < length os) × (has_run os v ≡ false)
 some-idle [] ran = absurd (false≢true (sym ran))
 some-idle (o ∷ os) ran = elim (cases_Bool o.ran) [
   | inl did ↦ let found = some-idle os (rw did at ran) in let l = found.1 in (suc found.0, omega arith, found.2)
@@ -315,8 +315,8 @@ some-idle (o ∷ os) ran = elim (cases_Bool o.ran) [
 
 -- ---- the world that is made of them
 
-module _ {A : Type 0} {rs : List (Runner A)} {links : LinksView} {room : StretchView} {seats : Seats A} {out : Vec Event A} (w : World) (turns : ℕ → ℕ) (it : IsGatherable w turns rs links room seats out) where
-  pub gathered : (now : LinksView) (nodes : List NodeView) (rows : List (List (Port A))) (entries : List (List Entry)) (events : List Event)
+module _ {A : Type 0} {rs : List (Runner A)} {links : LinksView} {room : StretchView} {seats : RunnerSeats A} {out : Vec Event A} (w : World) (turns : ℕ → ℕ) (it : IsGatherable w turns rs links room seats out) where
+  pub gathered : (now : LinksView) (nodes : List NodeView) (rows : List (List (RunnerPort A))) (entries : List (List JournalEntry)) (events : List Event)
       → nodes ≡ nodes_of rs → rows ≡ rows_of rs → entries ≡ entries_of_all rs
       → now.net ≡ links.net → now.spares ≡ links.spares
       → ((u v : ℕ) → IsTrue (are_joined links.net.edges u v) → IsFlushedBetween rows u v)
@@ -355,7 +355,7 @@ module _ {A : Type 0} {rs : List (Runner A)} {links : LinksView} {room : Stretch
 
 -- ---- the whole run
 
-module _ (w : World) (turns : ℕ) (p : Prepared Global) (os : List Outcome) (back : List (Runner Global)) (start : IsStart w) (ready : IsPrepared w turns p) (all : AllZip (IsOutcomeOf turns) p.runners.items os) (came : back ≡ runners_in os) where
+module _ (w : World) (turns : ℕ) (p : Prepared Global) (os : List ReturnedRunner) (back : List (Runner Global)) (start : IsStart w) (ready : IsPrepared w turns p) (all : AllZip (IsOutcomeOf turns) p.runners.items os) (came : back ≡ runners_in os) where
   pub gatherable : (did : ℕ → ℕ) → ((v : ℕ) → v < length os → turns_of turns os v ≡ did v) → IsGatherable w did back p.links p.room p.seats p.events
   gatherable did alike =
       let few = entries-fit w turns p.runners.items os start.range ready.runners all in

@@ -15,7 +15,7 @@ use Rattle.node_runner.specs.Stamps.{IsTakeOf, last_place}
 use Rattle.node_runner.specs.Ports.{opening, stamped, IsSender, IsReceiver}
 use Rattle.thread_net.specs.Cables.{IsFlushed, left_on}
 use Rattle.judge.specs.run_model.declared.event.Event.{Event}
-use Rattle.node_runner.specs.weaving.declared.journal.Entry.{Entry}
+use Rattle.node_runner.specs.weaving.declared.journal.JournalEntry.{JournalEntry}
 use Rattle.node_runner.specs.weaving.Account.{Note, entry_of}
 use Rattle.node_runner.specs.weaving.Woven.{Placed, entries_of, IsWoven}
 use Rattle.node_runner.specs.FirstTurn.{count_of, deeds_of, is_deed_of, is_tick_of}
@@ -83,7 +83,7 @@ module _ {A : Type 0} (capacity : ℕ) (old : List Item) (sends takes : List Sta
 -- ---- a node's own events in a woven list
 
 -- the event of the entry is a deed of u
-abbrev IsOwn : ℕ → Entry → Type 0
+abbrev IsOwn : ℕ → JournalEntry → Type 0
 IsOwn u e = is_deed_of u e.event ≡ true
 
 deed-own : (u : ℕ) (d : Note) → IsOwn u (entry_of u d)
@@ -107,7 +107,7 @@ placed-own v (p ∷ ps) each =
     let one = first-own v p ps (each p.node) in
     grind (arith, common_steps, later, one)
 
-pub own-deeds : (account : ℕ → List Note) (journal : ℕ → List Entry) (events : List Event) (v : ℕ) → AreOf account journal → IsWoven journal events
+pub own-deeds : (account : ℕ → List Note) (journal : ℕ → List JournalEntry) (events : List Event) (v : ℕ) → AreOf account journal → IsWoven journal events
     → deeds_of v events ≡ events_of v (account v)
 own-deeds account journal events v said woven =
     let each : (u : ℕ) → AllByRecursion (IsOwn u) (entries_of u woven.placed) = λ u. rw (woven.complete u, said u) (account-own u (account u)) in

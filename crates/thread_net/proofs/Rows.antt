@@ -15,8 +15,8 @@ use Rattle.node_runner.specs.weaving.Matched.{items, AreMatched, IsLinkMatched}
 use Rattle.node_runner.proofs.RowsRun.{after_tick, start}
 use Rattle.node_runner.specs.declared.ports.Outgoing.{Outgoing}
 use Rattle.node_runner.specs.declared.ports.Incoming.{Incoming}
-use Rattle.node_runner.specs.declared.runner.Port.{Port}
-use Rattle.thread_net.specs.declared.threads.Outcome.{Outcome}
+use Rattle.node_runner.specs.declared.runner.RunnerPort.{RunnerPort}
+use Rattle.thread_net.specs.declared.threads.ReturnedRunner.{ReturnedRunner}
 use Rattle.thread_net.specs.Cables.{AreWithin, ends_at, port_to, row, left_on, left_on_ports, IsCable, IsCabledOnce, IsCableOn, IsOtherPair, IsFlushed, IsFlushedOn}
 use Rattle.thread_net.specs.Prepared.{IsPrepared}
 use Rattle.thread_net.specs.Seats.{entry_room}
@@ -29,7 +29,7 @@ use Rattle.judge.specs.run_model.Step.{has_room}
 use Rattle.judge.specs.run_model.Run.{run}
 use Rattle.judge.specs.run_model.declared.event.Event.{Event}
 use Rattle.judge.specs.run_model.declared.event.Event.TheVariants.{Send, Tick}
-use Rattle.node_runner.specs.weaving.declared.journal.Entry.{Entry}
+use Rattle.node_runner.specs.weaving.declared.journal.JournalEntry.{JournalEntry}
 use Rattle.node_runner.specs.weaving.Account.{Note, entry_of, Ticked, Sent, sent_to, taken_from, Leads}
 use Rattle.node_runner.specs.weaving.Woven.{AreRising, IsWoven, Placed, entries_of}
 use Rattle.node_runner.specs.Rounds.{AreRounds, IsRound}
@@ -81,7 +81,7 @@ module _ {A : Type 0} (o : Outgoing A) (i : Incoming A) (went : sent o.frames �
 
 -- ---- ports
 
-module _ {A : Type 0} (p q : Port A) (to_one : p.neighbour ≡ 1) (to_two : q.neighbour ≡ 2) where
+module _ {A : Type 0} (p q : RunnerPort A) (to_one : p.neighbour ≡ 1) (to_two : q.neighbour ≡ 2) where
   row-port : (port_to (p ∷ q ∷ []) 2 ≡ Some q) × (port_to (p ∷ q ∷ []) 3 ≡ None)
   row-port = (grind (arith, common_steps, to_one, to_two), grind (arith, common_steps, to_one, to_two))
 
@@ -103,7 +103,7 @@ row-ends : (ends_at {X = ℕ} 1 7 3 9 1 ≡ 7 ∷ []) × (ends_at {X = ℕ} 1 7 
 row-ends = (refl, refl, refl)
 
 -- a cable has two ends
-not-one_end : {A : Type 0} (l : LinksView) (rows more : List (List (Port A))) → row more 3 ≡ row rows 3 → IsCabledOnce l 1 3 rows more → ⊥
+not-one_end : {A : Type 0} (l : LinksView) (rows more : List (List (RunnerPort A))) → row more 3 ≡ row rows 3 → IsCabledOnce l 1 3 rows more → ⊥
 not-one_end l rows more same it =
     let count = ap length (sym same ∙ it.grown 3) in
     let longer = length_push (row rows 3) it.far in
@@ -115,7 +115,7 @@ not-one_end l rows more same it =
 row-room : entry_room 10 2 ≡ 70
 row-room = refl
 
-module _ (a b : Outcome) (ran : a.ran ≡ true) (came_back : b.ran ≡ false) where
+module _ (a b : ReturnedRunner) (ran : a.ran ≡ true) (came_back : b.ran ≡ false) where
   row-all_ran : (have_run (a ∷ []) ≡ true) × (have_run (a ∷ b ∷ []) ≡ false)
   row-all_ran = (rw ran, rw (ran, came_back))
 
@@ -160,7 +160,7 @@ account zero = Ticked 1 ∷ Sent 1 (first_frame 0 1) ∷ []
 account (suc zero) = Ticked 1 ∷ Sent 0 (first_frame 1 0) ∷ []
 account (suc (suc v)) = []
 
-abbrev journal : ℕ → List Entry
+abbrev journal : ℕ → List JournalEntry
 journal v = map (entry_of v) (account v)
 
 abbrev events : List Event

@@ -5,7 +5,7 @@ use Rattle.std.proofs.lemmas.Bool.{ltb-true, lt-ltb}
 use Rattle.std.proofs.lemmas.Grind.{common_steps}
 use Rattle.std.proofs.lemmas.List.Quantifiers.{position-Some}
 use Rattle.std.proofs.lemmas.Option.{cond_some}
-use Rattle.node_runner.specs.declared.runner.Port.{Port}
+use Rattle.node_runner.specs.declared.runner.RunnerPort.{RunnerPort}
 use Rattle.thread_net.specs.Cables.{port_to, IsRoomFor, IsOtherPair, row, left_between, IsCableBetween, IsFlushedBetween, AreSettleable, AreCabled}
 use Rattle.std.proofs.Math.Path.{fun_ext}
 use Rattle.std.proofs.lemmas.List.{drop_more, length-take, length-drop, get_or-drop, take_more, get_or_default}
@@ -19,24 +19,24 @@ use Rattle.std.proofs.lemmas.List.Folds.{list_any_at, list_any_more}
 -- ---- the first port that leads to a node
 
 module _ {A : Type 0} (v : ℕ) where
-  abbrev pub leads : Port A → Bool
+  abbrev pub leads : RunnerPort A → Bool
   leads p = p.neighbour == v
 
-  pub not-found : (ps : List (Port A)) → position leads ps ≡ None → port_to ps v ≡ None
+  pub not-found : (ps : List (RunnerPort A)) → position leads ps ≡ None → port_to ps v ≡ None
   not-found [] none = refl
   not-found (p ∷ ps) none = let later = not-found ps in grind (arith, common_steps)
 
-  found : (ps : List (Port A)) (d : Port A) → position_or_len leads ps < length ps → port_to ps v ≡ Some (slice_index_or ps (position_or_len leads ps) d)
+  found : (ps : List (RunnerPort A)) (d : RunnerPort A) → position_or_len leads ps < length ps → port_to ps v ≡ Some (slice_index_or ps (position_or_len leads ps) d)
   found [] d within = absurd (omega arith)
   found (p ∷ ps) d within = let later = found ps d in grind (arith, common_steps)
 
-  without : (ps : List (Port A)) (k j : ℕ) (d : Port A) → k < length ps → leads (slice_index_or ps k d) ≡ true → j ≢ v → port_to (remove ps k) j ≡ port_to ps j
+  without : (ps : List (RunnerPort A)) (k j : ℕ) (d : RunnerPort A) → k < length ps → leads (slice_index_or ps k d) ≡ true → j ≢ v → port_to (remove ps k) j ≡ port_to ps j
   without [] k j d within at apart = absurd (omega arith)
   without (p ∷ ps) zero j d within at apart = grind (arith, common_steps)
   without (p ∷ ps) (suc k) j d within at apart = let later = without ps k j d (omega arith) at apart in grind (arith, common_steps)
 
   -- it is found at its place, and all others are found without it
-  pub found-at : (ps : List (Port A)) (k : ℕ) (d : Port A) → position leads ps ≡ Some k
+  pub found-at : (ps : List (RunnerPort A)) (k : ℕ) (d : RunnerPort A) → position leads ps ≡ Some k
       → (port_to ps v ≡ Some (slice_index_or ps k d)) × ((j : ℕ) → j ≢ v → port_to (remove ps k) j ≡ port_to ps j)
   found-at ps k d is =
       let f = cond_some _ _ _ is in
@@ -106,7 +106,7 @@ next-edge net accepted law es same k within = rw same (go (slice_index_or net.ed
 
 -- The links of the pairs that are past have what was left in their rings. The ports of all other
 -- pairs are as they were.
-pub record IsSettling {A : Type 0} (net : Network) (past : ℕ → ℕ → Bool) (old rows : List (List (Port A))) (was link : ℕ → ℕ → List Item) : Type 0 where
+pub record IsSettling {A : Type 0} (net : Network) (past : ℕ → ℕ → Bool) (old rows : List (List (RunnerPort A))) (was link : ℕ → ℕ → List Item) : Type 0 where
   pub flushed : (i j : ℕ) → past i j ≡ true → IsFlushedBetween old i j
   pub left : AreSettleable net old → (i j : ℕ) → link i j ≡ (if past i j then left_between old i j else was i j)
   pub same : (i j : ℕ) → past i j ≡ false → port_to (row rows i) j ≡ port_to (row old i) j
@@ -123,11 +123,11 @@ module _ {net : Network} {past after : ℕ → ℕ → Bool} {u v : ℕ} (it : I
       → at_pair (at_pair link u v (left u v)) v u (left v u) i j ≡ (if after i j then left i j else was i j)
   next-at left link was i j ago = let all = it.grows i j in let apart = it.apart in grind (arith, common_steps, apart, ago)
 
-  module _ {A : Type 0} {old rows : List (List (Port A))} {was link : ℕ → ℕ → List Item} (before : IsSettling net past old rows was link) where
+  module _ {A : Type 0} {old rows : List (List (RunnerPort A))} {was link : ℕ → ℕ → List Item} (before : IsSettling net past old rows was link) where
     pub still-cabled : AreCabled net old → IsCableBetween rows u v
     still-cabled cabled = rw (before.same u v it.first.0, before.same v u it.first.1) (cabled u v it.joined.0)
 
-    pub settling-more : (now : List (List (Port A))) (next : ℕ → ℕ → List Item) → IsFlushedBetween rows u v → IsFlushedBetween rows v u
+    pub settling-more : (now : List (List (RunnerPort A))) (next : ℕ → ℕ → List Item) → IsFlushedBetween rows u v → IsFlushedBetween rows v u
         → (IsRoomFor net (left_between rows u v) → IsRoomFor net (left_between rows v u) → next ≡ at_pair (at_pair link u v (left_between rows u v)) v u (left_between rows v u))
         → ((i j : ℕ) → IsOtherPair i j u v → IsOtherPair i j v u → port_to (row now i) j ≡ port_to (row rows i) j) → IsSettling net after old now was next
     settling-more now next there here left others =

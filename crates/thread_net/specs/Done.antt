@@ -11,7 +11,7 @@ use Rattle.judge.specs.Stretch.{StretchView, HasRoomFor}
 use Rattle.node_runner.specs.weaving.Account.{Note}
 use Rattle.node_runner.specs.weaving.Journals.{entry_count}
 use Rattle.node_runner.specs.declared.runner.Runner.{Runner}
-use Rattle.thread_net.specs.declared.seats.Seats.{Seats}
+use Rattle.thread_net.specs.declared.seats.RunnerSeats.{RunnerSeats}
 use Rattle.node_runner.specs.Runner.{IsNoted}
 use Rattle.node_runner.specs.Rounds.{AreRounds}
 use Rattle.node_runner.specs.FirstTurn.{IsFirstTurn}
@@ -40,7 +40,7 @@ pub record IsStart (w : World) : Type 0 where
   pub beyond : (v : ℕ) → w.net.nodes ≤ v → w.node v ≡ default_node (ranges_of w.net)
 
 -- all that a world and a list of events are made of, when each node has done its rounds
-pub record IsGatherable {A : Type 0} (w : World) (turns : ℕ → ℕ) (runners : List (Runner A)) (links : LinksView) (room : StretchView) (seats : Seats A) (events : Vec Event A) : Type 0 where
+pub record IsGatherable {A : Type 0} (w : World) (turns : ℕ → ℕ) (runners : List (Runner A)) (links : LinksView) (room : StretchView) (seats : RunnerSeats A) (events : Vec Event A) : Type 0 where
   pub start : IsStart w
   pub done : HaveDone w turns runners
   pub over : IsOver w links
@@ -51,10 +51,10 @@ pub record IsGatherable {A : Type 0} (w : World) (turns : ℕ → ℕ) (runners 
   pub fits : entry_count (entries_of_all runners) ≤ vec_capacity events
 
 -- there is such a world
-abbrev pub CanGather : {A : Type 0} → List (Runner A) → LinksView → StretchView → Seats A → Vec Event A → Type 0
+abbrev pub CanGather : {A : Type 0} → List (Runner A) → LinksView → StretchView → RunnerSeats A → Vec Event A → Type 0
 CanGather runners links room seats events = (w : World) × (turns : ℕ → ℕ) × IsGatherable w turns runners links room seats events
 
 -- from each such world what the nodes did is a run to the last one
-abbrev pub Gathers : {A : Type 0} → List (Runner A) → LinksView → StretchView → Seats A → Vec Event A → List Event → World → Type 0
+abbrev pub Gathers : {A : Type 0} → List (Runner A) → LinksView → StretchView → RunnerSeats A → Vec Event A → List Event → World → Type 0
 Gathers runners links room seats events woven last =
     (w : World) (turns : ℕ → ℕ) → IsGatherable w turns runners links room seats events → IsThreadRun turns w woven last

@@ -2,33 +2,33 @@
 use Rattle.std.specs.Prelude.{◌≡◌, ℕ, Bool, true, false, ◌&&◌, if◌then◌else◌, List, [], ◌∷◌, map, slice_index_or}
 use Rattle.std.specs.declared.alloc.Global.{Global}
 use Rattle.node_runner.specs.declared.runner.Runner.{Runner}
-use Rattle.thread_net.specs.declared.threads.Outcome.{Outcome}
-use Rattle.thread_net.specs.declared.threads.Started.{Started}
-use Rattle.thread_net.specs.declared.threads.Started.TheVariants.{Running, Back}
+use Rattle.thread_net.specs.declared.threads.ReturnedRunner.{ReturnedRunner}
+use Rattle.thread_net.specs.declared.threads.StartedRunner.{StartedRunner}
+use Rattle.thread_net.specs.declared.threads.StartedRunner.TheVariants.{Running, Back}
 pub use Rattle.thread_net.specs.Keeps.{Keeps, MayRun, HasRun}
 
 -- all turns of the runner, or the runner as it was
-abbrev pub IsOutcomeOf : ℕ → Runner Global → Outcome → Type 0
+abbrev pub IsOutcomeOf : ℕ → Runner Global → ReturnedRunner → Type 0
 IsOutcomeOf turns r o = Keeps turns r o.runner o.ran
 
 -- its thread was started, or it came back at once
-abbrev pub IsStartOf : ℕ → Runner Global → Started → Type 0
+abbrev pub IsStartOf : ℕ → Runner Global → StartedRunner → Type 0
 IsStartOf turns r (Running h) = (h.promise.runner.value ≡ r) × (h.promise.turns ≡ turns)
 IsStartOf turns r (Back o) = IsOutcomeOf turns r o
 
 -- the runners that came back
-abbrev pub runners_in : List Outcome → List (Runner Global)
+abbrev pub runners_in : List ReturnedRunner → List (Runner Global)
 runners_in outcomes = map (λ o. o.runner) outcomes
 
 -- all of them ran
-abbrev pub have_run : List Outcome → Bool
+abbrev pub have_run : List ReturnedRunner → Bool
 have_run [] = true
 have_run (o ∷ os) = o.ran && have_run os
 
 -- whether v ran
-abbrev pub has_run : List Outcome → ℕ → Bool
+abbrev pub has_run : List ReturnedRunner → ℕ → Bool
 has_run outcomes v = slice_index_or (map (λ o. o.ran) outcomes) v false
 
 -- for how many turns v ran
-abbrev pub turns_of : ℕ → List Outcome → ℕ → ℕ
+abbrev pub turns_of : ℕ → List ReturnedRunner → ℕ → ℕ
 turns_of turns outcomes v = if has_run outcomes v then turns else 0

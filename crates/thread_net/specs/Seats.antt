@@ -2,7 +2,7 @@
 use Rattle.std.specs.Prelude.{◌≡◌, ℕ, ◌+◌, ◌*◌, ◌<◌, ◌≤◌, List, [], ◌∷◌, All, map, length, slice_index_or, vec_capacity}
 use Rattle.judge.specs.node_core.View.{NodeView, site_in}
 use Rattle.judge.specs.run_model.World.{World}
-use Rattle.node_runner.specs.weaving.declared.journal.Entry.{Entry}
+use Rattle.node_runner.specs.weaving.declared.journal.JournalEntry.{JournalEntry}
 use Rattle.node_runner.specs.declared.runner.Runner.{Runner}
 use Rattle.node_runner.specs.Runner.{IsNoted, IsReady, round_room}
 use Rattle.thread_net.specs.Cables.{AreCabled, rows_of, Seat}
@@ -12,7 +12,7 @@ abbrev pub nodes_of : {A : Type 0} → List (Runner A) → List NodeView
 nodes_of runners = map (λ r. r.node) runners
 
 -- the entries of each
-abbrev pub entries_of_all : {A : Type 0} → List (Runner A) → List (List Entry)
+abbrev pub entries_of_all : {A : Type 0} → List (Runner A) → List (List JournalEntry)
 entries_of_all runners = map (λ r. r.journal.entries.items) runners
 
 -- the seat is of its node, which has done nothing yet

@@ -4,7 +4,7 @@ use Rattle.topology.specs.Network.{neighbours_of}
 use Rattle.judge.specs.run_model.World.{World}
 use Rattle.judge.specs.run_model.Run.{run}
 use Rattle.judge.specs.run_model.declared.event.Event.{Event}
-use Rattle.node_runner.specs.weaving.declared.journal.Entry.{Entry}
+use Rattle.node_runner.specs.weaving.declared.journal.JournalEntry.{JournalEntry}
 use Rattle.node_runner.specs.weaving.Account.{Note}
 use Rattle.node_runner.specs.weaving.Laws.{GoesThrough}
 use Rattle.node_runner.specs.weaving.Matched.{AreMatched, AreOf}
@@ -21,7 +21,7 @@ pub record IsThreadRun (turns : ℕ → ℕ) (start : World) (events : List Even
   pub leads : run start events ≡ last
   pub through : GoesThrough start events
   pub account : ℕ → List Note
-  pub journal : ℕ → List Entry
+  pub journal : ℕ → List JournalEntry
   pub woven : IsWoven journal events
   pub rising : (v : ℕ) → AreRising (journal v)
   pub said : AreOf account journal

@@ -11,7 +11,7 @@ ghost use Rattle.thread_net.specs.Cables.{AreEnds, IsCable, IsCabledOnce, AreFur
 ghost use Rattle.thread_net.specs.Cables.{rows_of, row, seats_of, AreWithin, IsOver};
 
 use judge::Links;
-use node_runner::{Incoming, Outgoing, Port, Runner, StampBound, Stamped};
+use node_runner::{Incoming, Outgoing, Runner, RunnerPort, StampBound, Stamped};
 use rtrb::{Producer, RingBuffer};
 use std::alloc::{AllocError, Allocator};
 use topology::laws as topology_laws;
@@ -77,7 +77,7 @@ fn cable<A: Allocator + Copy>(
     links: &Links<A>,
     one: u16,
     other: u16,
-) -> Result<(Port<A>, Port<A>), AllocError>
+) -> Result<(RunnerPort<A>, RunnerPort<A>), AllocError>
     requires one_in { one < links.now.net.nodes }
     requires other_in { other < links.now.net.nodes }
     requires joined { IsTrue (are_joined links.now.net.edges one other) }
@@ -90,12 +90,12 @@ fn cable<A: Allocator + Copy>(
     topology_laws::joined();
     let (outgoing, far_incoming) = link_ends(alloc, links, one, other)?;
     let (far_outgoing, incoming) = link_ends(alloc, links, other, one)?;
-    let near = Port {
+    let near = RunnerPort {
         neighbour: other,
         outgoing,
         incoming,
     };
-    let far = Port {
+    let far = RunnerPort {
         neighbour: one,
         outgoing: far_outgoing,
         incoming: far_incoming,
@@ -108,7 +108,7 @@ fn cable<A: Allocator + Copy>(
 fn plug<A: Allocator>(
     runners: &mut Vec<Runner<A>, A>,
     node: u16,
-    port: Port<A>,
+    port: RunnerPort<A>,
 ) -> Result<(), AllocError>
     requires { node < length runners.old.items }
     ensures rows { OnOk result ((x : ℕ) → row (rows_of runners.new.items) x

@@ -12,7 +12,7 @@ ghost use Rattle.thread_net.specs.Tables.{AreEmptySeats};
 ghost use Rattle.thread_net.specs.Prepared.{IsPrepared};
 
 use crate::cables::cable_all;
-use crate::seats::{Seats, new_seats, reserve_journals, seat_all, unseat_all};
+use crate::seats::{RunnerSeats, new_seats, reserve_journals, seat_all, unseat_all};
 use judge::{Event, Links, Parts, Stretch};
 use node_runner::Runner;
 use std::alloc::{AllocError, Allocator};
@@ -25,7 +25,7 @@ pub struct Prepared<A: Allocator + Copy> {
     pub(crate) links: Links<A>,
     pub(crate) room: Stretch<A>,
     /// Where the runners' parts go when they are done.
-    pub(crate) seats: Seats<A>,
+    pub(crate) seats: RunnerSeats<A>,
     /// Where their events go.
     pub(crate) events: Vec<Event, A>,
 }
@@ -62,7 +62,7 @@ fn furnish<A: Allocator + Copy>(
 fn tables<A: Allocator + Copy>(
     alloc: A,
     count: usize,
-) -> Result<(Vec<Runner<A>, A>, Seats<A>), AllocError>
+) -> Result<(Vec<Runner<A>, A>, RunnerSeats<A>), AllocError>
     ensures runners { IfOk result (λ r. (r.0.items ≡ []) × (count ≤ vec_capacity r.0)) }
     ensures seats { IfOk result (λ r. AreEmptySeats count r.1) }
 {
@@ -101,7 +101,7 @@ pub fn prepare<A: Allocator + Copy>(
         }),
         Err(_) => {
             unseat_all(runners, &mut seats);
-            let Seats { nodes, .. } = seats;
+            let RunnerSeats { nodes, .. } = seats;
             Err(Parts { nodes, links, room })
         }
     }

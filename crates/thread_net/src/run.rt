@@ -9,9 +9,9 @@ ghost use Rattle.thread_net.specs.Prepared.{IsPrepared};
 ghost use Rattle.thread_net.specs.Fault.{IsFault};
 
 use crate::prepare::{Prepared, prepare};
-use crate::seats::{Seats, unseat_all};
+use crate::seats::{RunnerSeats, unseat_all};
 use crate::settle::settle_all;
-use crate::threads::{Outcome, run_all};
+use crate::threads::{ReturnedRunner, run_all};
 use judge::{Event, Links, Parts, Stretch, World};
 use node_runner::{Gate, Runner, laws as node_runner_laws, weave};
 use std::alloc::{AllocError, Allocator, Global};
@@ -39,7 +39,7 @@ pub enum RunFault {
 }
 
 /// The tables of what comes of each thread, and of the runners that came back.
-fn new_tables(alloc: Global, count: usize) -> Result<(Vec<Outcome>, Vec<Runner>), AllocError>
+fn new_tables(alloc: Global, count: usize) -> Result<(Vec<ReturnedRunner>, Vec<Runner>), AllocError>
     ensures done { IfOk result (λ r. (r.0.items ≡ []) × (count ≤ vec_capacity r.0)) }
     ensures back { IfOk result (λ r. (r.1.items ≡ []) × (count ≤ vec_capacity r.1)) }
 {
@@ -49,14 +49,14 @@ fn new_tables(alloc: Global, count: usize) -> Result<(Vec<Outcome>, Vec<Runner>)
 }
 
 /// Whether all ran; their runners go to a table.
-fn collect(outcomes: Vec<Outcome>, runners: &mut Vec<Runner>) -> bool
+fn collect(outcomes: Vec<ReturnedRunner>, runners: &mut Vec<Runner>) -> bool
     requires { (runners.old.items ≡ []) × (vec_len outcomes ≤ vec_capacity runners.old) }
     ensures runners { runners.new.items ≡ runners_in outcomes.items }
     ensures all { result ≡ have_run outcomes.items }
 {
     let mut all_ran = true;
     for outcome in outcomes {
-        let Outcome { runner, ran } = outcome;
+        let ReturnedRunner { runner, ran } = outcome;
         runners.push_reserved(runner);
         all_ran = all_ran && ran;
     }
@@ -68,7 +68,7 @@ fn gather<A: Allocator + Copy>(
     runners: Vec<Runner<A>, A>,
     links: Links<A>,
     room: Stretch<A>,
-    seats: Seats<A>,
+    seats: RunnerSeats<A>,
     events: Vec<Event, A>,
 ) -> Woven<A>
     requires { CanGather runners.items links room seats events }
@@ -82,7 +82,7 @@ fn gather<A: Allocator + Copy>(
     let mut seats = seats;
     let mut events = events;
     unseat_all(runners, &mut seats);
-    let Seats {
+    let RunnerSeats {
         nodes,
         journals,
         mut rows,

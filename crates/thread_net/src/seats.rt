@@ -10,22 +10,25 @@ ghost use Rattle.thread_net.specs.Seats.{total_room, AreShort};
 ghost use Rattle.thread_net.specs.Tables.{rows_in, AreEmptySeats};
 
 use judge::Node;
-use node_runner::{Journal, Port, Runner};
+use node_runner::{Journal, Runner, RunnerPort};
 use std::alloc::{AllocError, Allocator};
 
 /// The parts of runners, each in a table of its own.
 #[derive(Drop)]
-pub(crate) struct Seats<A: Allocator> {
+pub(crate) struct RunnerSeats<A: Allocator> {
     pub(crate) nodes: Vec<Node<A>, A>,
     pub(crate) journals: Vec<Journal<A>, A>,
-    pub(crate) rows: Vec<Vec<Port<A>, A>, A>,
+    pub(crate) rows: Vec<Vec<RunnerPort<A>, A>, A>,
 }
 
 /// Empty tables for the parts of as many runners.
-pub(crate) fn new_seats<A: Allocator + Copy>(alloc: A, count: usize) -> Result<Seats<A>, AllocError>
+pub(crate) fn new_seats<A: Allocator + Copy>(
+    alloc: A,
+    count: usize,
+) -> Result<RunnerSeats<A>, AllocError>
     ensures { IfOk result (AreEmptySeats count) }
 {
-    Ok(Seats {
+    Ok(RunnerSeats {
         nodes: Vec::with_capacity(alloc, count)?,
         journals: Vec::with_capacity(alloc, count)?,
         rows: Vec::with_capacity(alloc, count)?,
@@ -96,7 +99,7 @@ pub(crate) fn reserve_journals<A: Allocator + Copy>(
 }
 
 /// The runners' parts go to the tables.
-pub(crate) fn unseat_all<A: Allocator>(runners: Vec<Runner<A>, A>, seats: &mut Seats<A>)
+pub(crate) fn unseat_all<A: Allocator>(runners: Vec<Runner<A>, A>, seats: &mut RunnerSeats<A>)
     requires { AreEmptySeats (vec_len runners) seats.old }
     ensures nodes { seats.new.nodes.items ≡ nodes_of runners.items }
     ensures journals { entries_in seats.new.journals.items ≡ entries_of_all runners.items }

@@ -12,7 +12,7 @@ ghost use Rattle.thread_net.specs.Tables.{rows_in};
 
 use judge::Links;
 use link_model::Item;
-use node_runner::{Incoming, Outgoing, Port};
+use node_runner::{Incoming, Outgoing, RunnerPort};
 use std::alloc::Allocator;
 use topology::{Net, laws as topology_laws};
 
@@ -57,14 +57,14 @@ fn drain<A: Allocator + Copy>(
 }
 
 /// The place of the first port that leads to a node.
-fn place_of_port<A: Allocator>(ports: &[Port<A>], to: u16) -> Option<usize>
+fn place_of_port<A: Allocator>(ports: &[RunnerPort<A>], to: u16) -> Option<usize>
     ensures { result ≡ position (λ p. p.neighbour == to) ports.now }
 {
     ports.iter().position(|port| port.neighbour == to)
 }
 
 /// Takes the first port that leads to a node, if there is one.
-fn take_from<A: Allocator>(ports: &mut Vec<Port<A>, A>, to: u16) -> Option<Port<A>>
+fn take_from<A: Allocator>(ports: &mut Vec<RunnerPort<A>, A>, to: u16) -> Option<RunnerPort<A>>
     ensures port { result ≡ port_to ports.old.items to }
     ensures others { (j : ℕ) → j ≢ to → port_to ports.new.items j ≡ port_to ports.old.items j }
 {
@@ -76,10 +76,10 @@ fn take_from<A: Allocator>(ports: &mut Vec<Port<A>, A>, to: u16) -> Option<Port<
 
 /// Takes a node's port to another, if it has one.
 fn take_port<A: Allocator>(
-    rows: &mut Vec<Vec<Port<A>, A>, A>,
+    rows: &mut Vec<Vec<RunnerPort<A>, A>, A>,
     node: u16,
     to: u16,
-) -> Option<Port<A>>
+) -> Option<RunnerPort<A>>
     requires { node < length rows.old.items }
     ensures port { result ≡ port_to (row (rows_in rows.old.items) node) to }
     ensures others { (i j : ℕ) → IsOtherPair i j node to
@@ -93,7 +93,7 @@ fn take_port<A: Allocator>(
 /// Takes the ports of two nodes that lead to each other: their links have what is left.
 fn settle_edge<A: Allocator + Copy>(
     links: &mut Links<A>,
-    rows: &mut Vec<Vec<Port<A>, A>, A>,
+    rows: &mut Vec<Vec<RunnerPort<A>, A>, A>,
     one: u16,
     other: u16,
 )
@@ -133,7 +133,7 @@ fn settle_edge<A: Allocator + Copy>(
 /// Settles all links: each has what is left in its ring.
 pub(crate) fn settle_all<A: Allocator + Copy>(
     links: &mut Links<A>,
-    rows: &mut Vec<Vec<Port<A>, A>, A>,
+    rows: &mut Vec<Vec<RunnerPort<A>, A>, A>,
 )
     requires all { length rows.old.items ≡ links.old.net.nodes }
     requires cabled { AreCabled links.old.net (rows_in rows.old.items) }

@@ -15,7 +15,7 @@ use std::vec::IntoIter;
 
 /// A runner that came back, and whether it ran.
 #[derive(Drop)]
-pub(crate) struct Outcome {
+pub(crate) struct ReturnedRunner {
     pub(crate) runner: Runner,
     pub(crate) ran: bool,
 }
@@ -38,7 +38,7 @@ impl Was {
     }
 }
 
-impl Promise<Outcome> for Was {
+impl Promise<ReturnedRunner> for Was {
     ghost use Rattle.thread_net.specs.Keeps.{Keeps};
 
     ghost kept_by = { λ p o. Keeps p.turns p.runner.value o.runner o.ran };
@@ -46,22 +46,22 @@ impl Promise<Outcome> for Was {
 
 /// A runner whose thread was started, or that came back at once.
 #[derive(Drop)]
-pub(crate) enum Started {
-    Running(PromisedHandle<Outcome, Was>),
-    Back(Outcome),
+pub(crate) enum StartedRunner {
+    Running(PromisedHandle<ReturnedRunner, Was>),
+    Back(ReturnedRunner),
 }
 
 /// The turns of a runner, unless a start was refused before.
-fn run_one<G: Gate>(runner: Runner, gate: &G, stop: &AtomicBool, turns: u32) -> Outcome
+fn run_one<G: Gate>(runner: Runner, gate: &G, stop: &AtomicBool, turns: u32) -> ReturnedRunner
     requires { MayRun turns runner }
     ensures { Keeps turns runner result.runner result.ran }
 {
     let mut runner = runner;
     if stop.load(Ordering::SeqCst) {
-        return Outcome { runner, ran: false };
+        return ReturnedRunner { runner, ran: false };
     }
     runner.run(gate, turns);
-    Outcome { runner, ran: true }
+    ReturnedRunner { runner, ran: true }
 }
 
 /// Starts a runner on a thread of its own. If there is no thread for it, it comes back as it was, and
@@ -72,31 +72,31 @@ fn start<'s, E, G: Gate>(
     stop: &'s AtomicBool,
     runner: Runner,
     turns: u32,
-) -> Started
+) -> StartedRunner
     requires { MayRun turns runner }
     ensures { IsStartOf turns runner result }
 {
     let was = Was::of(&runner, turns);
-    let body = move || -> Outcome
+    let body = move || -> ReturnedRunner
         requires { MayRun turns runner }
         ensures { Keeps turns runner result.runner result.ran }
     { run_one(runner, gate, stop, turns) };
     match scope.spawn_with(was, body) {
-        Ok(handle) => Started::Running(handle),
+        Ok(handle) => StartedRunner::Running(handle),
         Err(refused) => {
             stop.store(true, Ordering::SeqCst);
-            Started::Back((refused.value)())
+            StartedRunner::Back((refused.value)())
         }
     }
 }
 
 /// Waits for a runner.
-fn finish<R: Threads>(rt: &R, turns: u32, started: Started) -> Outcome
+fn finish<R: Threads>(rt: &R, turns: u32, started: StartedRunner) -> ReturnedRunner
     ensures { (r : Runner Global) → IsStartOf turns r started → IsOutcomeOf turns r result }
 {
     match started {
-        Started::Running(handle) => handle.join(rt),
-        Started::Back(outcome) => outcome,
+        StartedRunner::Running(handle) => handle.join(rt),
+        StartedRunner::Back(outcome) => outcome,
     }
 }
 
@@ -108,7 +108,7 @@ fn run_each<'s, E, R: Threads, G: Gate>(
     stop: &'s AtomicBool,
     runners: &mut IntoIter<Runner>,
     turns: u32,
-    done: &mut Vec<Outcome>,
+    done: &mut Vec<ReturnedRunner>,
 )
     requires may { All (MayRun turns) (into_iter_items runners.old) }
     requires empty { done.old.items ≡ [] }
@@ -132,8 +132,8 @@ pub(crate) fn run_all<R: Threads + Wait + Sync, G: Gate>(
     gate: &G,
     runners: Vec<Runner>,
     turns: u32,
-    done: Vec<Outcome>,
-) -> Vec<Outcome>
+    done: Vec<ReturnedRunner>,
+) -> Vec<ReturnedRunner>
     requires may { All (MayRun turns) runners.items }
     requires done { (done.items ≡ []) × (vec_len runners ≤ vec_capacity done) }
     ensures { AllZip (IsOutcomeOf turns) runners.items result.items }
@@ -143,7 +143,7 @@ pub(crate) fn run_all<R: Threads + Wait + Sync, G: Gate>(
     thread::scope(
         thread::scope_env(),
         rt,
-        |scope| -> Vec<Outcome>
+        |scope| -> Vec<ReturnedRunner>
             requires may { All (MayRun turns) runners.items }
             requires done { (done.items ≡ []) × (vec_len runners ≤ vec_capacity done) }
             ensures { AllZip (IsOutcomeOf turns) runners.items result.items }

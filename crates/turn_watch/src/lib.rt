@@ -28,6 +28,6 @@ mod turns;
 
 pub use links::{LinkSight, LinkTimes};
 pub use loans::{DeskSight, LoanTimes};
-pub use notes::Notes;
+pub use notes::TurnNotes;
 pub use rounds::{MachineSight, RoundCount};
 pub use turns::{Lately, TurnTimes, USUAL_LIMIT};

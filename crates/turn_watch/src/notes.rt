@@ -16,7 +16,7 @@ const NODES: usize = 64;
 
 /// What a node notes of its turns, loans and links, and of the token.
 #[derive(Drop)]
-pub struct Notes {
+pub struct TurnNotes {
     turns: TurnTimes,
     loans: LoanTimes,
     rounds: RoundCount,
@@ -28,15 +28,15 @@ pub struct Notes {
     next: u16,
 }
 
-impl Notes {
+impl TurnNotes {
     /// Nothing has happened since the start, and no link is up. Turns are late after `limit`
     /// microseconds.
-    pub fn begin(now: u64, limit: u64) -> Notes
+    pub fn begin(now: u64, limit: u64) -> TurnNotes
         ensures { (result.turns ≡ begun now) × (result.loans ≡ no_loans)
             × (result.rounds ≡ no_rounds) × (result.links ≡ replicate 64 (down_since now))
             × (result.limit ≡ limit) × (result.next ≡ 0) }
     {
-        Notes {
+        TurnNotes {
             turns: TurnTimes::begin(now),
             loans: LoanTimes::begin(),
             rounds: RoundCount::begin(),

@@ -5,10 +5,10 @@ ghost use Rattle.std.specs.Prelude.{codes, decimal, length};
 ghost use Rattle.std.specs.List.{list_any};
 ghost use Rattle.std.specs.Process.{command_args};
 ghost use Rattle.process_parts.specs.node_keeping.Steps.{new_keeper, stage_after, deed_at, is_kept};
-ghost use Rattle.process_parts.specs.node_keeping.declared.keeper.Stage.TheVariants.{Runs, Waits, Starts};
+ghost use Rattle.process_parts.specs.node_keeping.declared.keeper.KeeperStage.TheVariants.{Runs, Waits, Starts};
 ghost use Rattle.process_parts.specs.node_keeping.declared.keeper.Seen.{Seen};
 ghost use Rattle.process_parts.specs.node_keeping.declared.keeper.Seen.TheVariants.{Nothing};
-ghost use Rattle.process_parts.specs.node_keeping.declared.keeper.Deed.TheVariants.{Start};
+ghost use Rattle.process_parts.specs.node_keeping.declared.keeper.KeeperDeed.TheVariants.{Start};
 ghost use Rattle.process_parts.specs.node_texts.PremisesText.{millis_text};
 ghost use Rattle.up_process.specs.Children.{child_options, rights_options, log_options, record_options};
 ghost use Rattle.up_process.specs.Children.{child_words, end_of};
@@ -16,15 +16,16 @@ ghost use Rattle.process_parts.specs.Start.{may_end};
 ghost use Rattle.process_parts.specs.declared.fault.NodeFault.TheVariants.{Lock, Running};
 ghost use Rattle.process_parts.specs.declared.fault.NodeFault.TheVariants.{UpLock, UpRunning, Memory};
 ghost use Rattle.process_parts.specs.declared.fault.NodeFault.TheVariants.{System};
-ghost use Rattle.process_parts.specs.declared.start.Stage.TheVariants.{Begun, Checked, Entered};
+ghost use Rattle.process_parts.specs.declared.start.StartStage.TheVariants.{Begun, Checked, Entered};
 
 use crate::asks::Asks;
 use crate::left::LastLine;
 use node_log::Level;
 use pace::Manner;
 use process_parts::{
-    Deed, End, EndLine, Keeper, NodeFault, Place, RecordSize, Rights, Seen, Stage, UpCourse,
-    UpWords, check_names, fault_of, hold_place, make_folder, read_network, warn_of_capacity,
+    End, EndLine, FolderPlace, Keeper, KeeperDeed, NodeFault, RecordSize, Rights, Seen, StartStage,
+    UpCourse, UpWords, check_names, fault_of, hold_place, make_folder, read_network,
+    warn_of_capacity,
 };
 use std::alloc::{AllocError, Global};
 use std::fmt::Display;
@@ -327,7 +328,7 @@ pub fn run<R, C: NodeProgram>(rt: &R, program: &C, file: &str, dir: &str) -> Res
 where
     R: Files<File = File> + Sockets + Clock + Input + Print + Eprint + Processes + AllocGlobal,
 {
-    let mut stage = Stage::Begun;
+    let mut stage = StartStage::Begun;
     let net = check_network(rt, file, dir, &mut stage)?;
     make_folder(rt, dir, program.rights(), &mut stage)?;
     // Held until it ends.
@@ -342,8 +343,8 @@ where
 fn hold_up_place<R: Files<File = File> + AllocGlobal>(
     rt: &R,
     dir: &str,
-    stage: &mut Stage,
-) -> Result<Place, NodeFault>
+    stage: &mut StartStage,
+) -> Result<FolderPlace, NodeFault>
     requires { stage.old ≡ Entered }
     ensures { IfErr result (λ fault. (fault ≡ UpRunning) ⊎ ((fault ≡ UpLock) ⊎ (fault ≡ Memory))) }
 {
@@ -359,7 +360,7 @@ fn check_network<R: Files + AllocGlobal>(
     rt: &R,
     file: &str,
     dir: &str,
-    stage: &mut Stage,
+    stage: &mut StartStage,
 ) -> Result<Net, NodeFault>
     requires { stage.old ≡ Begun }
     ensures ok { IfOk result (λ _. stage.new ≡ Checked) }
@@ -370,7 +371,7 @@ fn check_network<R: Files + AllocGlobal>(
         Err(fault) => return Err(NodeFault::Network(fault)),
     };
     check_names(rt.alloc(), dir, net.nodes())?;
-    *stage = Stage::Checked;
+    *stage = StartStage::Checked;
     Ok(net)
 }
 
@@ -497,13 +498,13 @@ where
 {
     let id = kept.id;
     match kept.keeper.step(seen) {
-        Deed::Rest => {}
-        Deed::Start => try_start(rt, program, kept),
-        Deed::SayAgain(end) => say(rt, kept, &EndLine { id, end }),
-        Deed::SayLeft(end) => say(rt, kept, &LastLine::Left { id, end }),
-        Deed::SayGone(end) => say(rt, kept, &LastLine::Gone { id, end }),
-        Deed::CloseInput => kept.close_input(),
-        Deed::Kill => {
+        KeeperDeed::Rest => {}
+        KeeperDeed::Start => try_start(rt, program, kept),
+        KeeperDeed::SayAgain(end) => say(rt, kept, &EndLine { id, end }),
+        KeeperDeed::SayLeft(end) => say(rt, kept, &LastLine::Left { id, end }),
+        KeeperDeed::SayGone(end) => say(rt, kept, &LastLine::Gone { id, end }),
+        KeeperDeed::CloseInput => kept.close_input(),
+        KeeperDeed::Kill => {
             let end = kept.kill();
             say(rt, kept, &LastLine::Gone { id, end });
         }

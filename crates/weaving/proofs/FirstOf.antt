@@ -5,7 +5,7 @@ use Rattle.std.proofs.lemmas.Grind.{common_steps}
 use Rattle.std.specs.List.{AllByRecursion}
 use Rattle.topology.specs.At.{at}
 use Rattle.run_model.specs.declared.event.Event.{Event}
-use Rattle.weaving.specs.declared.journal.Entry.{Entry}
+use Rattle.weaving.specs.declared.journal.JournalEntry.{JournalEntry}
 use Rattle.weaving.specs.Woven.{AreRising, Placed, IsNoLater, entries_of, IsWoven}
 use Rattle.run_model.proofs.Changed.{at-each, at-here, at-other}
 
@@ -26,22 +26,22 @@ of-all P (p ∷ ps) each =
     let both = subst (AllByRecursion (λ e. P (record { node = p.node; entry = e }))) here (each p.node) in
     (both.0, of-all P ps (λ v. after-first P v p ps (each v)))
 
-grows : (p : Placed) (v : ℕ) (e x : Entry) → IsNoLater p (record { node = v; entry = e }) → e.stamp < x.stamp → IsNoLater p (record { node = v; entry = x })
+grows : (p : Placed) (v : ℕ) (e x : JournalEntry) → IsNoLater p (record { node = v; entry = e }) → e.stamp < x.stamp → IsNoLater p (record { node = v; entry = x })
 grows p v e x (inl l) more = inl (omega arith)
 grows p v e x (inr both) more = let same = both.0 in inl (omega arith)
 
 -- nothing in a rising journal is earlier than its first entry
-from-first : (p : Placed) (v : ℕ) (es : List Entry) → AreRising es → ((e : Entry) (rest : List Entry) → es ≡ e ∷ rest → IsNoLater p (record { node = v; entry = e }))
+from-first : (p : Placed) (v : ℕ) (es : List JournalEntry) → AreRising es → ((e : JournalEntry) (rest : List JournalEntry) → es ≡ e ∷ rest → IsNoLater p (record { node = v; entry = e }))
     → AllByRecursion (λ e. IsNoLater p (record { node = v; entry = e })) es
 from-first p v [] rise first = tt
 from-first p v (e ∷ es) rise first =
     let one = first e es refl in (one, later es rise.0 one) where
-      later : (xs : List Entry) → AllByRecursion (λ x. e.stamp < x.stamp) xs → IsNoLater p (record { node = v; entry = e })
+      later : (xs : List JournalEntry) → AllByRecursion (λ x. e.stamp < x.stamp) xs → IsNoLater p (record { node = v; entry = e })
           → AllByRecursion (λ x. IsNoLater p (record { node = v; entry = x })) xs
       later [] rises one = tt
       later (x ∷ xs) rises one = (grows p v e x one rises.0, later xs rises.1 one)
 
-complete-one : (journal : ℕ → List Entry) (v : ℕ) (e : Entry) (later : List Entry) (ps : List Placed) → journal v ≡ e ∷ later
+complete-one : (journal : ℕ → List JournalEntry) (v : ℕ) (e : JournalEntry) (later : List JournalEntry) (ps : List Placed) → journal v ≡ e ∷ later
     → ((u : ℕ) → entries_of u ps ≡ at journal v later u) → (u : ℕ) → entries_of u (record { node = v; entry = e } ∷ ps) ≡ journal u
 complete-one journal v e later ps is all u = elim (cases_eq u v) [
   | inl same ↦
@@ -54,9 +54,9 @@ complete-one journal v e later ps is all u = elim (cases_eq u v) [
 ]
 
 -- one entry, and then what is woven from the rest
-pub woven-on : (journal : ℕ → List Entry) (v : ℕ) (e : Entry) (later : List Entry) (events : List Event)
+pub woven-on : (journal : ℕ → List JournalEntry) (v : ℕ) (e : JournalEntry) (later : List JournalEntry) (events : List Event)
     → ((u : ℕ) → AreRising (journal u)) → journal v ≡ e ∷ later
-    → ((u : ℕ) (x : Entry) (xs : List Entry) → journal u ≡ x ∷ xs → IsNoLater (record { node = v; entry = e }) (record { node = u; entry = x }))
+    → ((u : ℕ) (x : JournalEntry) (xs : List JournalEntry) → journal u ≡ x ∷ xs → IsNoLater (record { node = v; entry = e }) (record { node = u; entry = x }))
     → IsWoven (at journal v later) events → IsWoven journal (e.event ∷ events)
 woven-on journal v e later events rise is first woven =
     let p : Placed = record { node = v; entry = e } in
@@ -76,11 +76,11 @@ woven-on journal v e later events rise is first woven =
     }
 
 -- nothing is woven from empty journals
-pub woven-none : (journal : ℕ → List Entry) → ((v : ℕ) → journal v ≡ []) → IsWoven journal []
+pub woven-none : (journal : ℕ → List JournalEntry) → ((v : ℕ) → journal v ≡ []) → IsWoven journal []
 woven-none journal none = record { placed = []; are_events = refl; ordered = tt; complete = λ v. sym (none v) }
 
 -- a rising journal still rises without one of its first entries
-pub still-rising : (journal : ℕ → List Entry) (v : ℕ) (e : Entry) (later : List Entry) → ((u : ℕ) → AreRising (journal u)) → journal v ≡ e ∷ later
+pub still-rising : (journal : ℕ → List JournalEntry) (v : ℕ) (e : JournalEntry) (later : List JournalEntry) → ((u : ℕ) → AreRising (journal u)) → journal v ≡ e ∷ later
     → (u : ℕ) → AreRising (at journal v later u)
 still-rising journal v e later rise is =
     let rest-rises : AreRising (e ∷ later) = subst AreRising is (rise v) in

@@ -4,7 +4,7 @@ use Rattle.std.proofs.lemmas.Bool.{cases_eq}
 use Rattle.std.proofs.lemmas.Grind.{common_steps}
 use Rattle.std.specs.List.{AllByRecursion}
 use Rattle.run_model.specs.declared.event.Event.{Event}
-use Rattle.weaving.specs.declared.journal.Entry.{Entry}
+use Rattle.weaving.specs.declared.journal.JournalEntry.{JournalEntry}
 use Rattle.weaving.specs.Woven.{Placed, IsNoLater, AreOrdered, entries_of}
 use Rattle.weaving.specs.Laws.{OneWovenList}
 
@@ -15,12 +15,12 @@ entries-there : (p : Placed) (ps : List Placed) (v : ℕ) → v ≢ p.node → e
 entries-there p ps v apart = grind (arith, common_steps)
 
 -- none of those after it is earlier, nor is a node's first
-first-no-earlier : (q : Placed) (qs : List Placed) (v : ℕ) (e : Entry) (es : List Entry) → AllByRecursion (IsNoLater q) qs → entries_of v qs ≡ e ∷ es
+first-no-earlier : (q : Placed) (qs : List Placed) (v : ℕ) (e : JournalEntry) (es : List JournalEntry) → AllByRecursion (IsNoLater q) qs → entries_of v qs ≡ e ∷ es
     → IsNoLater q (record { node = v; entry = e })
 first-no-earlier q [] v e es all is = absurd cc
 first-no-earlier q (r ∷ qs) v e es all is = elim (cases_eq v r.node) [
   | inl same ↦
-      let first : ◌≡◌ {A = List Entry} (r.entry ∷ entries_of r.node qs) (e ∷ es)
+      let first : ◌≡◌ {A = List JournalEntry} (r.entry ∷ entries_of r.node qs) (e ∷ es)
       = sym (entries-here r qs) ∙ subst (λ k. entries_of k (r ∷ qs) ≡ e ∷ es) same is in
       let one : r.entry ≡ e = cc in
       subst (λ k. IsNoLater q (record { node = k; entry = e })) (sym same)
@@ -52,12 +52,12 @@ one-list : (ps qs : List Placed) → AreOrdered ps → AreOrdered qs → ((v : �
     → map (λ p. p.entry.event) ps ≡ map (λ p. p.entry.event) qs
 one-list [] [] a b same = refl
 one-list [] (q ∷ qs) a b same =
-    let none : ◌≡◌ {A = List Entry} [] (q.entry ∷ entries_of q.node qs) = same q.node ∙ entries-here q qs in absurd cc
+    let none : ◌≡◌ {A = List JournalEntry} [] (q.entry ∷ entries_of q.node qs) = same q.node ∙ entries-here q qs in absurd cc
 one-list (p ∷ ps) [] a b same =
-    let none : ◌≡◌ {A = List Entry} (p.entry ∷ entries_of p.node ps) [] = sym (entries-here p ps) ∙ same p.node in absurd cc
+    let none : ◌≡◌ {A = List JournalEntry} (p.entry ∷ entries_of p.node ps) [] = sym (entries-here p ps) ∙ same p.node in absurd cc
 one-list (p ∷ ps) (q ∷ qs) a b same =
     let node-same : p.node ≡ q.node = heads p ps q qs a b same in
-    let both : ◌≡◌ {A = List Entry} (p.entry ∷ entries_of p.node ps) (q.entry ∷ entries_of q.node qs)
+    let both : ◌≡◌ {A = List JournalEntry} (p.entry ∷ entries_of p.node ps) (q.entry ∷ entries_of q.node qs)
     = sym (entries-here p ps) ∙ (same p.node ∙ (ap (λ k. entries_of k (q ∷ qs)) node-same ∙ entries-here q qs)) in
     let first : p.entry ≡ q.entry = cc in
     let others : entries_of p.node ps ≡ entries_of q.node qs = cc in

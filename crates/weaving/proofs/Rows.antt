@@ -3,17 +3,17 @@ use Rattle.std.proofs.Common.{◌≡◌, ℕ, zero, suc, List, [], ◌∷◌, So
 use Rattle.std.proofs.lemmas.Grind.{common_steps}
 use Rattle.link_model.specs.declared.item.Item.TheVariants.{Noise}
 use Rattle.run_model.specs.declared.event.Event.TheVariants.{Tick, Send, Take}
-use Rattle.weaving.specs.declared.journal.Entry.{Entry}
+use Rattle.weaving.specs.declared.journal.JournalEntry.{JournalEntry}
 use Rattle.weaving.specs.declared.journal.Stamped.{Stamped}
 use Rattle.weaving.specs.Woven.{AreRising, IsWoven, IsNoLater, AreOrdered, Placed, entries_of}
 use Rattle.weaving.specs.Journals.{journal_of, entry_count, unread, with_next, IsFirst}
 use Rattle.weaving.specs.Matched.{IsLinkMatched}
 
 -- node 0 ticks and sends, node 1 ticks at the same time and then takes
-abbrev of_sender : List Entry
+abbrev of_sender : List JournalEntry
 of_sender = record { stamp = 1; event = Tick 0 } ∷ record { stamp = 2; event = Send 0 1 } ∷ []
 
-abbrev of_taker : List Entry
+abbrev of_taker : List JournalEntry
 of_taker = record { stamp = 1; event = Tick 1 } ∷ record { stamp = 3; event = Take 0 1 } ∷ []
 
 abbrev in_order : List Placed
@@ -58,7 +58,7 @@ comes-first = refl
 
 -- nothing comes first if something is left
 not-none_first : IsFirst (of_sender ∷ []) 1 None → ⊥
-not-none_first none = let nothing : ◌≡◌ {A = List Entry} of_sender [] = none 0 (omega arith) in absurd cc
+not-none_first none = let nothing : ◌≡◌ {A = List JournalEntry} of_sender [] = none 0 (omega arith) in absurd cc
 
 -- nor does a later entry
 not-later_first : IsFirst (of_sender ∷ of_taker ∷ []) 2 (Some (1, record { stamp = 1; event = Tick 1 })) → ⊥

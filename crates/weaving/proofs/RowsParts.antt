@@ -6,7 +6,7 @@ use Rattle.link_model.specs.declared.item.Item.TheVariants.{Noise, Frame}
 use Rattle.accounts.specs.Deeds.{Ticks, Sends, Takes}
 use Rattle.run_model.specs.declared.event.Event.TheVariants.{Send, Take, Tick}
 use Rattle.run_model.proofs.RowsTwo.{two_nodes}
-use Rattle.weaving.specs.declared.journal.Entry.{Entry}
+use Rattle.weaving.specs.declared.journal.JournalEntry.{JournalEntry}
 use Rattle.weaving.specs.declared.journal.Stamped.{Stamped}
 use Rattle.weaving.specs.Account.{Note, Ticked, Sent, Took, entry_of, send_first, take_first, IsFrame, AreOverLinks}
 use Rattle.weaving.specs.Journals.{earlier}
@@ -35,7 +35,7 @@ abbrev notes : ℕ → List Note
 notes zero = Ticked 1 ∷ Took 1 noise ∷ []
 notes (suc v) = []
 
-abbrev entries : ℕ → List Entry
+abbrev entries : ℕ → List JournalEntry
 entries zero = record { stamp = 1; event = Tick 0 } ∷ record { stamp = 3; event = Take 1 0 } ∷ []
 entries (suc v) = []
 
@@ -95,7 +95,7 @@ above_not-more : ¬ AreAbove (5 ∷ 3 ∷ []) (4 ∷ [])
 above_not-more are = are.1
 
 -- of two entries with one stamp the first stays; else the smaller stamp is earlier
-abbrev at_time : ℕ → Entry
+abbrev at_time : ℕ → JournalEntry
 at_time t = record { stamp = t; event = Tick 0 }
 
 earlier-first : earlier (Some (0, at_time 4)) 1 (at_time 4) ≡ Some (0, at_time 4)

@@ -10,7 +10,7 @@ use Rattle.topology.specs.Laws.{JoinedAreNodes}
 use Rattle.run_model.specs.World.{World}
 use Rattle.run_model.specs.Step.{step}
 use Rattle.run_model.specs.Run.{run}
-use Rattle.weaving.specs.declared.journal.Entry.{Entry}
+use Rattle.weaving.specs.declared.journal.JournalEntry.{JournalEntry}
 use Rattle.weaving.specs.Woven.{Placed, IsNoLater, AreOrdered, entries_of}
 use Rattle.weaving.specs.Account.{Note, Ticked, Sent, Took, entry_of, sent_to, taken_from, Leads}
 use Rattle.weaving.specs.Matched.{AreMatched, stamps, items}
@@ -51,11 +51,11 @@ late-taken t v u (Took a s ∷ ds) all =
 
 -- ---- the first of what is left
 
-first-deed : (v : ℕ) (e : Entry) (es : List Entry) (ds : List Note) → e ∷ es ≡ map (entry_of v) ds
+first-deed : (v : ℕ) (e : JournalEntry) (es : List JournalEntry) (ds : List Note) → e ∷ es ≡ map (entry_of v) ds
     → (d : Note) × (rest : List Note) × (ds ≡ d ∷ rest) × (e ≡ entry_of v d) × (es ≡ map (entry_of v) rest)
 first-deed v e es [] h = absurd cc
 first-deed v e es (d ∷ rest) h =
-    let h' : ◌≡◌ {A = List Entry} (e ∷ es) (entry_of v d ∷ map (entry_of v) rest) = h in
+    let h' : ◌≡◌ {A = List JournalEntry} (e ∷ es) (entry_of v d ∷ map (entry_of v) rest) = h in
     let first : e ≡ entry_of v d = cc in
     let others : es ≡ map (entry_of v) rest = cc in (d, rest, refl, first, others)
 

@@ -9,7 +9,7 @@ use Rattle.run_model.specs.node_core.State.{LocalState}
 use Rattle.accounts.specs.Deeds.{Deed, Ticks, Sends, Takes}
 use Rattle.accounts.specs.Deeds as deeds
 use Rattle.run_model.specs.declared.event.Event.TheVariants.{Send, Take, Tick}
-use Rattle.weaving.specs.declared.journal.Entry.{Entry}
+use Rattle.weaving.specs.declared.journal.JournalEntry.{JournalEntry}
 use Rattle.weaving.specs.declared.journal.Stamped.{Stamped}
 
 -- what a node notes on its thread: a tick, with its stamp; what it sent to a neighbour; what it
@@ -20,7 +20,7 @@ pub data Note : Type 0 where
   Took : ℕ → Stamped → Note
 
 -- the entry of v's journal for a note
-abbrev pub entry_of : ℕ → Note → Entry
+abbrev pub entry_of : ℕ → Note → JournalEntry
 entry_of v (Ticked t) = record { stamp = t; event = Tick v }
 entry_of v (Sent u s) = record { stamp = s.stamp; event = Send v u }
 entry_of v (Took u s) = record { stamp = s.stamp; event = Take u v }

@@ -5,7 +5,7 @@ use Rattle.run_model.specs.Step.{refusal, step, has_room}
 use Rattle.run_model.specs.Run.{run}
 use Rattle.run_model.specs.declared.event.Event.{Event}
 use Rattle.run_model.specs.declared.event.Event.TheVariants.{Send, Take, Lose, Tick, Ask, Leave, Damage}
-use Rattle.weaving.specs.declared.journal.Entry.{Entry}
+use Rattle.weaving.specs.declared.journal.JournalEntry.{JournalEntry}
 use Rattle.weaving.specs.Woven.{IsWoven}
 use Rattle.weaving.specs.Account.{Note}
 use Rattle.weaving.specs.Matched.{AreMatched, AreOf}
@@ -29,12 +29,12 @@ GoesThrough w (e ∷ es) = (refusal w e ≡ None) × HasEffect w e × GoesThroug
 -- no send meets a full link, and no take an empty one
 abbrev pub WovenIsRun : Type 0
 WovenIsRun =
-    (w last : World) (account : ℕ → List Note) (journal : ℕ → List Entry) (events : List Event)
+    (w last : World) (account : ℕ → List Note) (journal : ℕ → List JournalEntry) (events : List Event)
     → IsWorldInRange w → AreMatched w account last → AreOf account journal → IsWoven journal events
     → (run w events ≡ last) × GoesThrough w events
 
 -- journals have only one woven list
 abbrev pub OneWovenList : Type 0
 OneWovenList =
-    (journal : ℕ → List Entry) (xs ys : List Event) → IsWoven journal xs → IsWoven journal ys
+    (journal : ℕ → List JournalEntry) (xs ys : List Event) → IsWoven journal xs → IsWoven journal ys
     → xs ≡ ys

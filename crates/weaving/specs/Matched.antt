@@ -2,7 +2,7 @@
 use Rattle.std.specs.Prelude.{◌≡◌, ℕ, ◌-◌, ◌<◌, ◌≤◌, List, [], ◌∷◌, ◌++◌, map, drop, length}
 use Rattle.link_model.specs.declared.item.Item.{Item}
 use Rattle.run_model.specs.World.{World}
-use Rattle.weaving.specs.declared.journal.Entry.{Entry}
+use Rattle.weaving.specs.declared.journal.JournalEntry.{JournalEntry}
 use Rattle.weaving.specs.declared.journal.Stamped.{Stamped}
 use Rattle.weaving.specs.Account.{Note, entry_of, sent_to, taken_from, Leads}
 
@@ -41,5 +41,5 @@ pub record AreMatched (w : World) (account : ℕ → List Note) (last : World) :
       (taken_from u (account v)) (last.link u v)
 
 -- the journals report these accounts
-abbrev pub AreOf : (ℕ → List Note) → (ℕ → List Entry) → Type 0
+abbrev pub AreOf : (ℕ → List Note) → (ℕ → List JournalEntry) → Type 0
 AreOf account journal = (v : ℕ) → journal v ≡ map (entry_of v) (account v)

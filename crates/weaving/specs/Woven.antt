@@ -2,17 +2,17 @@
 use Rattle.std.specs.Prelude.{◌≡◌, ◌⊎◌, ℕ, ◌<◌, ◌≤◌, ◌==◌, if◌then◌else◌, List, [], ◌∷◌, map}
 use Rattle.std.specs.List.{AllByRecursion}
 use Rattle.run_model.specs.declared.event.Event.{Event}
-use Rattle.weaving.specs.declared.journal.Entry.{Entry}
+use Rattle.weaving.specs.declared.journal.JournalEntry.{JournalEntry}
 
 -- the stamps of a journal rise strictly
-abbrev pub AreRising : List Entry → Type 0
+abbrev pub AreRising : List JournalEntry → Type 0
 AreRising [] = Unit {0}
 AreRising (e ∷ es) = AllByRecursion (λ later. e.stamp < later.stamp) es × AreRising es
 
 -- an entry, and the node in whose journal it stands
 pub record Placed : Type 0 where
   pub node : ℕ
-  pub entry : Entry
+  pub entry : JournalEntry
 
 -- p comes no later than q: its stamp is smaller, or the stamps are equal and its node is no
 -- greater
@@ -26,13 +26,13 @@ AreOrdered [] = Unit {0}
 AreOrdered (p ∷ ps) = AllByRecursion (IsNoLater p) ps × AreOrdered ps
 
 -- those of one node
-abbrev pub entries_of : ℕ → List Placed → List Entry
+abbrev pub entries_of : ℕ → List Placed → List JournalEntry
 entries_of v [] = []
 entries_of v (p ∷ ps) = if p.node == v then p.entry ∷ entries_of v ps else entries_of v ps
 
 -- A list of events is woven from some journals if each node's entries in it are its journal, in
 -- order, and all stand by stamp, then by node.
-pub record IsWoven (journal : ℕ → List Entry) (events : List Event) : Type 0 where
+pub record IsWoven (journal : ℕ → List JournalEntry) (events : List Event) : Type 0 where
   pub placed : List Placed
   pub are_events : map (λ p. p.entry.event) placed ≡ events
   pub ordered : AreOrdered placed

@@ -7,7 +7,7 @@ use std::alloc::{Allocator, Global};
 /// An event of one node, with the time of that node's clock. If one event waited for another, it
 /// has the greater stamp.
 #[derive(Clone, Copy, Debug, PartialEq, Eq)]
-pub struct Entry {
+pub struct JournalEntry {
     /// The clock's time.
     pub stamp: u64,
     /// What the node did.
@@ -27,5 +27,5 @@ pub struct Stamped {
 #[derive(Drop)]
 pub struct Journal<A: Allocator = Global> {
     /// Its entries, with stamps that rise.
-    pub entries: Vec<Entry, A>,
+    pub entries: Vec<JournalEntry, A>,
 }

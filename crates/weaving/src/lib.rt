@@ -23,5 +23,5 @@ mod journal;
 pub mod laws;
 mod woven;
 
-pub use journal::{Entry, Journal, Stamped};
+pub use journal::{Journal, JournalEntry, Stamped};
 pub use woven::weave;

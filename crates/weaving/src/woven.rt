@@ -5,7 +5,7 @@ ghost use Rattle.weaving.specs.Woven.{AreRising, IsWoven};
 ghost use Rattle.weaving.specs.Journals.{entries_in, journal_of, unread, entry_count, IsFirst};
 ghost use Rattle.weaving.specs.Journals.{earlier, with_next};
 
-use crate::journal::{Entry, Journal};
+use crate::journal::{Journal, JournalEntry};
 use run_model::Event;
 use std::alloc::Allocator;
 
@@ -13,7 +13,11 @@ use std::alloc::Allocator;
 const MOST: usize = 64;
 
 /// The earlier of two entries by stamp; with one stamp, the first.
-fn earlier(first: Option<(usize, Entry)>, node: usize, entry: Entry) -> Option<(usize, Entry)>
+fn earlier(
+    first: Option<(usize, JournalEntry)>,
+    node: usize,
+    entry: JournalEntry,
+) -> Option<(usize, JournalEntry)>
     ensures { result ≡ earlier first node entry }
 {
     match first {
@@ -24,11 +28,11 @@ fn earlier(first: Option<(usize, Entry)>, node: usize, entry: Entry) -> Option<(
 
 /// The earliest entry, once the next entry of one more node, if any, is seen.
 fn with_next<A: Allocator>(
-    first: Option<(usize, Entry)>,
+    first: Option<(usize, JournalEntry)>,
     node: usize,
     journal: &Journal<A>,
     read: usize,
-) -> Option<(usize, Entry)>
+) -> Option<(usize, JournalEntry)>
     ensures { result ≡ with_next first node (drop read journal.now.entries.items) }
 {
     match journal.entries.get(read) {
@@ -41,7 +45,7 @@ fn with_next<A: Allocator>(
 fn first_unread<A: Allocator>(
     journals: &[Journal<A>],
     read: &[usize; MOST],
-) -> Option<(usize, Entry)>
+) -> Option<(usize, JournalEntry)>
     requires { length journals.now ≤ 64 }
     ensures { IsFirst (unread (entries_in journals.now) read.now) (length journals.now) result }
 {

@@ -11,16 +11,16 @@ const TURNS_A_LOOK: u32 = 64;
 
 /// A gate at which nodes wait for one another. It may also show how many turns node 0 has done.
 #[derive(Drop)]
-pub struct Watch<'a, R> {
+pub struct ProgressGate<'a, R> {
     rt: &'a R,
     together: Together<'a, R>,
     /// None if nothing is reported.
     progress: Option<Progress>,
 }
 
-impl<'a, R: Eprint + Clock> Watch<'a, R> {
+impl<'a, R: Eprint + Clock> ProgressGate<'a, R> {
     /// The watch of a run that starts now: each of `nodes` nodes does `turns` turns.
-    pub fn start(rt: &'a R, nodes: u16, turns: u32, says: bool) -> Watch<'a, R>
+    pub fn start(rt: &'a R, nodes: u16, turns: u32, says: bool) -> ProgressGate<'a, R>
         ensures { says ≡ false → result.progress ≡ None }
     {
         let progress = if says {
@@ -28,7 +28,7 @@ impl<'a, R: Eprint + Clock> Watch<'a, R> {
         } else {
             None
         };
-        Watch {
+        ProgressGate {
             rt,
             together: Together::new(rt, nodes),
             progress,
@@ -44,7 +44,7 @@ impl<'a, R: Eprint + Clock> Watch<'a, R> {
 }
 
 /// Only node 0 reports, so that no two threads write.
-impl<R: Eprint + Clock + Sync> Gate for Watch<'_, R> {
+impl<R: Eprint + Clock + Sync> Gate for ProgressGate<'_, R> {
     fn before(&self, node: u16, turn: u32) {
         self.together.before(node, turn);
         if node == 0 && turn % TURNS_A_LOOK == 0 {

@@ -5,7 +5,7 @@ ghost use Rattle.pace.specs.Nodes.{may_tick};
 use crate::run::NodeRun;
 use crate::sight;
 use node_connections::Doors;
-use pace::{Pace, Plan};
+use pace::{Plan, TurnPace};
 use state_writing::Store;
 use std::alloc::Allocator;
 
@@ -65,7 +65,7 @@ impl<D: Doors, S: Store + Drop, A: Allocator + Copy> NodeRun<D, S, A> {
     }
 
     /// Its pace remembers this from now on, as after damage. Nothing else changes.
-    pub fn set_pace(&mut self, pace: Pace)
+    pub fn set_pace(&mut self, pace: TurnPace)
         ensures pace { self.new.pace ≡ pace }
         ensures rest { (self.new.node ≡ self.old.node) × (self.new.net ≡ self.old.net)
             × (self.new.ports ≡ self.old.ports) × (self.new.clients ≡ self.old.clients)

@@ -15,7 +15,7 @@ use node_connections::port::NodePort;
 use node_connections::{Doors, Pipe};
 use node_core::Ticked;
 use node_service::{Notes, service};
-use pace::Pace;
+use pace::TurnPace;
 use state_writing::Store;
 use std::alloc::Allocator;
 use topology::Frame;
@@ -121,7 +121,7 @@ impl<D: Doors, S: Store + Drop, A: Allocator + Copy> NodeRun<D, S, A> {
 /// frame that is accepted. Returns whether it was.
 fn speak_at<P: Pipe, A: Allocator + Copy>(
     ports: &mut Vec<NodePort<P>, A>,
-    pace: &mut Pace,
+    pace: &mut TurnPace,
     id: u16,
     frame: &Frame,
     offered: bool,

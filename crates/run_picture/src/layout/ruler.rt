@@ -29,7 +29,7 @@ const SWEEPS: Px = Px(164);
 
 /// A mark over a column.
 #[derive(Clone, Copy)]
-enum Mark {
+enum RulerMark {
     /// Damage was accepted in it.
     Damage,
     /// A sweep ends in it.
@@ -109,7 +109,7 @@ fn draw_damage(canvas: &mut Canvas, page: Page, columns: &[Column]) -> Result<()
     ensures { OnOk result (drawn canvas.new
         ≡ drawn canvas.old ++ damage_shown page columns.now ∷ []) }
 {
-    let steps = mark_steps(canvas.alloc(), page, columns, Mark::Damage)?;
+    let steps = mark_steps(canvas.alloc(), page, columns, RulerMark::Damage)?;
     canvas.form(steps.as_str(), Colour::Red)
 }
 
@@ -118,7 +118,7 @@ fn draw_sweeps(canvas: &mut Canvas, page: Page, columns: &[Column]) -> Result<()
     ensures { OnOk result (drawn canvas.new
         ≡ drawn canvas.old ++ ticks_shown page columns.now ∷ []) }
 {
-    let steps = mark_steps(canvas.alloc(), page, columns, Mark::Sweep)?;
+    let steps = mark_steps(canvas.alloc(), page, columns, RulerMark::Sweep)?;
     canvas.path(steps.as_str(), Stroke::whole(Colour::Ink, 1))
 }
 
@@ -127,7 +127,7 @@ fn mark_steps(
     alloc: Global,
     page: Page,
     columns: &[Column],
-    mark: Mark,
+    mark: RulerMark,
 ) -> Result<String, AllocError>
     ensures { IfOk result (λ steps. string_bytes steps
         ≡ over_each (mark_over mark page) 0 columns.now) }
@@ -145,15 +145,15 @@ fn push_mark(
     page: Page,
     place: usize,
     column: &Column,
-    mark: Mark,
+    mark: RulerMark,
 ) -> Result<(), AllocError>
     ensures { OnOk result (string_bytes steps.new
         ≡ string_bytes steps.old ++ mark_over mark page place column.now) }
 {
     let x = page.middle(place).0;
     match mark {
-        Mark::Damage if column.damaged => write!(steps, "M{x} {}{BOLT}", DAMAGE.0),
-        Mark::Sweep if column.sweeps != 0 => write!(steps, "M{x} {}v10", SWEEPS.0),
+        RulerMark::Damage if column.damaged => write!(steps, "M{x} {}{BOLT}", DAMAGE.0),
+        RulerMark::Sweep if column.sweeps != 0 => write!(steps, "M{x} {}v10", SWEEPS.0),
         _ => Ok(()),
     }
 }

@@ -1,7 +1,7 @@
 //! Runs that no command makes: some are written by hand, and so are their texts; others begin in a
 //! world that is not scrambled. Two nodes have the sharper bound 35 and the bound 69.
 use super::nets::two_nodes;
-use experiments::{Recovery, Settling, Watch};
+use experiments::{Recovery, ServiceWatch, Settling};
 use schedules::{Slow, give_slow_round};
 use std::alloc::Global;
 use std::test::Fail;
@@ -147,7 +147,7 @@ const SLOW: [SlowRow; 15] = [
 ];
 
 /// Plays this many rounds with a slow link or node under a watch.
-fn play(net: &Net, watch: &mut Watch, slow: Slow, share: u16, rounds: u64) {
+fn play(net: &Net, watch: &mut ServiceWatch, slow: Slow, share: u16, rounds: u64) {
     for round in 0..rounds {
         let _given = give_slow_round(net, slow, share, round, watch);
     }
@@ -157,7 +157,7 @@ fn play(net: &Net, watch: &mut Watch, slow: Slow, share: u16, rounds: u64) {
 /// after how many sweeps they served.
 fn watched(alloc: Global, slow: Slow, share: u16, rounds: u64) -> Result<(u64, u64), Fail> {
     let net = two_nodes(alloc)?;
-    let mut watch = Watch::new(World::new(alloc, &net)?);
+    let mut watch = ServiceWatch::new(World::new(alloc, &net)?);
     play(&net, &mut watch, slow, share, rounds);
     Ok((watch.sweeps(), watch.served_after()))
 }

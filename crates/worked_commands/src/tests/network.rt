@@ -1,5 +1,5 @@
 //! Network files by kind, for every number of nodes.
-use network_commands::network::{Wanted, named_text};
+use network_commands::network::{WantedNetwork, named_text};
 use network_kinds::{Kind, least_nodes, most_nodes};
 use std::alloc::Global;
 use std::test::Fail;
@@ -8,7 +8,7 @@ use topology::Net;
 
 /// Whether there is a readable file of a network of this kind, with root 0, capacity 1 and no lease.
 fn is_read(alloc: Global, kind: Kind, nodes: u16) -> bool {
-    let wanted = Wanted {
+    let wanted = WantedNetwork {
         kind,
         nodes,
         root: 0,

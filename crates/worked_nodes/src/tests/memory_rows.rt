@@ -9,7 +9,7 @@ use linked_list_allocator::LocalHeap;
 use node_core::Node;
 use node_loop::{NodeRun, Notes};
 use node_state_file::MemoryStore;
-use pace::{Manner, Pace};
+use pace::{Manner, TurnPace};
 use std::alloc::Global;
 use std::test::Fail;
 use test_parts::{as_expected, fill};
@@ -202,7 +202,7 @@ fn rewired(
     stage: &Stage,
 ) -> Result<(Option<usize>, bool), Fail> {
     let _full = fill(alloc, heap)?;
-    run.set_pace(Pace::new(Manner { hold: 0, repeat: 0 }));
+    run.set_pace(TurnPace::new(Manner { hold: 0, repeat: 0 }));
     for (place, handed) in HANDED.iter().enumerate() {
         if !is_rewired(alloc, heap, run, stage, *handed)? {
             return Ok((Some(place), false));

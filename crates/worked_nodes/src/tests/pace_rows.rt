@@ -4,7 +4,7 @@ use super::nodes::{Run, WITH_TOKEN, on_stage, row, runs_of, with_made};
 use super::stage::Stage;
 use super::wires::{Pair, ROOM};
 use node_loop::Notes;
-use pace::{Calling, Manner, NodePace, PORTS, Pace, PortPace};
+use pace::{Calling, Manner, NodePace, PORTS, PortPace, TurnPace};
 use std::alloc::Global;
 use std::test::Fail;
 use test_parts::as_expected;
@@ -62,7 +62,7 @@ fn port(draws: &mut Draws) -> PortPace {
 }
 
 /// A pace with anything in its fields.
-fn pace(draws: &mut Draws) -> Pace {
+fn pace(draws: &mut Draws) -> TurnPace {
     let mut ports = [port(draws); PORTS];
     for place in &mut ports {
         *place = port(draws);
@@ -73,7 +73,7 @@ fn pace(draws: &mut Draws) -> Pace {
         called_at: number(draws),
         ticked_at: number(draws),
     };
-    Pace::remembering(Manner::usual(), node, ports)
+    TurnPace::remembering(Manner::usual(), node, ports)
 }
 
 /// One turn of a node at its own pace, which may be damaged before.
@@ -120,7 +120,7 @@ fn first_starved(runs: &mut [Run<'_>], stage: &Stage) -> Option<u64> {
     let second = stage.clients.get(1)?.greet(b"lock\n")?;
     let mut draws = Draws::new(7);
     for run in runs.iter_mut() {
-        run.set_pace(Pace::new(Manner::usual()));
+        run.set_pace(TurnPace::new(Manner::usual()));
     }
     for stretch in 0..8 {
         if !are_granted(runs, &mut draws, (first, second), stretch * TURNS * 100) {

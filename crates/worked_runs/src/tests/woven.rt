@@ -8,17 +8,17 @@ use run_model::Event;
 use std::alloc::{AllocError, Allocator, Global};
 use std::test::Fail;
 use test_parts::{as_expected, fill, on_heap};
-use weaving::{Entry, Journal, weave};
+use weaving::{Journal, JournalEntry, weave};
 
 const SEND: Event = Event::Send { from: 0, to: 1 };
 
 const TAKE: Event = Event::Take { from: 0, to: 1 };
 
 /// An entry.
-fn entry(stamp: u64, event: Event) -> Entry
+fn entry(stamp: u64, event: Event) -> JournalEntry
     ensures { result.stamp ≡ stamp }
 {
-    Entry { stamp, event }
+    JournalEntry { stamp, event }
 }
 
 /// The journals of two nodes side by side: node 0 ticks, sends and ticks, and node 1 ticks, takes

@@ -1,5 +1,5 @@
 use Rattle.lock_client.proofs.Counting.{starts, gives_back}
-use Rattle.lock_client.specs.declared.client.Stage.TheVariants.{Asking}
+use Rattle.lock_client.specs.declared.client.ClientStage.TheVariants.{Asking}
 use Rattle.lock_client.proofs.laws.one_lock_is_taken.Goals as goal
 
 pub returns-clause-starts : goal.returns-clause-starts

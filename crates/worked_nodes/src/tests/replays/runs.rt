@@ -6,7 +6,7 @@ use crate::tests::replays::replay::{Counts, NO_NODE, Replay, Wrong};
 use crate::tests::stage::{Mistake, Stage};
 use crate::tests::wires::{Pair, ROOM};
 use node_loop::Notes;
-use pace::{Manner, Pace};
+use pace::{Manner, TurnPace};
 use std::alloc::Global;
 use std::test::Fail;
 use topology::Net;
@@ -65,7 +65,7 @@ fn runs_of<'a>(
         let store = replay.store_of(alloc, id)?;
         let mut run = started(alloc, stage, net.copy(alloc)?, id, store, &mut None)?;
         if seed % 2 == 0 {
-            run.set_pace(Pace::new(Manner::usual()));
+            run.set_pace(TurnPace::new(Manner::usual()));
         }
         runs.push(run)?;
     }
