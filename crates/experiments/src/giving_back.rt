@@ -17,6 +17,9 @@ use schedules::{Chances, EventSink, give_round, laws as schedules_laws, next_ste
 use std::alloc::Allocator;
 use topology::Net;
 
+/// The nodes that a network has at most.
+const MOST_NODES: usize = 64;
+
 /// The nodes and links of a run, and how long each loan lasts.
 #[derive(Drop)]
 pub(crate) struct Lending<A: Allocator + Copy> {
@@ -24,7 +27,7 @@ pub(crate) struct Lending<A: Allocator + Copy> {
     /// How many ticks a loan lasts after its first one.
     more: u16,
     /// How many of these the loan at each node has left, by the node's id.
-    left: [u16; 64],
+    left: [u16; MOST_NODES],
 }
 
 impl<A: Allocator + Copy> Lending<A> {
@@ -38,7 +41,7 @@ impl<A: Allocator + Copy> Lending<A> {
         Lending {
             configuration,
             more,
-            left: [more; 64],
+            left: [more; MOST_NODES],
         }
     }
 

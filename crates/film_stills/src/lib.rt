@@ -24,4 +24,4 @@ mod still;
 
 pub use look::{Look, Place};
 pub use reel::Reel;
-pub use still::{MOST_EDGES, MOST_FRAMED, MOST_WAYS, NO_EDGE, Still};
+pub use still::{MOST_EDGES, MOST_FRAMED, MOST_NODES, MOST_WAYS, NO_EDGE, Still};

@@ -7,6 +7,9 @@ ghost use Rattle.run_model.specs.topology.Network.{are_joined};
 use crate::look::{Look, Place};
 use run_model::Event;
 
+/// The nodes that a network has at most.
+pub const MOST_NODES: usize = 64;
+
 /// The edges that a network has at most.
 pub const MOST_EDGES: usize = 256;
 
@@ -23,9 +26,9 @@ pub const NO_EDGE: (u16, u16) = (0, 0);
 #[derive(Clone, Copy)]
 pub struct Still {
     /// What is seen of each node, by its id; [`Look::NOTHING`] if there is no such node.
-    pub looks: [Look; 64],
+    pub looks: [Look; MOST_NODES],
     /// The true place of each node, by its id.
-    pub places: [Place; 64],
+    pub places: [Place; MOST_NODES],
     /// The edges, and [`NO_EDGE`] at the places that have none.
     pub edges: [(u16, u16); MOST_EDGES],
     /// How many frames are under way from a node to another: from u to v those at the place 12 u + v. In a

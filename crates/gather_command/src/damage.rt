@@ -17,6 +17,9 @@ pub struct Difference {
     pub field: Field,
 }
 
+/// As many differences are kept, so that long records take no more memory.
+const MOST_SHOWN: usize = 64;
+
 /// The first differences that were found, and how many there are.
 #[derive(Drop)]
 pub struct Damage {
@@ -43,7 +46,7 @@ impl Damage {
         ensures { IfOk result (λ damage. damage ≡ no_damage) }
     {
         Ok(Damage {
-            shown: Vec::with_capacity(alloc, 64)?,
+            shown: Vec::with_capacity(alloc, MOST_SHOWN)?,
             count: 0,
         })
     }
@@ -75,7 +78,7 @@ impl Damage {
         ensures { self.new ≡ with_difference self.old difference }
     {
         self.count = self.count.saturating_add(1);
-        if self.shown.len() < 64 {
+        if self.shown.len() < MOST_SHOWN {
             self.shown.push_reserved(difference);
         }
     }

@@ -165,11 +165,14 @@ fn look<R: Eprint, P: OpenProcess>(rt: &R, child: &mut Child<P>) -> Option<Comma
     }
 }
 
+/// As many bytes of standard input are read at a time.
+const PIECE: usize = 4096;
+
 /// Reads standard input once: whether it has ended, or cannot be read.
 fn read_input<R: Input>(rt: &R) -> Option<CommandEnd>
     ensures { (result ≡ None) ⊎ (result ≡ Some (Exited 0)) }
 {
-    let mut piece = [0u8; 4096];
+    let mut piece = [0u8; PIECE];
     match rt.reader().read(&mut piece) {
         Ok(0) => Some(CommandEnd::Exited(0)),
         Ok(_) => None,

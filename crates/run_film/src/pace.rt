@@ -5,7 +5,7 @@ ghost use Rattle.std.specs.List.{list_any};
 ghost use Rattle.topology.specs.Network.{are_joined};
 ghost use Rattle.run_film.specs.Tracks.{milliseconds};
 
-use run_recording::{Look, MOST_EDGES, MOST_FRAMED, MOST_WAYS, NO_EDGE, Place, Still};
+use run_recording::{Look, MOST_EDGES, MOST_FRAMED, MOST_NODES, MOST_WAYS, NO_EDGE, Place, Still};
 use topology::Net;
 
 /// For how many beats the first still is held, besides its own.
@@ -94,8 +94,8 @@ pub struct Shown<'a> {
 
 /// What is seen if there is no moment.
 pub const EMPTY: Still = Still {
-    looks: [Look::NOTHING; 64],
-    places: [Place::NOWHERE; 64],
+    looks: [Look::NOTHING; MOST_NODES],
+    places: [Place::NOWHERE; MOST_NODES],
     edges: [NO_EDGE; MOST_EDGES],
     under_way: [0; MOST_WAYS],
     events: 0,

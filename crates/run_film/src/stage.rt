@@ -3,6 +3,7 @@ ghost use Rattle.std.specs.Prelude.{◌≡◌, ◌<◌, ◌≤◌, ◌+◌, ◌*
 ghost use Rattle.topology.specs.Tree.{distance_of};
 ghost use Rattle.run_film.specs.Places.{is_narrow, is_wide, place_in, root_place, IsStage};
 
+use run_recording::MOST_NODES;
 use svg_drawing::{Point, Px};
 use topology::Net;
 
@@ -24,7 +25,7 @@ const NARROW: u32 = 64;
 #[derive(Clone, Copy)]
 pub struct Stage {
     /// The place of each node, by its id.
-    places: [Point; 64],
+    places: [Point; MOST_NODES],
     /// The width of the drawing.
     pub width: Px,
     /// Where the graph ends.
@@ -34,8 +35,8 @@ pub struct Stage {
 }
 
 /// How many nodes of the order have each distance.
-fn row_lengths(net: &Net, order: &[u16]) -> [usize; 64] {
-    let mut lengths = [0; 64];
+fn row_lengths(net: &Net, order: &[u16]) -> [usize; MOST_NODES] {
+    let mut lengths = [0; MOST_NODES];
     for v in order {
         let row = row_of(net, *v);
         lengths[row] = usize::saturating_add(lengths[row], 1);
@@ -55,7 +56,7 @@ fn row_of(net: &Net, v: u16) -> usize
 }
 
 /// The longest of the rows.
-fn longest(lengths: &[usize; 64]) -> usize {
+fn longest(lengths: &[usize; MOST_NODES]) -> usize {
     let mut most = 1;
     for length in lengths.as_slice() {
         most = most.max(*length);
@@ -84,13 +85,13 @@ fn foot_of(stride: Px) -> Px {
 }
 
 /// The places of the nodes, all at the left, each at the height of its row.
-fn rows_of(net: &Net, rise: Px) -> [Point; 64]
+fn rows_of(net: &Net, rise: Px) -> [Point; MOST_NODES]
     requires { rise.0 ≤ 96 }
     ensures heights { (v : ℕ) → v < net.now.nodes → (slice_index_or result v root_place).y.0
         ≡ 136 + rise.0 * distance_of net.now v }
     ensures few { (v : ℕ) → v < net.now.nodes → (slice_index_or result v root_place).y.0 < 10000000 }
 {
-    let mut places = [Point { x: Px(0), y: ROOT }; 64];
+    let mut places = [Point { x: Px(0), y: ROOT }; MOST_NODES];
     for v in 0..net.nodes() {
         places[usize::from(v)].y = ROOT + rise * usize::from(net.distance(v));
     }
@@ -133,10 +134,10 @@ impl Stage {
     }
 
     /// Gives each node its place within its row.
-    fn stand(&mut self, net: &Net, order: &[u16], lengths: &[usize; 64])
+    fn stand(&mut self, net: &Net, order: &[u16], lengths: &[usize; MOST_NODES])
         ensures { (v : ℕ) → (place_in self.new v).y ≡ (place_in self.old v).y }
     {
-        let mut taken = [0; 64];
+        let mut taken = [0; MOST_NODES];
         for v in order {
             let row = row_of(net, *v);
             let left = self.width.half() - (self.stride * lengths[row]).half();

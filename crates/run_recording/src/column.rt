@@ -5,15 +5,13 @@ ghost use Rattle.run_recording.specs.Columns.{column_of, worse_column, is_even, 
 
 use crate::change::Change;
 use crate::mark::Mark;
-
-/// The most nodes of a network.
-pub const MOST_NODES: usize = 64;
+use film_stills::MOST_NODES;
 
 /// What is seen of a network at a moment, or the worst of several moments.
 #[derive(Clone, Copy)]
 pub struct Column {
     /// The mark of each node, by its id; [`Mark::Settled`] if there is no such node.
-    pub marks: [Mark; 64],
+    pub marks: [Mark; MOST_NODES],
     /// How many nodes are privileged: the most at any of the moments.
     pub privileged: usize,
     /// How many nodes lend: the most at any of the moments.
@@ -63,7 +61,7 @@ impl Column {
     }
 
     /// The column of one moment.
-    pub fn of(marks: &[Mark; 64], counts: &Counts) -> Column
+    pub fn of(marks: &[Mark; MOST_NODES], counts: &Counts) -> Column
         ensures { result ≡ column_of marks.now counts.now }
     {
         Column {
@@ -79,7 +77,7 @@ impl Column {
 
     /// Makes this the worst of its moments and one more. Looks only at the marks that the change
     /// names, since the column is at least as bad as the moment before.
-    fn worsen(&mut self, marks: &[Mark; 64], change: Change, counts: &Counts)
+    fn worsen(&mut self, marks: &[Mark; MOST_NODES], change: Change, counts: &Counts)
         requires { ArisesFrom self.old.marks change marks.now }
         ensures { self.new ≡ worse_column self.old (column_of marks.now counts.now) }
     {
@@ -94,7 +92,7 @@ impl Column {
 }
 
 /// Makes each mark the worse of itself and the later one.
-fn worsen_marks(worst: &mut [Mark; 64], marks: &[Mark; 64], change: Change)
+fn worsen_marks(worst: &mut [Mark; MOST_NODES], marks: &[Mark; MOST_NODES], change: Change)
     requires { ArisesFrom worst.old change marks.now }
     ensures { worst.new ≡ worse_marks worst.old marks.now }
 {
@@ -106,7 +104,7 @@ fn worsen_marks(worst: &mut [Mark; 64], marks: &[Mark; 64], change: Change)
 }
 
 /// For each node the worse of its two marks.
-fn worse_marks(marks: &[Mark; 64], later: &[Mark; 64]) -> [Mark; 64]
+fn worse_marks(marks: &[Mark; MOST_NODES], later: &[Mark; MOST_NODES]) -> [Mark; MOST_NODES]
     ensures { result ≡ worse_marks marks.now later.now }
 {
     let mut worst = *marks;
@@ -124,7 +122,12 @@ pub fn is_even(columns: &[Column]) -> bool
 }
 
 /// The last column, if there is one, shows one moment more.
-pub fn worsen_last(columns: &mut [Column], marks: &[Mark; 64], change: Change, counts: &Counts)
+pub fn worsen_last(
+    columns: &mut [Column],
+    marks: &[Mark; MOST_NODES],
+    change: Change,
+    counts: &Counts,
+)
     requires { Follows columns.old change marks.now }
     ensures { columns.new ≡ with_last columns.old (column_of marks.now counts.now) }
 {

@@ -31,7 +31,9 @@ mod window;
 
 pub use change::Change;
 pub use column::{Column, Counts};
-pub use film_stills::{Look, MOST_EDGES, MOST_FRAMED, MOST_WAYS, NO_EDGE, Place, Reel, Still};
+pub use film_stills::{
+    Look, MOST_EDGES, MOST_FRAMED, MOST_NODES, MOST_WAYS, NO_EDGE, Place, Reel, Still,
+};
 pub use lanes::Lanes;
 pub use layers::Layers;
 pub use mark::Mark;

@@ -28,7 +28,7 @@ use crate::strip::Strip;
 use crate::under_way::under_way_of;
 use crate::window::Window;
 use byte_streams::Source;
-use film_stills::{MOST_WAYS, Reel, Still};
+use film_stills::{MOST_NODES, MOST_WAYS, Reel, Still};
 use layers::Layers;
 use std::alloc::{Allocator, Global};
 use std::marker::Model;
@@ -630,7 +630,7 @@ fn keep<A: Allocator + Copy>(
     strip: &mut Strip<A>,
     window: Window,
     ended: u64,
-    marks: &[Mark; 64],
+    marks: &[Mark; MOST_NODES],
     change: Change,
     counts: &Counts,
 )

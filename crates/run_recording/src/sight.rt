@@ -12,7 +12,7 @@ ghost use Rattle.run_recording.specs.SightSteps.{DiffersAt, recounted, with_look
 
 use crate::change::Change;
 use crate::mark::Mark;
-use film_stills::{Look, MOST_EDGES, NO_EDGE, Place};
+use film_stills::{Look, MOST_EDGES, MOST_NODES, NO_EDGE, Place};
 use std::alloc::Allocator;
 use topology::Net;
 use world::{Configuration, Event, Harm};
@@ -24,13 +24,13 @@ use world::{Configuration, Event, Harm};
 #[derive(Clone, Copy)]
 pub struct NodesSight {
     /// The true places.
-    pub places: [Place; 64],
+    pub places: [Place; MOST_NODES],
     /// The edges, with [`NO_EDGE`] at places without one.
     pub edges: [(u16, u16); MOST_EDGES],
     /// What is seen of each node.
-    pub looks: [Look; 64],
+    pub looks: [Look; MOST_NODES],
     /// The marks of these looks.
-    pub marks: [Mark; 64],
+    pub marks: [Mark; MOST_NODES],
     /// How many nodes are privileged.
     pub privileged: usize,
     /// How many nodes lend.
@@ -100,10 +100,10 @@ fn place_at<A: Allocator + Copy>(net: &Net<A>, v: u16) -> Place
 }
 
 /// The true places of all ids.
-fn places_of<A: Allocator + Copy>(net: &Net<A>) -> [Place; 64]
+fn places_of<A: Allocator + Copy>(net: &Net<A>) -> [Place; MOST_NODES]
     ensures { result ≡ places_of net.now }
 {
-    let mut places = [Place::NOWHERE; 64];
+    let mut places = [Place::NOWHERE; MOST_NODES];
     for v in 0..64 {
         places[usize::from(v)] = place_at(net, v);
     }
@@ -131,7 +131,7 @@ fn edges_of<A: Allocator + Copy>(net: &Net<A>) -> [(u16, u16); MOST_EDGES]
 /// What is seen at an id.
 fn look_at<A: Allocator + Copy>(
     configuration: &Configuration<A>,
-    places: &[Place; 64],
+    places: &[Place; MOST_NODES],
     v: u16,
 ) -> Look
     requires { v < 64 }
@@ -148,12 +148,12 @@ fn look_at<A: Allocator + Copy>(
 /// What is seen of all ids.
 fn looks_of<A: Allocator + Copy>(
     configuration: &Configuration<A>,
-    places: &[Place; 64],
-) -> [Look; 64]
+    places: &[Place; MOST_NODES],
+) -> [Look; MOST_NODES]
     ensures { places.now ≡ places_of (world_of configuration.now).net
         → result ≡ looks_of (world_of configuration.now) }
 {
-    let mut looks = [Look::NOTHING; 64];
+    let mut looks = [Look::NOTHING; MOST_NODES];
     for v in 0..64 {
         looks[usize::from(v)] = look_at(configuration, places, v);
     }
@@ -161,10 +161,10 @@ fn looks_of<A: Allocator + Copy>(
 }
 
 /// The marks of looks.
-fn marks_of(looks: &[Look; 64]) -> [Mark; 64]
+fn marks_of(looks: &[Look; MOST_NODES]) -> [Mark; MOST_NODES]
     ensures { result ≡ map mark_of_look looks.now }
 {
-    let mut marks = [Mark::Settled; 64];
+    let mut marks = [Mark::Settled; MOST_NODES];
     for v in 0..64 {
         marks[v] = mark_of(looks[v]);
     }

@@ -10,6 +10,7 @@ ghost use Rattle.run_recording.specs.Strips.{Shows};
 use crate::change::Change;
 use crate::column::{Column, Counts, is_even, worsen_last};
 use crate::mark::Mark;
+use film_stills::MOST_NODES;
 use std::alloc::{AllocError, Allocator, Global};
 use std::marker::Model;
 use std::mem;
@@ -88,7 +89,7 @@ impl<A: Allocator + Copy> Strip<A> {
     /// Adds one more moment, at most 2^62 in all. The change is that since the moment before, or
     /// [`Change::All`] if this one was not added.
     #[inline(always)]
-    pub fn push(&mut self, marks: &[Mark; 64], change: Change, counts: &Counts)
+    pub fn push(&mut self, marks: &[Mark; MOST_NODES], change: Change, counts: &Counts)
         requires few { self.old.moments < 2 ^ 62 }
         requires follows { Follows self.old.columns change marks.now }
         ensures shows { (moments : List Column)
@@ -105,7 +106,7 @@ impl<A: Allocator + Copy> Strip<A> {
 
     /// Adds one more moment, if there is room for it.
     #[inline(always)]
-    fn add(&mut self, marks: &[Mark; 64], change: Change, counts: &Counts)
+    fn add(&mut self, marks: &[Mark; MOST_NODES], change: Change, counts: &Counts)
         requires few { self.old.moments < 2 ^ 62 }
         requires follows { Follows self.old.columns change marks.now }
         requires room { self.old.last ≡ self.old.width

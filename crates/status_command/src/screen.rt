@@ -179,11 +179,14 @@ fn typed_end<R: Clock + Input>(rt: &R, rest: Duration) -> WatchEnd {
     WatchEnd::NotYet
 }
 
+/// As many keys are read at a time.
+const KEYS: usize = 64;
+
 /// Whether a key that ends a watch was typed, or the terminal is gone.
 fn has_end_key<R: Input>(rt: &R) -> bool {
-    let mut keys = [0u8; 64];
+    let mut keys = [0u8; KEYS];
     match rt.reader().read(&mut keys) {
-        Ok(count) => keys[..count.min(64)].iter().any(|key| is_end_key(*key)),
+        Ok(count) => keys[..count.min(KEYS)].iter().any(|key| is_end_key(*key)),
         Err(error) => error.kind() != io::ErrorKind::Interrupted,
     }
 }

@@ -35,9 +35,12 @@ pub fn watch_input(registry: &Registry, token: Token, is_first: bool) -> io::Res
     }
 }
 
+/// As many bytes of standard input are read at a time.
+const PIECE: usize = 512;
+
 /// Reads what standard input has now, which a poll has reported, and says what it has.
 pub fn read_input<R: Input>(rt: &R) -> InputSight {
-    let mut buffer = [0; 512];
+    let mut buffer = [0; PIECE];
     input_sight(&rt.reader().read(&mut buffer))
 }
 

@@ -15,7 +15,7 @@ use crate::run::NodeRun;
 use node_connections::port::{NodePort, link_at};
 use node_connections::{Doors, Pipe};
 use node_core::Node;
-use state_writing::{Store, StoreFault, encode};
+use state_writing::{MOST_BYTES, Store, StoreFault, encode};
 use std::alloc::Allocator;
 use topology::Net;
 use turn_watch::LinkSight;
@@ -38,7 +38,7 @@ impl<D: Doors, S: Store + Drop, A: Allocator + Copy> NodeRun<D, S, A> {
         if self.turns != 0 {
             return None;
         }
-        let mut bytes = [0; 1276];
+        let mut bytes = [0; MOST_BYTES];
         let count = encode(&self.node, &self.net, &mut bytes);
         Some(self.store.save(&bytes[..count]))
     }
