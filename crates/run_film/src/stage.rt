@@ -150,7 +150,7 @@ impl Stage {
     fn shift(&mut self, v: u16, x: Px)
         ensures { (u : ℕ) → (place_in self.new u).y ≡ (place_in self.old u).y }
     {
-        if v < 64 {
+        if usize::from(v) < MOST_NODES {
             self.places[usize::from(v)].x = x;
         }
     }
@@ -159,7 +159,7 @@ impl Stage {
     pub fn at(&self, v: u16) -> Point
         ensures { result ≡ place_in self.now v }
     {
-        if v < 64 {
+        if usize::from(v) < MOST_NODES {
             self.places[usize::from(v)]
         } else {
             Point { x: Px(0), y: ROOT }
