@@ -1,6 +1,15 @@
 -- Small examples of nodes in their place, and of some that are not.
-use Rattle.std.proofs.Common.{◌≡◌, true, false, Some, None, [], ◌∷◌, refl}
+use Rattle.std.proofs.Common.{◌≡◌, ◌≢◌, ℕ, Option, true, false, Some, None, [], ◌∷◌, refl, arith}
+use Rattle.node_core.specs.lock_desk.declared.act.DeskAct.TheVariants as act
+use Rattle.node_core.specs.State.{LocalState}
+use Rattle.node_core.specs.registers.link_port.Port.{PortState}
+use Rattle.process_parts.specs.node_log.Rate.{new_rate}
+use Rattle.process_parts.specs.node_log.declared.event.NodeEvent.TheVariants as event
+use Rattle.process_parts.specs.node_log.declared.event.Level.TheVariants.{Notice, Info}
+use Rattle.process_parts.specs.node_log.declared.log.NodeLog.{NodeLog}
+use Rattle.process_parts.specs.node_log.declared.place.PlaceSeen.TheVariants.{Right}
 use Rattle.node_journal.specs.Places.{same_id, is_in_place}
+use Rattle.node_journal.specs.Said.{rates_then, stands_at, turn_events, HasSeen, SawTheSame}
 use Rattle.node_core.specs.link_port.topology.Network.{Network}
 
 -- a line of three nodes
@@ -29,3 +38,47 @@ place_not-node = refl
 
 same_not-none : same_id (Some 1) None ≡ false
 same_not-none = refl
+
+-- of these three, two are urgent enough, and count
+rates-two : rates_then (Some Notice) 5 (Some event.Begins ∷ None ∷ Some (event.Granted 7) ∷ Some event.Ends ∷ []) new_rate
+    ≡ record { second = 0; said = 2; left_out = 0 }
+rates-two = refl
+
+rates_not-nothing : rates_then (Some Notice) 5 (Some event.Begins ∷ []) new_rate ≢ new_rate
+rates_not-nothing = grind arith
+
+-- a log that has seen nothing, and a node that lends to client 7
+log : NodeLog
+log = record { least = Some Info; rate = new_rate; up = []; next = 1; lent = None; is_full = false; is_crowded = false; place = Right }
+
+module _ (port : ℕ → PortState) (value : ℕ → ℕ) where
+  lender : LocalState
+  lender = record { distance = 1; parent = Some 0; port = port; value = value; desk = record { waiting = 7 ∷ []; lent = Some 7; left = 0; served = true } }
+
+  turn-granted : turn_events log lender (act.Granted 7) true true 1 0 9
+      ≡ None ∷ Some (event.Granted 7) ∷ Some (event.Up 1) ∷ None ∷ None ∷ None ∷ []
+  unfolding log lender
+  turn-granted = refl
+
+  turn_not-up : turn_events log lender (act.Granted 7) false true 1 0 9
+      ≢ None ∷ Some (event.Granted 7) ∷ Some (event.Up 1) ∷ None ∷ None ∷ None ∷ []
+  unfolding log lender
+  turn_not-up = grind arith
+
+  seen-loan : HasSeen log (record log { lent = Some 7 }) lender true 1 0 9
+  unfolding log lender
+  seen-loan = record { lent = refl; is_full = refl; is_crowded = refl; place = refl }
+
+  seen_not-loan : HasSeen log log lender true 1 0 9 → ⊥
+  unfolding log lender
+  seen_not-loan seen = let e : ◌≡◌ {A = Option ℕ} None (Some 7) = seen.lent in grind arith
+
+same-log : SawTheSame log log
+same-log = record { least = refl; up = refl; next = refl; lent = refl; is_full = refl; is_crowded = refl; place = refl }
+
+same_not-lent : SawTheSame log (record log { lent = Some 7 }) → ⊥
+unfolding log
+same_not-lent same = let e : ◌≡◌ {A = Option ℕ} (Some 7) None = same.lent in grind arith
+
+stands_not-none : (P : Type 0) → stands_at {P = P} None ≡ false
+stands_not-none P = refl

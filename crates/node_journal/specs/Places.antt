@@ -2,6 +2,7 @@
 use Rattle.std.specs.Prelude.{ℕ, Bool, true, false, ◌==◌, ◌&&◌, nat_lt, Option, None, Some}
 use Rattle.node_core.specs.link_port.topology.Network.{Network}
 use Rattle.node_core.specs.link_port.topology.Tree.{distance_of, parent_of}
+use Rattle.node_core.specs.State.{LocalState}
 
 -- two ids, or two times none
 abbrev pub same_id : Option ℕ → Option ℕ → Bool
@@ -13,3 +14,7 @@ same_id _ _ = false
 abbrev pub is_in_place : Network → ℕ → ℕ → Option ℕ → Bool
 is_in_place net id distance parent =
     nat_lt id net.nodes && (distance == distance_of net id) && same_id parent (parent_of net id)
+
+-- a node stands in its place
+abbrev pub is_placed : Network → ℕ → LocalState → Bool
+is_placed net id s = is_in_place net id s.distance s.parent

@@ -1,7 +1,12 @@
 //! What a node says of itself on standard error while it runs.
-ghost use Rattle.std.specs.Prelude.{◌≡◌, None};
+ghost use Rattle.std.specs.Prelude.{◌≡◌, [], ◌∷◌, None, IsTrue, false, is_some, length, replicate, slice_get};
 ghost use Rattle.node_core.specs.View.{site_in, state_of};
-ghost use Rattle.node_journal.specs.Places.{is_in_place};
+ghost use Rattle.node_journal.specs.Places.{is_placed};
+ghost use Rattle.node_journal.specs.Said.{rate_if, rates_then, stands_at, turn_events, HasSeen, SawTheSame};
+ghost use Rattle.process_parts.specs.node_log.Turns.{rate_then, next_of};
+ghost use Rattle.process_parts.specs.node_log.Rate.{new_rate};
+ghost use Rattle.process_parts.specs.node_log.declared.event.NodeEvent.TheVariants.{Begins};
+ghost use Rattle.process_parts.specs.node_log.declared.place.PlaceSeen.TheVariants.{Right};
 
 use node_core::{DeskAct, Net, Node};
 use process_parts::{LogLine, NodeEvent, NodeLog, NodeWords, TurnSight};
@@ -25,7 +30,12 @@ impl<'a, R: Eprint> NodeJournal<'a, R> {
     pub fn begin(rt: &'a R, words: &NodeWords<'_>, now: u64) -> NodeJournal<'a, R>
     where
         R: Env + AllocGlobal,
-        ensures { result.log.least ≡ words.now.log }
+        ensures level { result.log.least ≡ words.now.log }
+        ensures said { result.log.rate ≡ rate_then words.now.log Begins now new_rate }
+        ensures unseen { (result.log.up ≡ replicate 64 false) × (result.log.next ≡ 0)
+            × (result.log.lent ≡ None) × (result.log.is_full ≡ false)
+            × (result.log.is_crowded ≡ false) × (result.log.place ≡ Right) }
+        ensures id { result.id ≡ words.now.id }
     {
         let mut journal = NodeJournal {
             rt,
@@ -49,8 +59,25 @@ impl<'a, R: Eprint> NodeJournal<'a, R> {
         clients: ClientSight,
         now: u64,
     )
+        // A log that is off stays as it is.
         ensures off { self.old.log.least ≡ None → self.new ≡ self.old }
         ensures level { self.new.log.least ≡ self.old.log.least }
+        ensures name { (self.new.id ≡ self.old.id) × (self.new.has_priority ≡ self.old.has_priority) }
+        // Else it has seen the node as it stands, and each event of the turn was said or counted, in order.
+        ensures seen { IsTrue (is_some self.old.log.least)
+            → HasSeen self.old.log self.new.log (state_of node.now)
+            (is_placed net.now (site_in node.now).id (state_of node.now))
+            clients.connected clients.closed now }
+        ensures said { IsTrue (is_some self.old.log.least)
+            → self.new.log.rate ≡ rates_then self.old.log.least now
+            (turn_events self.old.log (state_of node.now) act
+            (stands_at (slice_get ports.now self.old.log.next))
+            (is_placed net.now (site_in node.now).id (state_of node.now))
+            clients.connected clients.closed now)
+            self.old.log.rate }
+        // After the next turn it looks at the next link.
+        ensures next { IsTrue (is_some self.old.log.least)
+            → self.new.log.next ≡ next_of net.now.nodes self.old.log.next }
     {
         if !self.log.is_on() {
             return;
@@ -63,7 +90,7 @@ impl<'a, R: Eprint> NodeJournal<'a, R> {
             connected: clients.connected,
             closed: clients.closed,
             link,
-            is_up: matches!(link_at(ports, link), Some(sight) if sight.is_up),
+            is_up: is_up(ports, link),
             is_in_place: is_in_place(net, node),
         };
         let events = self.log.turn_ended(sight, now);
@@ -77,7 +104,9 @@ impl<'a, R: Eprint> NodeJournal<'a, R> {
 
     /// Says what happened, if anything did.
     fn say_if(&mut self, event: Option<NodeEvent>, now: u64)
-        ensures level { self.new.log.least ≡ self.old.log.least }
+        ensures name { (self.new.id ≡ self.old.id) × (self.new.has_priority ≡ self.old.has_priority) }
+        ensures same { SawTheSame self.old.log self.new.log }
+        ensures rate { self.new.log.rate ≡ rate_if self.old.log.least now event self.old.log.rate }
         ensures nothing { event ≡ None → self.new ≡ self.old }
     {
         if let Some(event) = event {
@@ -87,7 +116,9 @@ impl<'a, R: Eprint> NodeJournal<'a, R> {
 
     /// Says what happened at this time, unless it is not urgent enough or too much was said.
     pub fn say(&mut self, event: NodeEvent, now: u64)
-        ensures level { self.new.log.least ≡ self.old.log.least }
+        ensures name { (self.new.id ≡ self.old.id) × (self.new.has_priority ≡ self.old.has_priority) }
+        ensures same { SawTheSame self.old.log self.new.log }
+        ensures rate { self.new.log.rate ≡ rate_then self.old.log.least event now self.old.log.rate }
     {
         if let Some(left_out) = self.log.admit(event, now) {
             let _ = self.rt.eprintln(LogLine {
@@ -100,10 +131,19 @@ impl<'a, R: Eprint> NodeJournal<'a, R> {
     }
 }
 
+/// Whether a connection to a node stands.
+fn is_up<P: Pipe>(ports: &[NodePort<P>], id: u16) -> bool
+    ensures { result ≡ stands_at (slice_get ports.now id) }
+{
+    match link_at(ports, id) {
+        Some(sight) => sight.is_up,
+        None => false,
+    }
+}
+
 /// Whether a node's distance and parent are those that the network gives it.
 fn is_in_place(net: &Net, node: &Node) -> bool
-    ensures { result ≡ is_in_place net.now (site_in node.now).id (state_of node.now).distance
-        (state_of node.now).parent }
+    ensures { result ≡ is_placed net.now (site_in node.now).id (state_of node.now) }
 {
     let id = node.id();
     id < net.nodes() && node.distance() == net.distance(id) && node.parent() == net.parent(id)

@@ -1,1 +1,2 @@
+pub use Rattle.node_connections.specs as node_connections
 pub mod Seats

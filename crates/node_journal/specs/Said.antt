@@ -1,0 +1,55 @@
+-- What a log has said and seen after a turn.
+use Rattle.std.specs.Prelude.{ℕ, Bool, false, ◌≡◌, List, [], ◌∷◌, Option, None, Some, is_some, length}
+use Rattle.node_core.specs.lock_desk.declared.act.DeskAct.{DeskAct}
+use Rattle.node_core.specs.State.{LocalState}
+use Rattle.process_parts.specs.node_log.Places.{by_place, place_after}
+use Rattle.process_parts.specs.node_log.Turns.{gave_back, by_act, by_link, by_desk, by_crowd}
+use Rattle.process_parts.specs.node_log.Turns.{rate_then, full_after, crowded_after}
+use Rattle.unix_doors.specs.node_connections.declared.port.NodePort.{NodePort}
+use Rattle.process_parts.specs.node_log.declared.event.NodeEvent.{NodeEvent}
+use Rattle.process_parts.specs.node_log.declared.event.Level.{Level}
+use Rattle.process_parts.specs.node_log.declared.log.NodeLog.{NodeLog}
+use Rattle.process_parts.specs.node_log.declared.rate.LineRate.{LineRate}
+
+-- what an event, if there is one, counts
+abbrev pub rate_if : Option Level → ℕ → Option NodeEvent → LineRate → LineRate
+rate_if least now None rate = rate
+rate_if least now (Some event) rate = rate_then least event now rate
+
+-- what some events count, one after the other
+abbrev pub rates_then : Option Level → ℕ → List (Option NodeEvent) → LineRate → LineRate
+rates_then least now [] rate = rate
+rates_then least now (event ∷ events) rate = rates_then least now events (rate_if least now event rate)
+
+-- two logs have seen the same, and say what is as urgent
+pub record SawTheSame (old new : NodeLog) : Type 0 where
+  pub least : new.least ≡ old.least
+  pub up : new.up ≡ old.up
+  pub next : new.next ≡ old.next
+  pub lent : new.lent ≡ old.lent
+  pub is_full : new.is_full ≡ old.is_full
+  pub is_crowded : new.is_crowded ≡ old.is_crowded
+  pub place : new.place ≡ old.place
+
+-- a log has seen a node after a turn, in its place or not, with so many clients connected and closed
+pub record HasSeen (old new : NodeLog) (s : LocalState) (in_place : Bool) (connected closed now : ℕ) : Type 0 where
+  pub lent : new.lent ≡ s.desk.lent
+  pub is_full : new.is_full ≡ full_after (length s.desk.waiting) old.is_full
+  pub is_crowded : new.is_crowded ≡ crowded_after closed connected old.is_crowded
+  pub place : new.place ≡ place_after in_place now old.place
+
+-- a connection stands at the port of a node; none does if the node has no port
+abbrev pub stands_at : {P : Type 0} → Option (NodePort P) → Bool
+stands_at None = false
+stands_at (Some port) = is_some port.link.pipe
+
+-- what may be said after a turn, in this order
+abbrev pub turn_events : NodeLog → LocalState → DeskAct → (is_up in_place : Bool) → (connected closed now : ℕ) → List (Option NodeEvent)
+turn_events old s act is_up in_place connected closed now =
+    gave_back old.lent act s.desk.lent
+    ∷ by_act act
+    ∷ by_link old.next is_up old.up
+    ∷ by_desk (length s.desk.waiting) old.is_full
+    ∷ by_crowd closed connected old.is_crowded
+    ∷ by_place in_place now old.place
+    ∷ []
