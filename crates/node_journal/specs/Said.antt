@@ -1,15 +1,19 @@
 -- What a log has said and seen after a turn.
-use Rattle.std.specs.Prelude.{ℕ, Bool, false, ◌≡◌, List, [], ◌∷◌, Option, None, Some, is_some, length}
+use Rattle.std.specs.Prelude.{ℕ, Bool, false, ◌≡◌, List, [], ◌∷◌, Option, None, Some, is_some, length, slice_get}
 use Rattle.node_core.specs.lock_desk.declared.act.DeskAct.{DeskAct}
 use Rattle.node_core.specs.State.{LocalState}
+use Rattle.node_core.specs.View.{NodeView, site_in, state_of}
+use Rattle.node_core.specs.link_port.topology.Network.{Network}
 use Rattle.process_parts.specs.node_log.Places.{by_place, place_after}
 use Rattle.process_parts.specs.node_log.Turns.{gave_back, by_act, by_link, by_desk, by_crowd}
-use Rattle.process_parts.specs.node_log.Turns.{rate_then, full_after, crowded_after}
+use Rattle.process_parts.specs.node_log.Turns.{rate_then, full_after, crowded_after, next_of}
 use Rattle.unix_doors.specs.node_connections.declared.port.NodePort.{NodePort}
+use Rattle.unix_doors.specs.declared.seats.ClientSight.{ClientSight}
 use Rattle.process_parts.specs.node_log.declared.event.NodeEvent.{NodeEvent}
 use Rattle.process_parts.specs.node_log.declared.event.Level.{Level}
 use Rattle.process_parts.specs.node_log.declared.log.NodeLog.{NodeLog}
 use Rattle.process_parts.specs.node_log.declared.rate.LineRate.{LineRate}
+use Rattle.node_journal.specs.Places.{is_placed}
 
 -- what an event, if there is one, counts
 abbrev pub rate_if : Option Level → ℕ → Option NodeEvent → LineRate → LineRate
@@ -53,3 +57,12 @@ turn_events old s act is_up in_place connected closed now =
     ∷ by_crowd closed connected old.is_crowded
     ∷ by_place in_place now old.place
     ∷ []
+
+-- a log that is on has seen a node, as it stands after a turn with this act at its desk; each event of the
+-- turn was said or counted, in order; and the next turn looks at the next link
+pub record LogsTurn {P : Type 0} (net : Network) (node : NodeView) (ports : List (NodePort P)) (act : DeskAct) (clients : ClientSight) (now : ℕ) (old new : NodeLog) : Type 0 where
+  pub seen : HasSeen old new (state_of node) (is_placed net (site_in node).id (state_of node)) clients.connected clients.closed now
+  pub said : new.rate ≡ rates_then old.least now
+      (turn_events old (state_of node) act (stands_at (slice_get ports old.next)) (is_placed net (site_in node).id (state_of node)) clients.connected clients.closed now)
+      old.rate
+  pub next : new.next ≡ next_of net.nodes old.next

@@ -1,9 +1,9 @@
 //! What a node says of itself on standard error while it runs.
-ghost use Rattle.std.specs.Prelude.{◌≡◌, [], ◌∷◌, None, IsTrue, false, is_some, length, replicate, slice_get};
+ghost use Rattle.std.specs.Prelude.{◌≡◌, None, IsTrue, false, is_some, replicate, slice_get};
 ghost use Rattle.node_core.specs.View.{site_in, state_of};
 ghost use Rattle.node_journal.specs.Places.{is_placed};
-ghost use Rattle.node_journal.specs.Said.{rate_if, rates_then, stands_at, turn_events, HasSeen, SawTheSame};
-ghost use Rattle.process_parts.specs.node_log.Turns.{rate_then, next_of};
+ghost use Rattle.node_journal.specs.Said.{rate_if, stands_at, LogsTurn, SawTheSame};
+ghost use Rattle.process_parts.specs.node_log.Turns.{rate_then};
 ghost use Rattle.process_parts.specs.node_log.Rate.{new_rate};
 ghost use Rattle.process_parts.specs.node_log.declared.event.NodeEvent.TheVariants.{Begins};
 ghost use Rattle.process_parts.specs.node_log.declared.place.PlaceSeen.TheVariants.{Right};
@@ -63,21 +63,9 @@ impl<'a, R: Eprint> NodeJournal<'a, R> {
         ensures off { self.old.log.least ≡ None → self.new ≡ self.old }
         ensures level { self.new.log.least ≡ self.old.log.least }
         ensures name { (self.new.id ≡ self.old.id) × (self.new.has_priority ≡ self.old.has_priority) }
-        // Else it has seen the node as it stands, and each event of the turn was said or counted, in order.
-        ensures seen { IsTrue (is_some self.old.log.least)
-            → HasSeen self.old.log self.new.log (state_of node.now)
-            (is_placed net.now (site_in node.now).id (state_of node.now))
-            clients.connected clients.closed now }
-        ensures said { IsTrue (is_some self.old.log.least)
-            → self.new.log.rate ≡ rates_then self.old.log.least now
-            (turn_events self.old.log (state_of node.now) act
-            (stands_at (slice_get ports.now self.old.log.next))
-            (is_placed net.now (site_in node.now).id (state_of node.now))
-            clients.connected clients.closed now)
-            self.old.log.rate }
-        // After the next turn it looks at the next link.
-        ensures next { IsTrue (is_some self.old.log.least)
-            → self.new.log.next ≡ next_of net.now.nodes self.old.log.next }
+        // One that is on logs the turn.
+        ensures logged { IsTrue (is_some self.old.log.least)
+            → LogsTurn net.now node.now ports.now act clients now self.old.log self.new.log }
     {
         if !self.log.is_on() {
             return;

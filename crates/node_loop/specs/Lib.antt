@@ -1,3 +1,4 @@
+pub use Rattle.node_service.specs as node_service
 pub use Rattle.node_connections.specs as node_connections
 pub use Rattle.node_core.specs as node_core
 pub mod Moments

@@ -1,5 +1,10 @@
 //! What watches a node while it runs.
-ghost use Rattle.std.specs.Prelude.{◌≡◌, ◌↔◌, None, IfOk, IfSome, IsSome, not, is_some};
+ghost use Rattle.std.specs.Prelude.{◌≡◌, ◌↔◌, None, IfOk, IfSome, IsSome, IsTrue, false, not, is_some};
+ghost use Rattle.look_window.specs.turn_watch.Turns.{turn_ended};
+ghost use Rattle.look_window.specs.turn_watch.Loans.{desk_seen};
+ghost use Rattle.node_journal.specs.Said.{LogsTurn};
+ghost use Rattle.node_loop.specs.node_core.View.{state_of};
+ghost use Rattle.node_loop.specs.node_service.Answers.{grants};
 ghost use Rattle.record_files.specs.Noted.{HasTurn};
 
 use look_window::LookNotes;
@@ -83,6 +88,13 @@ impl<'a, 'w, R: Files<File = File> + Clock + Eprint + AllocGlobal> Observer<'a, 
         now: u64,
     ) -> Turned
         ensures looks { IsSome result.saved ↔ (run.old.turns ≡ 255) }
+        // What lookers are shown has the turn, and the loan that stands after it.
+        ensures turns { self.new.window.notes.turns ≡ turn_ended self.old.window.notes.limit
+            self.new.watch.last self.old.window.notes.turns }
+        ensures loans { self.new.window.notes.loans ≡ desk_seen self.new.watch.last (record {
+          has_granted = grants result.ticked.act;
+          lends = is_some (state_of run.new.node).desk.lent;
+        }) self.old.window.notes.loans }
         ensures others { (self.new.tape ≡ self.old.tape) × (self.new.journal ≡ self.old.journal) }
     {
         let turned = run.turn(now, &mut self.notes);
@@ -107,6 +119,10 @@ impl<'a, 'w, R: Files<File = File> + Clock + Eprint + AllocGlobal> Observer<'a, 
         now: u64,
     )
         ensures keeps { is_some self.new.tape ≡ is_some self.old.tape }
+        // A log that is on logs the turn, which ended when the clock was looked at last.
+        ensures logged { IsTrue (is_some self.old.journal.log.least)
+            → LogsTurn run.now.net run.now.node run.now.ports.items turned.now.ticked.act clients
+            self.old.watch.last self.old.journal.log self.new.journal.log }
         // A record that has not stopped has the turn.
         ensures recorded { IfSome self.old.tape (λ old. IfSome self.new.tape (λ new.
             HasTurn old.start now old.linked self.old.notes.deeds (not self.old.notes.is_torn)
@@ -124,6 +140,11 @@ impl<'a, 'w, R: Files<File = File> + Clock + Eprint + AllocGlobal> Observer<'a, 
     pub fn attended<D: Doors, S: Store + Drop>(&mut self, run: &NodeRun<D, S>, now: u64)
         ensures journal { self.new.journal ≡ self.old.journal }
         ensures keeps { is_some self.new.tape ≡ is_some self.old.tape }
+        // No turn is noted, and a record that has not stopped has what was done.
+        ensures turns { self.new.window.notes.turns ≡ self.old.window.notes.turns }
+        ensures recorded { IfSome self.old.tape (λ old. IfSome self.new.tape (λ new.
+            HasTurn old.start now old.linked self.old.notes.deeds (not self.old.notes.is_torn)
+            false run.now.node run.now.ports.items old.recorder new.recorder)) }
     {
         let ended = self.watch.now();
         self.window.attended(run.node(), ended);
