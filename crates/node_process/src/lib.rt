@@ -26,8 +26,10 @@
 pub mod node;
 mod observer;
 mod start;
+mod work;
 
 pub use look_window::USUAL_LIMIT;
 pub use record_files::process_parts::{
     NodeFault, NodeWords, ProcessRefusal, RecordSize, Rights, USUAL_SIZE,
 };
+pub use work::NodeProcess;

@@ -2,6 +2,7 @@
 use crate::{node, up};
 use clap::ArgMatches;
 use command_grammar::Grammar;
+use process_parts::NodeWork;
 use process_words::{Refusal, Runtime, asks_for_version, ends, matches_of, say_version};
 use std::convert::AsStr;
 use std::process::ExitCode;
@@ -18,22 +19,30 @@ Examples:
 This is the part of tokentree that runs nodes. Other parts ask them, and know
 networks; the whole program also simulates, measures and draws.";
 
-/// Does what the words say, after the first, the program's name, and returns the exit status.
-pub fn run_words<R: Runtime, S: AsStr>(rt: &R, words: &[S]) -> ExitCode {
+/// Does what the words say, after the first, the program's name, and returns the exit status. `nodes` runs a node.
+pub fn run_words<R: Runtime, S: AsStr, N: NodeWork<R>>(
+    rt: &R,
+    words: &[S],
+    nodes: &N,
+) -> ExitCode {
     if asks_for_version(words) {
         return say_version(rt);
     }
     match matches_of(rt, words, HELP, &COMMANDS) {
-        Ok(matches) => ends(rt, act(rt, &matches), &matches, false),
+        Ok(matches) => ends(rt, act(rt, &matches, nodes), &matches, false),
         Err(status) => status,
     }
 }
 
 /// Does what the words of a command say, and returns the exit status.
-fn act<R: Runtime>(rt: &R, matches: &ArgMatches) -> Result<ExitCode, Refusal> {
+fn act<R: Runtime, N: NodeWork<R>>(
+    rt: &R,
+    matches: &ArgMatches,
+    nodes: &N,
+) -> Result<ExitCode, Refusal> {
     let (name, given) = matches.subcommand().ok_or(Refusal::NoCommand)?;
     match name {
-        "node" => node::run(rt, given),
+        "node" => node::run(rt, given, nodes),
         "up" => up::run(rt, given),
         _ => Err(Refusal::NoCommand),
     }

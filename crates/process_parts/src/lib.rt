@@ -23,6 +23,7 @@ mod record_size;
 mod rights;
 mod start;
 mod words;
+mod work;
 
 pub use capacity::warn_of_capacity;
 pub use fault::{NodeFault, ProcessRefusal, fault_of};
@@ -41,3 +42,4 @@ pub use rights::Rights;
 pub use start::StartStage;
 pub use unix_ends::{InputSight, Listeners, read_input, watch_input};
 pub use words::{NodeWords, UpWords};
+pub use work::NodeWork;

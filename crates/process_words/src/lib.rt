@@ -6,7 +6,7 @@
 //! let status = ended(rt, words.file, words.dir, words.id, done);
 //! ```
 //!
-//! The work of the two is in `node_process` and `up_process`, which `process_line` calls with these
+//! The work of the two is in `node_process` and `up_process`; `process_line` has it done with these
 //! words; `command_words` has what the lines of all commands share.
 //!
 //! The trap: the parser decides which words a command takes, and no contract covers it; tests try

@@ -8,12 +8,13 @@
 #![tactic(auto)]
 
 use command_words::begin;
+use node_process::NodeProcess;
 use process_line::run_words;
 use std::process::ExitCode;
 
 fn main(rt: HostRuntime) -> ExitCode {
     match begin(&rt) {
-        Ok(words) => run_words(&rt, words.as_slice()),
+        Ok(words) => run_words(&rt, words.as_slice(), &NodeProcess),
         Err(status) => status,
     }
 }
