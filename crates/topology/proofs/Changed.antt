@@ -8,6 +8,7 @@ use Rattle.std.proofs.lemmas.Bool.Decides.{nat_tests}
 use Rattle.std.proofs.lemmas.List.Folds.{list_any-append}
 use Rattle.std.proofs.lemmas.List.Quantifiers.{position-Some}
 use Rattle.topology.specs.Network.{Network, Edge, are_joined, is_between, is_same_edge, has_double_edge, neighbours_of, joined_net, edges_without, parted_net}
+use Rattle.topology.specs.Change.{without_place}
 use Rattle.topology.proofs.Joined.{or_comm}
 use Rattle.topology.proofs.SearchByLevels.{between_cases}
 
@@ -90,6 +91,10 @@ put_back (x ∷ xs) (suc i) d within = rw (put_back xs i d (omega arith)) refl
 
 pub put_back_value : {X : Type 0} (xs : List X) (i : ℕ) (x : X) → i < length xs → x ≡ get_or xs i x → insert (remove xs i) i x ≡ xs
 put_back_value xs i x within is = ap (insert (remove xs i) i) is ∙ put_back xs i x within
+
+-- the network without the edge at its place is the parted one
+pub parted_is : (net : Network) (u v place : ℕ) → IsPlaceOf net.edges u v place → without_place net place ≡ parted_net net u v
+parted_is net u v place p = ap (λ es. record net { edges = es }) (sym p.removed)
 
 -- ---- who is joined afterwards
 
