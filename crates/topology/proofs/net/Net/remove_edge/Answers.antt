@@ -58,3 +58,15 @@ returns-clause-connected g c =
     let new : Network = without_place (network_of c.self.inside) c.args.place in
     let is : IsLayoutOf new.nodes new.edges new.root c.write.new.self = rw (c.deref.ensures.value, c.remove-edge.ensures.items) at c.write.ensures in
     rw (← c.self.view_is) (all_connected new c.write.new.self.distances.items is.all_distances is.searched (sym c.if-has_unreached.ensures))
+
+pub write-requires-clause-root_in : goal.write-requires-clause-root_in
+write-requires-clause-root_in g c = c.self.invariant.0.network.limits.root_in
+
+pub write-requires-clause-few : goal.write-requires-clause-few
+write-requires-clause-few g c = c.self.invariant.0.network.limits.most
+
+pub write-requires-then-has_unreached-clause-root_in : goal.write-requires-then-has_unreached-clause-root_in
+write-requires-then-has_unreached-clause-root_in g c = c.self.invariant.0.network.limits.root_in
+
+pub write-requires-then-has_unreached-clause-few : goal.write-requires-then-has_unreached-clause-few
+write-requires-then-has_unreached-clause-few g c = c.self.invariant.0.network.limits.most
