@@ -35,7 +35,7 @@ impl<A: Allocator + Copy> Net<A> {
         Ok(())
     }
 
-    /// Whether an edge may join two nodes.
+    /// Refuses an edge between two nodes by the first fault that it has.
     fn check_join(&self, u: u16, v: u16) -> Result<(), NetFault>
         ensures allowed { OnOk result (join_fault self.now u v ≡ None) }
         ensures refused { IfErr result (λ fault. join_fault self.now u v ≡ Some fault) }
@@ -76,7 +76,7 @@ impl<A: Allocator + Copy> Net<A> {
         }
     }
 
-    /// Where the edge stands that joins two nodes.
+    /// Where the edge stands that joins two nodes, or by which fault it is refused.
     fn place_to_part(&self, u: u16, v: u16) -> Result<usize, NetFault>
         ensures found { IfOk result (λ place. position (is_between u v) self.now.edges ≡ Some place) }
         ensures nodes { OnOk result (has_no_node self.now u v ≡ false) }

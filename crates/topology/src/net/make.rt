@@ -12,7 +12,7 @@ use crate::file::read_values;
 use crate::graph::{MOST_EDGES, copy_edges};
 use crate::layout::Layout;
 use crate::net::Net;
-use crate::values::{has_bad_end, has_double, has_loop};
+use crate::values::{has_bad_end, has_double, has_loop, is_outside};
 use std::alloc::{AllocError, Allocator, Global};
 
 impl Net {
@@ -114,7 +114,7 @@ impl<A: Allocator + Copy> Net<A> {
     }
 }
 
-/// The first refusal of the values, if any, that can be seen without looking for walks.
+/// Refuses values by the first fault that they have, but for whether the graph is connected.
 fn check_values(
     nodes: i64,
     root: i64,
@@ -133,7 +133,7 @@ fn check_values(
     if nodes > 64 || edges.len() > MOST_EDGES {
         return Err(NetFault::TooBig);
     }
-    if root < 0 || root >= nodes {
+    if is_outside(nodes, root) {
         return Err(NetFault::BadRoot);
     }
     if capacity < 1 || capacity > 4096 {
