@@ -1,4 +1,4 @@
-use Rattle.std.proofs.Common.{◌≡◌, sym, refl, true, false}
+use Rattle.std.proofs.Common.{sym, refl}
 use Rattle.topology.specs.Layout.{IsLayoutOf}
 use Rattle.topology.specs.Network.{Network, network_by}
 use Rattle.topology.proofs.LaidOut.{not_connected, laid_out}

@@ -5,7 +5,6 @@ use Rattle.topology.specs.Change.{without_place}
 use Rattle.topology.proofs.LaidOut.{laid_out, laid_out_anew, all_connected, not_connected, rows_for, rows_again}
 use Rattle.topology.proofs.Changed.{put_back_value}
 use Rattle.topology.proofs.Accepting.{removed_limits}
-use Rattle.topology.proofs.net.Net.remove_edge.Given as given
 use Rattle.topology.proofs.net.Net.remove_edge.Goals as goal
 
 pub write-requires-clause-rows : goal.write-requires-clause-rows
