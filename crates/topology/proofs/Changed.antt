@@ -1,6 +1,6 @@
 -- Edges that join and go: which edge it is, and what the others are.
 use Rattle.std.proofs.Common.{◌≡◌, ◌≢◌, ◌∙◌, ℕ, zero, suc, ◌<◌, Bool, true, false, not, ◌||◌, ◌&&◌, ◌==◌, List, [], ◌∷◌, ◌++◌, length, get_or, refl, sym, ap, arith, nat_lt, inl, inr}
-use Rattle.std.specs.Prelude.{Some, None}
+use Rattle.std.specs.Prelude.{Option, Some, None, is_some}
 use Rattle.std.specs.List.{list_any, filter, insert, remove, position, position_or_len, range_with_len}
 use Rattle.std.proofs.Math.Path.{fun_ext}
 use Rattle.std.proofs.lemmas.Bool.{cases_Bool, false≢true, or_parts}
@@ -72,6 +72,11 @@ joined_is_within (e ∷ es) u v = let rest = joined_is_within es u v in elim (ca
 
 pub place_none : (es : List Edge) (u v : ℕ) → None ≡ position (is_between u v) es → are_joined es u v ≡ false
 place_none es u v h = let is = joined_is_within es u v in grind (arith, nat_tests)
+
+-- an edge joins the two if it has a place
+pub joined_if_placed : (es : List Edge) (u v : ℕ) (r : Option ℕ) → r ≡ position (is_between u v) es → is_some r ≡ are_joined es u v
+joined_if_placed es u v (Some i) h = let p = position-Some (is_between u v) es i (0, 0) (sym h) in sym (joined_at es u v i (0, 0) p.0 p.1)
+joined_if_placed es u v None h = sym (place_none es u v h)
 
 pub record IsPlaceOf (es : List Edge) (u v place : ℕ) : Type 0 where
   pub within : place < length es
