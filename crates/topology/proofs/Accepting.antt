@@ -9,9 +9,9 @@ use Rattle.std.proofs.lemmas.List.Elements.{All-append, All-filter}
 use Rattle.std.proofs.lemmas.List.FromFn.{length-range_with_len, get_or-range_with_len}
 use Rattle.topology.specs.Network.{Network, Edge, are_joined, is_between, is_same_edge, has_double_edge, IsWalk, IsConnected, IsEdgeBelow, IsWithinLimits, IsAcceptedNetwork, joined_net, parted_net}
 use Rattle.topology.specs.Tree.{distance_of, reaches, least_below, is_connected}
-use Rattle.topology.specs.Change.{join_fault, part_fault, is_same_frame}
+use Rattle.topology.specs.Change.{has_no_node, join_fault, part_fault, is_same_frame, without_place}
 use Rattle.topology.specs.declared.fault.NetFault.TheVariants.{NoEdge, Apart}
-use Rattle.topology.proofs.Changed.{joined_after_join}
+use Rattle.topology.proofs.Changed.{IsPlaceOf, joined_after_join, without_at}
 use Rattle.topology.proofs.Reached.{walk_of}
 use Rattle.topology.proofs.Parents.{is_tree}
 
@@ -111,6 +111,16 @@ parted_limits net u v limits =
       no_double = no_double_fewer stays net.edges limits.no_double;
     }
 
+between_ends : (e : Edge) → is_between e.0 e.1 e ≡ true
+between_ends e = grind (arith, nat_tests)
+
+-- the edge at a place is one that joins its ends
+pub removed_limits : (net : Network) (place : ℕ) → place < length net.edges → IsWithinLimits net → IsWithinLimits (without_place net place)
+removed_limits net place within limits =
+    let e : Edge = get_or net.edges place (0, 0) in
+    let same = without_at net.edges e.0 e.1 place (0, 0) limits.no_double within (between_ends e) in
+    rw same at (parted_limits net e.0 e.1 limits)
+
 -- ---- connected, as a test
 
 least_found : (limit : ℕ) (test : ℕ → Bool) → least_below limit test < limit → test (least_below limit test) ≡ true
@@ -179,20 +189,28 @@ same_with_edges net other edges h e ok = rw (same_net net other edges h e) ok
 
 -- ---- what the code looks for
 
-pub is_apart : (net : Network) (u v : ℕ) → u < net.nodes → v < net.nodes → are_joined net.edges u v ≡ true → is_connected (parted_net net u v) ≡ false → part_fault net u v ≡ Some Apart
-is_apart net u v u_in v_in joined apart = grind (arith, nat_tests)
-
 pub no_edge : (net : Network) (u v : ℕ) → u < net.nodes → v < net.nodes → are_joined net.edges u v ≡ false → part_fault net u v ≡ Some NoEdge
 no_edge net u v u_in v_in none = grind (arith, nat_tests)
-
-pub no_fault : (net : Network) (u v : ℕ) → u < net.nodes → v < net.nodes → are_joined net.edges u v ≡ true → is_connected (parted_net net u v) ≡ true → part_fault net u v ≡ None
-no_fault net u v u_in v_in joined connected = grind (arith, nat_tests)
 
 pub not_connected_test : (net : Network) → (IsConnected net → ⊥) → is_connected net ≡ false
 not_connected_test net apart = elim (cases_Bool (is_connected net)) [
   | inl h ↦ absurd (apart (connected_from_test net h))
   | inr h ↦ h
 ]
+
+-- the edge may go if the others hold the nodes together
+pub may_go : (net : Network) (u v place : ℕ) → IsAcceptedNetwork net → has_no_node net u v ≡ false → IsPlaceOf net.edges u v place → IsConnected (without_place net place) → part_fault net u v ≡ None
+may_go net u v place ok nodes at connected =
+    let parted = parted_net net u v in
+    let holds : IsConnected parted = rw (← at.removed) at connected in
+    rw (nodes, at.joined, test_from_connected parted (record { limits = parted_limits net u v ok.limits; connected = holds })) refl
+
+-- and not otherwise
+pub may_not_go : (net : Network) (u v place : ℕ) → has_no_node net u v ≡ false → IsPlaceOf net.edges u v place → (IsConnected (without_place net place) → ⊥) → part_fault net u v ≡ Some Apart
+may_not_go net u v place nodes at apart =
+    let parted = parted_net net u v in
+    let falls : IsConnected parted → ⊥ = rw (← at.removed) at apart in
+    rw (nodes, at.joined, not_connected_test parted falls) refl
 
 frame_from : (net other : Network) → other.nodes ≡ net.nodes → other.root ≡ net.root → other.capacity ≡ net.capacity → other.lease ≡ net.lease → IsTrue (is_same_frame net other)
 frame_from net other n r k l = grind (arith, nat_tests)

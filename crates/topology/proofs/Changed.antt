@@ -1,6 +1,6 @@
 -- Edges that join and go: which edge it is, and what the others are.
 use Rattle.std.proofs.Common.{◌≡◌, ◌≢◌, ◌∙◌, ℕ, zero, suc, ◌<◌, Bool, true, false, not, ◌||◌, ◌&&◌, ◌==◌, List, [], ◌∷◌, ◌++◌, length, get_or, refl, sym, ap, arith, nat_lt, inl, inr}
-use Rattle.std.specs.Prelude.{Some, None}
+use Rattle.std.specs.Prelude.{Option, Some, None, is_some}
 use Rattle.std.specs.List.{list_any, filter, insert, remove, position, position_or_len, range_with_len}
 use Rattle.std.proofs.Math.Path.{fun_ext}
 use Rattle.std.proofs.lemmas.Bool.{cases_Bool, false≢true, or_parts}
@@ -8,6 +8,7 @@ use Rattle.std.proofs.lemmas.Bool.Decides.{nat_tests}
 use Rattle.std.proofs.lemmas.List.Folds.{list_any-append}
 use Rattle.std.proofs.lemmas.List.Quantifiers.{position-Some}
 use Rattle.topology.specs.Network.{Network, Edge, are_joined, is_between, is_same_edge, has_double_edge, neighbours_of, joined_net, edges_without, parted_net}
+use Rattle.topology.specs.Change.{without_place}
 use Rattle.topology.proofs.Joined.{or_comm}
 use Rattle.topology.proofs.SearchByLevels.{between_cases}
 
@@ -72,6 +73,11 @@ joined_is_within (e ∷ es) u v = let rest = joined_is_within es u v in elim (ca
 pub place_none : (es : List Edge) (u v : ℕ) → None ≡ position (is_between u v) es → are_joined es u v ≡ false
 place_none es u v h = let is = joined_is_within es u v in grind (arith, nat_tests)
 
+-- an edge joins the two if it has a place
+pub joined_if_placed : (es : List Edge) (u v : ℕ) (r : Option ℕ) → r ≡ position (is_between u v) es → is_some r ≡ are_joined es u v
+joined_if_placed es u v (Some i) h = let p = position-Some (is_between u v) es i (0, 0) (sym h) in sym (joined_at es u v i (0, 0) p.0 p.1)
+joined_if_placed es u v None h = sym (place_none es u v h)
+
 pub record IsPlaceOf (es : List Edge) (u v place : ℕ) : Type 0 where
   pub within : place < length es
   pub joined : are_joined es u v ≡ true
@@ -90,6 +96,10 @@ put_back (x ∷ xs) (suc i) d within = rw (put_back xs i d (omega arith)) refl
 
 pub put_back_value : {X : Type 0} (xs : List X) (i : ℕ) (x : X) → i < length xs → x ≡ get_or xs i x → insert (remove xs i) i x ≡ xs
 put_back_value xs i x within is = ap (insert (remove xs i) i) is ∙ put_back xs i x within
+
+-- the network without the edge at its place is the parted one
+pub parted_is : (net : Network) (u v place : ℕ) → IsPlaceOf net.edges u v place → without_place net place ≡ parted_net net u v
+parted_is net u v place p = ap (λ es. record net { edges = es }) (sym p.removed)
 
 -- ---- who is joined afterwards
 

@@ -1,7 +1,7 @@
--- A row of neighbours, written one after the other.
-use Rattle.std.proofs.Common.{◌≡◌, ◌∙◌, ℕ, ◌+◌, ◌≤◌, ◌<◌, true, false, List, [], ◌∷◌, ◌++◌, cond, length, map, refl, sym, ap, arith, Vec, set, take}
+-- Rows and numbers, written one after the other.
+use Rattle.std.proofs.Common.{◌≡◌, ◌∙◌, ℕ, ◌+◌, ◌≤◌, ◌<◌, true, false, List, [], ◌∷◌, ◌++◌, cond, length, map, refl, sym, ap, arith, Vec, set, take, drop}
 use Rattle.std.specs.List.{range_with_len}
-use Rattle.std.proofs.lemmas.List.{take_more_set, map-append, map-id, append-nil}
+use Rattle.std.proofs.lemmas.List.{take_more_set, take-append-le, take_all, map-append, map-id, append-nil}
 use Rattle.std.proofs.lemmas.List.Sums.{length-filter, count_by-le-length}
 use Rattle.std.proofs.lemmas.List.FromFn.{length-range_with_len, filter_of_map_range_with_len_more, map-range_with_len_more}
 use Rattle.topology.specs.Network.{Edge, are_joined, neighbours_in}
@@ -30,3 +30,7 @@ pub rows_more : {A : Type 0} (n : ℕ) (edges : List Edge) (rows : List (Vec ℕ
 rows_more {A = A} n edges rows v row within before is =
     let f : Vec ℕ A → List ℕ = λ r. r.items in
     ap rows_of (take_more_set rows v row within) ∙ map-append f (take v rows) (row ∷ []) ∙ rw (before, is) (sym (map-range_with_len_more (neighbours_in n edges) 0 v v (omega arith)))
+
+-- what writing through the slice of a vector leaves
+pub written_back : {X : Type 0} (n : ℕ) (new old : List X) → length new ≡ n → take n (new ++ drop (length new) old) ≡ new
+written_back n new old e = let h : n ≤ length new = omega arith in rw take-append-le (take_all n new (omega arith))

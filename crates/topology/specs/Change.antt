@@ -1,5 +1,6 @@
 -- One edge joins a network or goes: why it is refused, and what it leaves as it is.
 use Rattle.std.specs.Prelude.{ℕ, Bool, not, ◌&&◌, ◌||◌, ◌==◌, if◌then◌else◌, nat_le, length, Option, Some, None}
+use Rattle.std.specs.List.{remove}
 use Rattle.topology.specs.Network.{Network, are_joined, parted_net}
 use Rattle.topology.specs.Tree.{is_connected}
 use Rattle.topology.specs.declared.fault.NetFault.{NetFault}
@@ -31,3 +32,7 @@ abbrev pub is_same_frame : Network → Network → Bool
 is_same_frame net other =
     net.nodes == other.nodes
     && (net.root == other.root && (net.capacity == other.capacity && net.lease == other.lease))
+
+-- the network without the edge at a place
+abbrev pub without_place : Network → ℕ → Network
+without_place net place = record net { edges = remove net.edges place }

@@ -3,7 +3,9 @@ use Rattle.std.specs.Prelude.{◌≡◌, ℕ, ◌<◌, ◌≤◌, List, All, map
 use Rattle.std.specs.Vec.{vec_capacity}
 use Rattle.std.specs.List.{range_with_len}
 use Rattle.topology.specs.declared.net.Net.TheInside.{Inside}
-use Rattle.topology.specs.Network.{Network, network_by, Edge, neighbours_of, IsDistance, IsAcceptedNetwork}
+use Rattle.topology.specs.declared.layout.Layout.{Layout}
+use Rattle.topology.specs.Network.{Network, network_by, Edge, neighbours_in, neighbours_of, IsDistance, IsAcceptedNetwork}
+use Rattle.topology.specs.Spread.{IsSearched}
 
 -- the network that a `Net` keeps
 abbrev pub network_of : {A : Type 0} → Inside A → Network
@@ -27,3 +29,17 @@ pub record HasRoom {A : Type 0} (nodes : ℕ) (edges : Vec Edge A)
     (neighbours : List (Vec ℕ A)) : Type 0 where
   pub for_edges : 256 ≤ vec_capacity edges
   pub for_neighbours : All (λ row. nodes ≤ vec_capacity row) neighbours
+
+-- there is a list with room for all nodes, and a distance, for each node
+pub record HasRowsFor {A : Type 0} (nodes : ℕ) (l : Layout A) : Type 0 where
+  pub all_rows : length l.neighbours.items ≡ nodes
+  pub room : All (λ row. nodes ≤ vec_capacity row) l.neighbours.items
+  pub all_distances : length l.distances.items ≡ nodes
+
+-- the neighbours of each node by the edges, in a list with room for all nodes, and what a search
+-- from the root gives
+pub record IsLayoutOf {A : Type 0} (nodes : ℕ) (edges : List Edge) (root : ℕ) (l : Layout A) : Type 0 where
+  pub neighbours_are : rows_of l.neighbours.items ≡ map (neighbours_in nodes edges) (range_with_len 0 nodes)
+  pub room : All (λ row. nodes ≤ vec_capacity row) l.neighbours.items
+  pub all_distances : length l.distances.items ≡ nodes
+  pub searched : IsSearched edges root l.distances.items

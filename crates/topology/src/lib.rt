@@ -28,6 +28,7 @@ mod file;
 mod frame;
 mod graph;
 pub mod laws;
+mod layout;
 mod net;
 mod values;
 

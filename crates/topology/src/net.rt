@@ -12,6 +12,7 @@ mod sharp;
 
 use crate::frame::{Frame, Ranges};
 use crate::graph::are_joined;
+use crate::layout::Layout;
 use std::alloc::{Allocator, Global};
 use std::marker::Model;
 
@@ -27,10 +28,8 @@ pub struct Net<A: Allocator + Copy = Global> {
     capacity: u16,
     lease: u16,
     edges: Vec<(u16, u16), A>,
-    /// The neighbours of each node.
-    neighbours: Vec<Vec<u16, A>, A>,
-    /// The distance of each node.
-    distances: Vec<u16, A>,
+    /// The neighbours and the distance of each node.
+    layout: Layout<A>,
 }
 
 impl<A: Allocator + Copy> Model for Net<A> {
@@ -42,8 +41,9 @@ impl<A: Allocator + Copy> Model for Net<A> {
 
     ghost view = { network_of };
 
-    ghost invariant = { λ n. IsLaidOut (network_of n) n.neighbours.items n.distances.items
-        × HasRoom n.nodes n.edges n.neighbours.items };
+    ghost invariant = { λ n.
+        IsLaidOut (network_of n) n.layout.neighbours.items n.layout.distances.items
+        × HasRoom n.nodes n.edges n.layout.neighbours.items };
 }
 
 impl<A: Allocator + Copy> Net<A> {
@@ -91,7 +91,7 @@ impl<A: Allocator + Copy> Net<A> {
         requires { v < self.now.nodes }
         ensures { result.now ≡ neighbours_of self.now v }
     {
-        &self.neighbours[v as usize]
+        &self.layout.neighbours[v as usize]
     }
 
     /// Whether an edge joins the two nodes. It looks through the edges; the ids may be any.
@@ -156,7 +156,7 @@ impl<A: Allocator + Copy> Net<A> {
         ensures walk { IsDistance self.now v result }
         ensures computed { result ≡ distance_of self.now v }
     {
-        self.distances[v as usize]
+        self.layout.distances[v as usize]
     }
 
     /// The true parent of a node: the neighbour of smallest id that is one nearer to the root; none

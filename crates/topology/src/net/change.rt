@@ -1,14 +1,17 @@
 //! How a network changes: an edge joins or goes. Nodes, root, capacity and lease stay, and no
 //! memory is taken.
-ghost use Rattle.std.specs.Prelude.{◌≡◌, IfErr, IsTrue, None, OnErr, OnOk, Some};
-ghost use Rattle.topology.specs.Network.{joined_net, parted_net};
-ghost use Rattle.topology.specs.Change.{is_same_frame, join_fault, part_fault};
+ghost use Rattle.std.specs.Prelude.{◌≡◌, ◌≢◌, ◌<◌, IfErr, IfOk, IsTrue, None, OnErr, OnOk, Some};
+ghost use Rattle.std.specs.Prelude.{false, length};
+ghost use Rattle.std.specs.Bool.{OnFalse, OnTrue};
+ghost use Rattle.std.specs.List.{position};
+ghost use Rattle.topology.specs.Network.{is_between, joined_net, parted_net};
+ghost use Rattle.topology.specs.Network.{IsAcceptedNetwork, IsConnected};
+ghost use Rattle.topology.specs.Change.{has_no_node, is_same_frame, join_fault, part_fault};
+ghost use Rattle.topology.specs.Change.{without_place};
+ghost use Rattle.topology.specs.declared.fault.NetFault.TheVariants.{Apart};
 
 use crate::fault::NetFault;
-use crate::graph::{
-    MOST_EDGES, are_joined, has_unreached, place_of_edge, put_edge, write_all_neighbours,
-    write_distances, write_edges,
-};
+use crate::graph::{MOST_EDGES, place_of_edge, put_edge, write_edges};
 use crate::net::Net;
 use std::alloc::Allocator;
 
@@ -26,6 +29,17 @@ impl<A: Allocator + Copy> Net<A> {
         ensures refused { IfErr result (λ fault. join_fault self.old u v ≡ Some fault) }
         ensures unchanged { OnErr result (self.new ≡ self.old) }
     {
+        self.check_join(u, v)?;
+        self.edges.push_reserved((u, v));
+        self.layout.write(self.nodes, &self.edges, self.root);
+        Ok(())
+    }
+
+    /// Refuses an edge between two nodes by the first fault that it has.
+    fn check_join(&self, u: u16, v: u16) -> Result<(), NetFault>
+        ensures allowed { OnOk result (join_fault self.now u v ≡ None) }
+        ensures refused { IfErr result (λ fault. join_fault self.now u v ≡ Some fault) }
+    {
         if self.edges.len() >= MOST_EDGES {
             return Err(NetFault::TooBig);
         }
@@ -35,12 +49,9 @@ impl<A: Allocator + Copy> Net<A> {
         if u == v {
             return Err(NetFault::LoopEdge);
         }
-        if are_joined(&self.edges, u, v) {
+        if self.are_joined(u, v) {
             return Err(NetFault::DoubleEdge);
         }
-        self.edges.push_reserved((u, v));
-        write_all_neighbours(&mut self.neighbours, self.nodes, &self.edges);
-        write_distances(&mut self.distances, &self.edges, self.root);
         Ok(())
     }
 
@@ -57,21 +68,49 @@ impl<A: Allocator + Copy> Net<A> {
         ensures refused { IfErr result (λ fault. part_fault self.old u v ≡ Some fault) }
         ensures unchanged { OnErr result (self.new ≡ self.old) }
     {
+        let place = self.place_to_part(u, v)?;
+        if self.remove_edge(place) {
+            Ok(())
+        } else {
+            Err(NetFault::Apart)
+        }
+    }
+
+    /// Where the edge stands that joins two nodes, or by which fault it is refused.
+    fn place_to_part(&self, u: u16, v: u16) -> Result<usize, NetFault>
+        ensures found { IfOk result (λ place. position (is_between u v) self.now.edges ≡ Some place) }
+        ensures nodes { OnOk result (has_no_node self.now u v ≡ false) }
+        ensures network { IsAcceptedNetwork self.now }
+        ensures refused { IfErr result (λ fault. part_fault self.now u v ≡ Some fault) }
+        // It is no `Apart`, which is found only once the edge has gone.
+        ensures early { IfErr result (λ fault. fault ≢ Apart) }
+    {
         if u >= self.nodes || v >= self.nodes {
             return Err(NetFault::BadEdge);
         }
-        let Some(place) = place_of_edge(&self.edges, u, v) else {
-            return Err(NetFault::NoEdge);
-        };
-        let edge = self.edges.remove(place);
-        write_distances(&mut self.distances, &self.edges, self.root);
-        if has_unreached(&self.distances) {
-            put_edge(&mut self.edges, place, edge);
-            write_distances(&mut self.distances, &self.edges, self.root);
-            return Err(NetFault::Apart);
+        match place_of_edge(&self.edges, u, v) {
+            Some(place) => Ok(place),
+            None => Err(NetFault::NoEdge),
         }
-        write_all_neighbours(&mut self.neighbours, self.nodes, &self.edges);
-        Ok(())
+    }
+
+    /// Takes away the edge at a place, unless the others do not hold the nodes together, and says
+    /// whether it went.
+    fn remove_edge(&mut self, place: usize) -> bool
+        requires { place < length self.old.edges }
+        ensures removed { OnTrue result (self.new ≡ without_place self.old place) }
+        ensures connected { OnTrue result (IsConnected (without_place self.old place)) }
+        ensures unchanged { OnFalse result (self.new ≡ self.old) }
+        ensures apart { OnFalse result (¬ IsConnected (without_place self.old place)) }
+    {
+        let edge = self.edges.remove(place);
+        self.layout.write(self.nodes, &self.edges, self.root);
+        if self.layout.has_unreached() {
+            put_edge(&mut self.edges, place, edge);
+            self.layout.write(self.nodes, &self.edges, self.root);
+            return false;
+        }
+        true
     }
 
     /// Whether the other network differs at most in its edges: it has the same nodes, root,
@@ -91,7 +130,6 @@ impl<A: Allocator + Copy> Net<A> {
         ensures { self.new ≡ other.now }
     {
         write_edges(&mut self.edges, &other.edges);
-        write_all_neighbours(&mut self.neighbours, self.nodes, &self.edges);
-        write_distances(&mut self.distances, &self.edges, self.root);
+        self.layout.write(self.nodes, &self.edges, self.root);
     }
 }

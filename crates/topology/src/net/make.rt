@@ -1,18 +1,18 @@
 //! How a network is made: read from TOML, made of values, or copied.
-ghost use Rattle.std.specs.Prelude.{◌≡◌, ◌≤◌, IfOk, IfErr, length, map, ℤ, pos, ◌≤ℤ◌, false};
+ghost use Rattle.std.specs.Prelude.{◌≡◌, ◌≤◌, IfOk, IfErr, OnOk, length, map, ℤ, pos, ◌≤ℤ◌};
+ghost use Rattle.std.specs.Prelude.{false, None, Some};
 ghost use Rattle.std.specs.Vec.{vec_capacity};
 ghost use Rattle.topology.specs.Network.{network_by, IsAcceptedNetwork, IsWithinLimits};
-ghost use Rattle.topology.specs.Refusal.{values_by, as_ends, has_bad_end};
+ghost use Rattle.topology.specs.Refusal.{values_by, value_fault, as_ends, has_bad_end};
 ghost use Rattle.topology.specs.Accept.{IsAccepted, IsRefused, IsNotJoined};
 ghost use Rattle.topology.specs.ReadNet.{IsReadFrom, IsUnread};
 
 use crate::fault::NetFault;
 use crate::file::read_values;
-use crate::graph::{
-    MOST_EDGES, all_neighbours, copy_edges, copy_numbers, distances_from, has_unreached,
-};
+use crate::graph::{MOST_EDGES, copy_edges};
+use crate::layout::Layout;
 use crate::net::Net;
-use crate::values::{has_bad_end, has_double, has_loop};
+use crate::values::{has_bad_end, has_double, has_loop, is_outside};
 use std::alloc::{AllocError, Allocator, Global};
 
 impl Net {
@@ -56,30 +56,7 @@ impl<A: Allocator + Copy> Net<A> {
         ensures ok { IfOk result (IsAccepted (values_by nodes root capacity lease edges.now)) }
         ensures err { IfErr result (IsRefused (values_by nodes root capacity lease edges.now)) }
     {
-        if nodes < 2 {
-            return Err(NetFault::TooSmall);
-        }
-        if nodes > 64 || edges.len() > MOST_EDGES {
-            return Err(NetFault::TooBig);
-        }
-        if root < 0 || root >= nodes {
-            return Err(NetFault::BadRoot);
-        }
-        if capacity < 1 || capacity > 4096 {
-            return Err(NetFault::BadCapacity);
-        }
-        if lease < 0 || lease > 65535 {
-            return Err(NetFault::BadLease);
-        }
-        if has_bad_end(nodes, edges) {
-            return Err(NetFault::BadEdge);
-        }
-        if has_loop(edges) {
-            return Err(NetFault::LoopEdge);
-        }
-        if has_double(edges) {
-            return Err(NetFault::DoubleEdge);
-        }
+        check_values(nodes, root, capacity, lease, edges)?;
         let narrowed = narrow_edges(alloc, nodes, edges)?;
         let node_count = narrow(nodes);
         let root_id = narrow(root);
@@ -103,9 +80,8 @@ impl<A: Allocator + Copy> Net<A> {
             × IsAcceptedNetwork net) }
         ensures err { IfErr result (IsNotJoined (network_by nodes root capacity lease edges.items)) }
     {
-        let neighbours = all_neighbours(alloc, nodes, edges.as_slice())?;
-        let distances = distances_from(alloc, nodes, edges.as_slice(), root)?;
-        if has_unreached(distances.as_slice()) {
+        let layout = Layout::new(alloc, nodes, edges.as_slice(), root)?;
+        if layout.has_unreached() {
             return Err(NetFault::Apart);
         }
         Ok(Net {
@@ -114,8 +90,7 @@ impl<A: Allocator + Copy> Net<A> {
             capacity,
             lease,
             edges,
-            neighbours,
-            distances,
+            layout,
         })
     }
 
@@ -127,18 +102,56 @@ impl<A: Allocator + Copy> Net<A> {
         ensures { IfOk result (λ net. net ≡ self.now) }
     {
         let edges = copy_edges(alloc, self.edges.as_slice())?;
-        let neighbours = all_neighbours(alloc, self.nodes, self.edges.as_slice())?;
-        let distances = copy_numbers(alloc, self.distances.as_slice())?;
+        let layout = Layout::new(alloc, self.nodes, self.edges.as_slice(), self.root)?;
         Ok(Net {
             nodes: self.nodes,
             root: self.root,
             capacity: self.capacity,
             lease: self.lease,
             edges,
-            neighbours,
-            distances,
+            layout,
         })
     }
+}
+
+/// Refuses values by the first fault that they have, but for whether the graph is connected.
+fn check_values(
+    nodes: i64,
+    root: i64,
+    capacity: i64,
+    lease: i64,
+    edges: &[(i64, i64)],
+) -> Result<(), NetFault>
+    ensures allowed { OnOk result (value_fault (values_by nodes root capacity lease edges.now)
+        ≡ None) }
+    ensures refused { IfErr result (λ fault.
+        value_fault (values_by nodes root capacity lease edges.now) ≡ Some fault) }
+{
+    if nodes < 2 {
+        return Err(NetFault::TooSmall);
+    }
+    if nodes > 64 || edges.len() > MOST_EDGES {
+        return Err(NetFault::TooBig);
+    }
+    if is_outside(nodes, root) {
+        return Err(NetFault::BadRoot);
+    }
+    if capacity < 1 || capacity > 4096 {
+        return Err(NetFault::BadCapacity);
+    }
+    if lease < 0 || lease > 65535 {
+        return Err(NetFault::BadLease);
+    }
+    if has_bad_end(nodes, edges) {
+        return Err(NetFault::BadEdge);
+    }
+    if has_loop(edges) {
+        return Err(NetFault::LoopEdge);
+    }
+    if has_double(edges) {
+        return Err(NetFault::DoubleEdge);
+    }
+    Ok(())
 }
 
 /// A number that fits.

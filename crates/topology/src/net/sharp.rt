@@ -11,7 +11,7 @@ impl<A: Allocator + Copy> Net<A> {
         ensures greatest { IsEccentricity self.now result }
         ensures computed { result ≡ eccentricity_of self.now }
     {
-        self.distances.iter().copied().max().unwrap_or(0)
+        self.layout.distances.iter().copied().max().unwrap_or(0)
     }
 
     /// The sweeps after which the system is legitimate, from whatever state: 16(n-1) + 4e + 15,

@@ -13,7 +13,7 @@ use Rattle.topology.proofs.net.Net.eccentricity.Goals as goal
 -- the greatest of the kept distances is the greatest of all
 computed : (g : Over) (c : goal.After-unwrap_or g) → c.unwrap_or.result ≡ eccentricity_of (network_of c.self.inside)
 computed g c =
-    let kept = c.self.inside.distances.items in
+    let kept = c.self.inside.layout.distances.items in
     let read : c.max.result ≡ reduce max c.deref.result.now =
     sym (option_map_id _) ∙ max_from_yields_List _ _ c.max.ensures.ran (YieldsList-from_copied (YieldsList-from_slice c.deref.result.now cc)) in
     let found : c.max.result ≡ reduce max kept = read ∙ ap (reduce max) (search rules) in
