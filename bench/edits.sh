@@ -1,9 +1,9 @@
 #!/bin/sh
 # Tries the must-fail edits that the gate leaves out: `sh bench/edits.sh [CRATE..]`, at the top of the repository.
 #
-# A crate's edits cost one more proof of the whole crate, and then a part of one for each. So those of lines, records,
-# commands, pictures and experiments stand in crates/CRATE/edits instead of crates/CRATE/must-fail. Run this after a
-# change of such a crate.
+# A crate's edits cost one more proof of the whole crate, and then a part of one for each. So those of a node's turn, its
+# pace, lines, records, commands, pictures and experiments stand in crates/CRATE/edits instead of crates/CRATE/must-fail.
+# Run this after a change of such a crate.
 # It works on a copy of the files as they stand, and takes what `rt ci` proved of them from what that kept. Its status is 0
 # if the prover refused each edit, and 1 if not, or if something is not proved.
 set -eu
