@@ -1,6 +1,6 @@
 //! What is wrong with a network file.
 ghost use Rattle.std.specs.Prelude.{Some};
-ghost use Rattle.network_hints.specs.HintText.{flaw_text, none_of_text, hint_text};
+ghost use Rattle.network_hints.specs.HintText.{edge_text, flaw_text, hint_text, none_of_text, range_text};
 
 use crate::key::Key;
 use std::fmt;
@@ -48,27 +48,51 @@ impl fmt::Display for ValueFlaw {
             }
             ValueFlaw::OutOfRange(key, value, least, most) => write!(
                 f,
-                "key '{}': {value} must be an integer from {least} to {most}",
-                key.name()
+                "key '{}': {value} must be {}",
+                key.name(),
+                Range(least, most)
             ),
             ValueFlaw::TooMany(count) => write!(f, "key 'edges': {count} edges are more than 256"),
-            ValueFlaw::NoRoot(root, nodes) => {
-                f.write_str("key 'root': ")?;
-                f.write(root)?;
-                f.write(NoneOf(nodes))
-            }
+            ValueFlaw::NoRoot(root, nodes) => write!(f, "key 'root': {root}{}", NoneOf(nodes)),
             ValueFlaw::NoNode(one, other, nodes) => write!(
                 f,
-                "key 'edges': in edge [{one}, {other}] one is none of {nodes} nodes"
+                "key 'edges': in {} one{}",
+                Edge(one, other),
+                NoneOf(nodes)
             ),
             ValueFlaw::Loop(node) => write!(
                 f,
-                "key 'edges': edge [{node}, {node}] joins a node with itself"
+                "key 'edges': {} joins a node with itself",
+                Edge(node, node)
             ),
             ValueFlaw::Twice(one, other) => {
-                write!(f, "key 'edges': edge [{one}, {other}] is there twice")
+                write!(f, "key 'edges': {} is there twice", Edge(one, other))
             }
         }
+    }
+}
+
+/// The integers from the first to the second.
+#[derive(Clone, Copy)]
+struct Range(i64, i64);
+
+impl fmt::Display for Range {
+    ghost output = { λ range. Some (range_text range.0 range.1) };
+
+    fn fmt<W: fmt::Write>(&self, f: &mut fmt::Formatter<W>) -> fmt::Result {
+        write!(f, "an integer from {} to {}", self.0, self.1)
+    }
+}
+
+/// An edge, as a file writes it.
+#[derive(Clone, Copy)]
+struct Edge(i64, i64);
+
+impl fmt::Display for Edge {
+    ghost output = { λ edge. Some (edge_text edge.0 edge.1) };
+
+    fn fmt<W: fmt::Write>(&self, f: &mut fmt::Formatter<W>) -> fmt::Result {
+        write!(f, "edge [{}, {}]", self.0, self.1)
     }
 }
 
