@@ -11,10 +11,6 @@ use Rattle.network_hints.specs.declared.flaw.ValueFlaw.TheVariants.{TooMany, NoR
 abbrev pub none_of_text : ℤ → List ℕ
 none_of_text nodes = codes " is none of " ++ (signed_decimal nodes ++ codes " nodes")
 
--- an integer of a range
-abbrev pub range_text : ℤ → ℤ → List ℕ
-range_text least most = codes "an integer from " ++ (signed_decimal least ++ (codes " to " ++ signed_decimal most))
-
 -- an edge, as a file writes it
 abbrev pub edge_text : ℤ → ℤ → List ℕ
 edge_text one other = codes "edge [" ++ (signed_decimal one ++ (codes ", " ++ (signed_decimal other ++ codes "]")))
@@ -27,7 +23,8 @@ flaw_text NoArray = codes "key 'edges': must be an array of edges, as [[0, 1], [
 flaw_text (NoEdge place) =
     codes "key 'edges': edge " ++ (decimal place ++ codes " must be two integers, as [0, 1]")
 flaw_text (OutOfRange key value least most) =
-    codes "key '" ++ (key_name key ++ (codes "': " ++ (signed_decimal value ++ (codes " must be " ++ range_text least most))))
+    codes "key '" ++ (key_name key ++ (codes "': " ++ (signed_decimal value
+    ++ (codes " must be an integer from " ++ (signed_decimal least ++ (codes " to " ++ signed_decimal most))))))
 flaw_text (TooMany count) = codes "key 'edges': " ++ (decimal count ++ codes " edges are more than 256")
 flaw_text (NoRoot root nodes) = codes "key 'root': " ++ (signed_decimal root ++ none_of_text nodes)
 flaw_text (NoNode one other nodes) =

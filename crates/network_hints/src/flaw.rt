@@ -1,6 +1,6 @@
 //! What is wrong with a network file.
 ghost use Rattle.std.specs.Prelude.{Some};
-ghost use Rattle.network_hints.specs.HintText.{edge_text, flaw_text, hint_text, none_of_text, range_text};
+ghost use Rattle.network_hints.specs.HintText.{edge_text, flaw_text, hint_text, none_of_text};
 
 use crate::key::Key;
 use std::fmt;
@@ -48,9 +48,8 @@ impl fmt::Display for ValueFlaw {
             }
             ValueFlaw::OutOfRange(key, value, least, most) => write!(
                 f,
-                "key '{}': {value} must be {}",
-                key.name(),
-                Range(least, most)
+                "key '{}': {value} must be an integer from {least} to {most}",
+                key.name()
             ),
             ValueFlaw::TooMany(count) => write!(f, "key 'edges': {count} edges are more than 256"),
             ValueFlaw::NoRoot(root, nodes) => write!(f, "key 'root': {root}{}", NoneOf(nodes)),
@@ -69,18 +68,6 @@ impl fmt::Display for ValueFlaw {
                 write!(f, "key 'edges': {} is there twice", Edge(one, other))
             }
         }
-    }
-}
-
-/// The integers from the first to the second.
-#[derive(Clone, Copy)]
-struct Range(i64, i64);
-
-impl fmt::Display for Range {
-    ghost output = { λ range. Some (range_text range.0 range.1) };
-
-    fn fmt<W: fmt::Write>(&self, f: &mut fmt::Formatter<W>) -> fmt::Result {
-        write!(f, "an integer from {} to {}", self.0, self.1)
     }
 }
 
