@@ -46,7 +46,7 @@ fn table_hint(alloc: Global, file: &str, table: &Table) -> Result<Option<String>
         _ => None,
     };
     let hint = Hint { file, flaw, like };
-    Ok(Some(format!(in alloc; "{hint}")?))
+    Ok(Some(hint.to_string(alloc)?))
 }
 
 /// The line and the column, both from 1, of the place after these bytes. A column counts characters.
