@@ -55,8 +55,9 @@ fn with_parameters<'a>(
 
 /// The group of parameters of which one must be given.
 fn group_of<'a>(alloc: Global, choice: Choice<'a>) -> Result<ArgGroup<'a>, AllocError> {
-    let group = ArgGroup::new(alloc, choice.name).args(choice.of)?;
-    Ok(group.required(true))
+    ArgGroup::new(alloc, choice.name)
+        .required(true)
+        .args(choice.of)
 }
 
 /// A parameter with what the grammar asks of others beside it.

@@ -125,7 +125,7 @@ fn unmade(kind: ErrorKind, has_folder: bool) -> Option<&'static str>
 fn has_folder<R: Files>(rt: &R, path: &str) -> bool {
     match Path::new(path).parent() {
         Some(folder) if !folder.path_text().is_empty() => {
-            fs::metadata(rt, folder).is_ok_and(|found| found.is_dir())
+            matches!(fs::metadata(rt, folder), Ok(found) if found.is_dir())
         }
         Some(_) => true,
         None => false,

@@ -1,2 +1,3 @@
 mod EdgesRead
+mod KeyNames
 mod RowsHints

@@ -1,5 +1,6 @@
 -- Small examples of what is said of a network file, and some with nothing to say.
-use Rattle.std.proofs.Common.{◌≡◌, pos, [], ◌∷◌, Some, None, codes, refl}
+use Rattle.std.proofs.Common.{◌≡◌, ℤ, pos, [], ◌∷◌, ◌++◌, Some, None, codes, refl, append_assoc}
+use Rattle.std.specs.Fmt.{signed_decimal}
 use Rattle.network_hints.specs.declared.key.Key.TheVariants.{Lease, Capacity}
 use Rattle.network_hints.specs.declared.flaw.ValueFlaw.TheVariants.{NoKey, OutOfRange, NoNode, Loop, Twice}
 use Rattle.network_hints.specs.HintText.{flaw_text}
@@ -8,6 +9,18 @@ use Rattle.network_hints.specs.Places.{place_after}
 
 says-key : flaw_text (NoKey Lease) ≡ codes "no key 'lease'"
 says-key = refl
+
+says-loop : (node : ℤ) → flaw_text (Loop node) ≡ codes "key 'edges': edge [" ++ (signed_decimal node ++ (codes ", "
+    ++ (signed_decimal node ++ codes "] joins a node with itself")))
+says-loop node = simp append_assoc
+
+says-twice : (one other : ℤ) → flaw_text (Twice one other) ≡ codes "key 'edges': edge [" ++ (signed_decimal one ++ (codes ", "
+    ++ (signed_decimal other ++ codes "] is there twice")))
+says-twice one other = simp append_assoc
+
+says-node : (one other nodes : ℤ) → flaw_text (NoNode one other nodes) ≡ codes "key 'edges': in edge [" ++ (signed_decimal one
+    ++ (codes ", " ++ (signed_decimal other ++ (codes "] one is none of " ++ (signed_decimal nodes ++ codes " nodes")))))
+says-node one other nodes = simp append_assoc
 
 finds-range : range_flaw Capacity (pos 0) (pos 1) (pos 4096) ≡ Some (OutOfRange Capacity (pos 0) (pos 1) (pos 4096))
 finds-range = refl

@@ -11,6 +11,10 @@ use Rattle.network_hints.specs.declared.flaw.ValueFlaw.TheVariants.{TooMany, NoR
 abbrev pub none_of_text : ℤ → List ℕ
 none_of_text nodes = codes " is none of " ++ (signed_decimal nodes ++ codes " nodes")
 
+-- an edge, as a file writes it
+abbrev pub edge_text : ℤ → ℤ → List ℕ
+edge_text one other = codes "edge [" ++ (signed_decimal one ++ (codes ", " ++ (signed_decimal other ++ codes "]")))
+
 -- which key or edge it is, and what it must be
 abbrev pub flaw_text : ValueFlaw → List ℕ
 flaw_text (NoKey key) = codes "no key '" ++ (key_name key ++ codes "'")
@@ -24,14 +28,9 @@ flaw_text (OutOfRange key value least most) =
 flaw_text (TooMany count) = codes "key 'edges': " ++ (decimal count ++ codes " edges are more than 256")
 flaw_text (NoRoot root nodes) = codes "key 'root': " ++ (signed_decimal root ++ none_of_text nodes)
 flaw_text (NoNode one other nodes) =
-    codes "key 'edges': in edge [" ++ (signed_decimal one ++ (codes ", " ++ (signed_decimal other
-    ++ (codes "] one is none of " ++ (signed_decimal nodes ++ codes " nodes")))))
-flaw_text (Loop node) =
-    codes "key 'edges': edge [" ++ (signed_decimal node ++ (codes ", " ++ (signed_decimal node
-    ++ codes "] joins a node with itself")))
-flaw_text (Twice one other) =
-    codes "key 'edges': edge [" ++ (signed_decimal one ++ (codes ", " ++ (signed_decimal other
-    ++ codes "] is there twice")))
+    codes "key 'edges': in " ++ (edge_text one other ++ (codes " one" ++ none_of_text nodes))
+flaw_text (Loop node) = codes "key 'edges': " ++ (edge_text node node ++ codes " joins a node with itself")
+flaw_text (Twice one other) = codes "key 'edges': " ++ (edge_text one other ++ codes " is there twice")
 
 -- the file, what is wrong, and the unknown key that is like the missing one
 abbrev pub hint_text : List ℕ → ValueFlaw → Option (Bor (List ℕ)) → List ℕ

@@ -1,6 +1,6 @@
 //! What is wrong with a network file.
 ghost use Rattle.std.specs.Prelude.{Some};
-ghost use Rattle.network_hints.specs.HintText.{flaw_text, none_of_text, hint_text};
+ghost use Rattle.network_hints.specs.HintText.{edge_text, flaw_text, hint_text, none_of_text};
 
 use crate::key::Key;
 use std::fmt;
@@ -52,23 +52,34 @@ impl fmt::Display for ValueFlaw {
                 key.name()
             ),
             ValueFlaw::TooMany(count) => write!(f, "key 'edges': {count} edges are more than 256"),
-            ValueFlaw::NoRoot(root, nodes) => {
-                f.write_str("key 'root': ")?;
-                f.write(root)?;
-                f.write(NoneOf(nodes))
-            }
+            ValueFlaw::NoRoot(root, nodes) => write!(f, "key 'root': {root}{}", NoneOf(nodes)),
             ValueFlaw::NoNode(one, other, nodes) => write!(
                 f,
-                "key 'edges': in edge [{one}, {other}] one is none of {nodes} nodes"
+                "key 'edges': in {} one{}",
+                Edge(one, other),
+                NoneOf(nodes)
             ),
             ValueFlaw::Loop(node) => write!(
                 f,
-                "key 'edges': edge [{node}, {node}] joins a node with itself"
+                "key 'edges': {} joins a node with itself",
+                Edge(node, node)
             ),
             ValueFlaw::Twice(one, other) => {
-                write!(f, "key 'edges': edge [{one}, {other}] is there twice")
+                write!(f, "key 'edges': {} is there twice", Edge(one, other))
             }
         }
+    }
+}
+
+/// An edge, as a file writes it.
+#[derive(Clone, Copy)]
+struct Edge(i64, i64);
+
+impl fmt::Display for Edge {
+    ghost output = { λ edge. Some (edge_text edge.0 edge.1) };
+
+    fn fmt<W: fmt::Write>(&self, f: &mut fmt::Formatter<W>) -> fmt::Result {
+        write!(f, "edge [{}, {}]", self.0, self.1)
     }
 }
 

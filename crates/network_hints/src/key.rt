@@ -32,13 +32,12 @@ impl Key {
     }
 }
 
+/// The names of the keys.
+const NAMES: [&str; 5] = ["nodes", "root", "capacity", "lease", "edges"];
+
 /// Whether a key of a network file has this name.
 pub fn is_key_name(name: &str) -> bool
     ensures { result ≡ is_key_name name.now }
 {
-    name == Key::Nodes.name()
-        || name == Key::Root.name()
-        || name == Key::Capacity.name()
-        || name == Key::Lease.name()
-        || name == Key::Edges.name()
+    NAMES.contains(&name)
 }

@@ -18,12 +18,22 @@ pub fn hint(alloc: Global, file: &str, text: &str) -> Result<Option<String>, All
         Err(error) => match error.span() {
             None => Err(AllocError),
             Some(span) => {
-                let (line, column) = place_after(&text.as_bytes()[..span.start]);
-                let message = error.message();
-                Ok(Some(format!(in alloc; "{file}: line {line}, column {column}: {message}")?))
+                let place = place_after(&text.as_bytes()[..span.start]);
+                place_hint(alloc, file, place, error.message())
             }
         },
     }
+}
+
+/// What is wrong at a line and a column.
+fn place_hint(
+    alloc: Global,
+    file: &str,
+    place: (u64, u64),
+    message: &str,
+) -> Result<Option<String>, AllocError> {
+    let (line, column) = place;
+    Ok(Some(format!(in alloc; "{file}: line {line}, column {column}: {message}")?))
 }
 
 /// What is wrong with a table.
@@ -36,7 +46,7 @@ fn table_hint(alloc: Global, file: &str, table: &Table) -> Result<Option<String>
         _ => None,
     };
     let hint = Hint { file, flaw, like };
-    Ok(Some(format!(in alloc; "{hint}")?))
+    Ok(Some(hint.to_string(alloc)?))
 }
 
 /// The line and the column, both from 1, of the place after these bytes. A column counts characters.

@@ -75,7 +75,7 @@ fn mistake_line<R: AllocGlobal>(
     error: &clap::Error,
     command: Option<&str>,
 ) -> Result<String, AllocError> {
-    let text = format!(in rt.alloc(); "{error}")?;
+    let text = error.to_string(rt.alloc())?;
     one_line(rt.alloc(), text.as_str(), command)
 }
 

@@ -14,7 +14,6 @@ impl fmt::Display for FaultLine {
     ghost output = { λ line. Some (fault_line line.0) };
 
     fn fmt<W: fmt::Write>(&self, f: &mut fmt::Formatter<W>) -> fmt::Result {
-        f.write_str("tokentree: ")?;
-        f.write(self.0)
+        write!(f, "tokentree: {}", self.0)
     }
 }

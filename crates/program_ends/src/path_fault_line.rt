@@ -13,7 +13,6 @@ impl fmt::Display for PathFaultLine<'_> {
     ghost output = { λ line. Some (path_fault_line line.0) };
 
     fn fmt<W: fmt::Write>(&self, f: &mut fmt::Formatter<W>) -> fmt::Result {
-        f.write_str("tokentree: ")?;
-        f.write(self.0)
+        write!(f, "tokentree: {}", self.0)
     }
 }

@@ -1,5 +1,5 @@
-use Rattle.std.proofs.Common.{◌≡◌, Some, ap, rules}
-use Rattle.clap.specs.Walk.{Rule, rule_of}
+use Rattle.std.proofs.Common.{Some, ap}
+use Rattle.clap.specs.Walk.{Rule}
 use Rattle.clap.specs.declared.builder.action.ArgAction.TheVariants.{Set}
 use Rattle.command_grammar.proofs.building.valued.Goals as goal
 

@@ -1,4 +1,4 @@
-use Rattle.std.proofs.Common.{◌≡◌, ◌∙◌, ℕ, ◌≤◌, ◌<◌, sym, arith, rules}
+use Rattle.std.proofs.Common.{◌≡◌, ◌∙◌, sym, arith, rules}
 use Rattle.std.proofs.lemmas.Fmt.{decimal_injective}
 use Rattle.command_grammar.proofs.number.Number.read.Goals as goal
 
