@@ -1,5 +1,5 @@
 //! Premises, as the options of a command line give them.
-ghost use Rattle.std.specs.Prelude.{◌≡◌, ◌≤◌, IfOk, IfErr, Some, None};
+ghost use Rattle.std.specs.Prelude.{◌≡◌, ◌≤◌, IfOk, Some};
 ghost use Rattle.recovery_times.specs.Words.{time_or, premises_of, time_fault_text};
 
 use crate::premises::Premises;
@@ -63,25 +63,23 @@ impl PremiseWords<'_> {
     {
         let usual = Premises::usual();
         Ok(Premises {
-            turn: time_or(self.turn, 1, usual.turn, TimeFault::Turn)?,
-            delay: time_or(self.delay, 0, usual.delay, TimeFault::Delay)?,
-            loan: time_or(self.loan, 0, usual.loan, TimeFault::Loan)?,
-            repeat: time_or(self.repeat, 1, usual.repeat, TimeFault::Repeat)?,
+            turn: time_or(self.turn, 1, usual.turn).ok_or(TimeFault::Turn)?,
+            delay: time_or(self.delay, 0, usual.delay).ok_or(TimeFault::Delay)?,
+            loan: time_or(self.loan, 0, usual.loan).ok_or(TimeFault::Loan)?,
+            repeat: time_or(self.repeat, 1, usual.repeat).ok_or(TimeFault::Repeat)?,
         })
     }
 }
 
-/// The time that a word spells, at least `least`; without a word, `usual`; and the fault if the word
-/// spells no such time.
-fn time_or(word: Option<&str>, least: u32, usual: u32, fault: TimeFault) -> Result<u32, TimeFault>
-    ensures time { IfOk result (λ micros. time_or word.entry least usual ≡ Some micros) }
-    ensures refused { IfErr result (λ why. (why ≡ fault) × (time_or word.entry least usual ≡ None)) }
+/// The time that a word spells, at least `least`; without a word, `usual`.
+fn time_or(word: Option<&str>, least: u32, usual: u32) -> Option<u32>
+    ensures { result ≡ time_or word.entry least usual }
 {
     match word {
-        None => Ok(usual),
+        None => Some(usual),
         Some(word) => match micros_of(word.as_bytes()) {
-            Some(micros) if micros >= least => Ok(micros),
-            _ => Err(fault),
+            Some(micros) if micros >= least => Some(micros),
+            _ => None,
         },
     }
 }
