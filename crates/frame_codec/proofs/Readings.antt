@@ -25,12 +25,16 @@ module _ (line : List ℕ) where
       first ∙ ap (λ xs. slice_index line 0 ∷ xs) (cut 1 ∙ ap (λ xs. take 4 (drop 1 line) ++ xs) (cut 5 ∙ ap (λ xs. take 4 (drop 5 line) ++ xs)
       (cut 9 ∙ ap (λ xs. take 4 (drop 9 line) ++ xs) (cut 13 ∙ ap (λ xs. take 4 (drop 13 line) ++ xs) last))))
 
+-- a line of 5 bytes is its first byte and one field
+pub id_field : (line : List ℕ) → length line ≡ 5 → line ≡ slice_index line 0 ∷ take 4 (drop 1 line)
+id_field line is = grind (arith, common_steps)
+
 -- the value of a digit
 value_of : (d : ℕ) → d < 16 → digit_value (digit d) ≡ d
 value_of d h = grind (arith, common_steps)
 
 -- the number of four digits
-number_of : (n : ℕ) → n < 2 ^ 16 →
+pub number_of : (n : ℕ) → n < 2 ^ 16 →
     4096 * digit_value (digit (n / 4096 % 16)) + 256 * digit_value (digit (n / 256 % 16))
     + 16 * digit_value (digit (n / 16 % 16)) + digit_value (digit (n % 16)) ≡ n
 number_of n h =

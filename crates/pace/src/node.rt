@@ -21,7 +21,7 @@ const CALL_ENDS: u64 = 100_000;
 const CIRCUITS: u32 = 4;
 
 /// How a node's desk and its clients stand.
-#[derive(Clone, Copy, Debug, PartialEq, Eq)]
+#[derive(Clone, Copy)]
 pub struct Outlook {
     /// Somebody waits for the lock.
     pub waits: bool,
@@ -35,7 +35,7 @@ pub struct Outlook {
 
 /// What a node remembers of its own haste. Times are microseconds. Whatever stands here, a pace goes
 /// by it, and loses no more than time.
-#[derive(Clone, Copy, Debug, PartialEq, Eq)]
+#[derive(Clone, Copy)]
 pub struct NodePace {
     /// Until when it keeps the news of its machines to itself.
     pub hold_until: u64,

@@ -15,7 +15,7 @@ use topology::Frame;
 pub const PORTS: usize = 64;
 
 /// The trade between quiet and haste, in microseconds.
-#[derive(Clone, Copy, Debug, PartialEq, Eq)]
+#[derive(Clone, Copy)]
 pub struct Manner {
     /// How long a node keeps the news of its machines to itself, if nobody is in haste.
     pub hold: u64,
@@ -36,7 +36,7 @@ impl Manner {
 }
 
 /// What a turn does.
-#[derive(Clone, Copy, Debug, PartialEq, Eq)]
+#[derive(Clone, Copy)]
 pub struct Plan {
     /// Whether the node ticks.
     pub ticks: bool,

@@ -20,7 +20,7 @@ const CALL: u32 = 4;
 const SOON: u64 = 4_000;
 
 /// What a node sees at one of its ports.
-#[derive(Clone, Copy, Debug, PartialEq, Eq)]
+#[derive(Clone, Copy)]
 pub struct PortSight {
     /// Whether a frame would be accepted there: there is a connection, and the last line is out.
     pub takes_frames: bool,
@@ -31,7 +31,7 @@ pub struct PortSight {
 }
 
 /// What a frame that came means beside what it says.
-#[derive(Clone, Copy, Debug, PartialEq, Eq)]
+#[derive(Clone, Copy, PartialEq, Eq)]
 pub enum Hearing {
     /// Nothing more.
     Frame,
@@ -42,7 +42,7 @@ pub enum Hearing {
 }
 
 /// How far a call for haste has been passed on at one port.
-#[derive(Clone, Copy, Debug, PartialEq, Eq)]
+#[derive(Clone, Copy, PartialEq, Eq)]
 pub enum Calling {
     /// There is none, or it is out.
     Done,
@@ -68,7 +68,7 @@ impl Calling {
 
 /// What was given and heard at one port. Whatever stands here, a pace goes by it, and loses no more
 /// than time.
-#[derive(Clone, Copy, Debug, PartialEq, Eq)]
+#[derive(Clone, Copy)]
 pub struct PortPace {
     /// The frame given last.
     pub given: Option<Frame>,

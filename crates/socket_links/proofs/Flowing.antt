@@ -6,9 +6,9 @@ use Rattle.std.proofs.lemmas.List.{take-append-drop, take_all, length-drop, drop
 use Rattle.std.proofs.Math.Seq.{take-add}
 use Rattle.topology.specs.declared.frame.Frame.{Frame}
 use Rattle.topology.specs.declared.frame.Ranges.{Ranges}
-use Rattle.byte_lines.specs.Kept.{Kept}
+use Rattle.byte_lines.specs.Kept.{Kept, kept}
 use Rattle.byte_streams.specs.Streams.{Rose}
-use Rattle.frame_codec.specs.Lines.{ReadsFrames, ReadsOn}
+use Rattle.frame_codec.specs.Lines.{frames_after, ReadsFrames, ReadsOn}
 use Rattle.socket_links.specs.Counts.{Counts, NoneFell}
 use Rattle.socket_links.specs.Pipes.{GoesOn}
 use Rattle.socket_links.specs.declared.link.SocketLink.{SocketLink}
@@ -168,3 +168,10 @@ module _ {P : Type 0} (gave took : P → Option (List ℕ)) (old : Option P) (be
 -- the pipe was there
 pub asked : {X : Type 0} (o : Option X) (x : X) (A B : Type 0) → o ≡ Some x → B → MatchOption o A (λ y. B)
 asked o x A B e b = rw e b
+
+-- where all was looked at and no frame was said, no good line ended in it
+pub no_frame : (r : Ranges) (old new : Kept) (waited waits : List ℕ) → Looks r old new waited waits [] → waits ≡ []
+    → (half : List ℕ) → old ≡ kept 21 half → frames_after r half waited ≡ []
+no_frame r old new waited waits l none half is =
+    let all : waited ≡ l.front = l.parts ∙ rw none (append-nil l.front) in
+    ap (frames_after r half) all ∙ sym (l.said half is)

@@ -1,6 +1,5 @@
 -- Small examples of what a link keeps and of what it says, and some that look like them and are none.
-use Rattle.std.proofs.Common.{◌≡◌, ℕ, ◌<◌, List, [], ◌∷◌, ◌++◌, ◌∙◌, Option, None, Some, true, false, codes, refl, ap, sym, subst, inl, inr, arith, append-nil}
-use Rattle.std.proofs.lemmas.Grind.{common_steps}
+use Rattle.std.proofs.Common.{◌≡◌, ℕ, List, [], ◌∷◌, ◌++◌, ◌∙◌, Option, None, Some, codes, refl, ap, sym, subst, inl, inr, arith, append-nil}
 use Rattle.topology.specs.declared.frame.Frame.{Frame}
 use Rattle.topology.specs.declared.frame.Ranges.{Ranges}
 use Rattle.byte_lines.specs.Kept.{kept}

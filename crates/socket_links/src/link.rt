@@ -20,7 +20,7 @@ const PIECE: usize = 512;
 const LINE: usize = 22;
 
 /// What becomes of a frame that is offered.
-#[derive(Clone, Copy, Debug, PartialEq, Eq)]
+#[derive(Clone, Copy, PartialEq, Eq)]
 pub enum Offer {
     /// Its line is accepted, and is written next.
     Taken,
@@ -31,7 +31,7 @@ pub enum Offer {
 }
 
 /// What a pull gives.
-#[derive(Clone, Copy, Debug, PartialEq, Eq)]
+#[derive(Clone, Copy, PartialEq, Eq)]
 pub enum Pull {
     /// The next frame.
     Frame(Frame),

@@ -1,6 +1,6 @@
 //! Pipes over memory, and pipes that fail once.
 ghost use Rattle.std.specs.Prelude.{◌≡◌, ◌≤◌, ◌<◌, ◌+◌, [], Some, IfOk, take, max, length, vec_len};
-ghost use Rattle.std.specs.Prelude.{vec_capacity};
+ghost use Rattle.std.specs.Prelude.{vec_capacity, ◌-◌, min};
 ghost use Rattle.byte_streams.specs.Fuse.{failures_of};
 
 use crate::pipe::{Pipe, ReadAnswer, WriteAnswer};
@@ -54,6 +54,15 @@ impl<'a, A: Allocator + Copy> MemoryPipe<'a, A> {
         })
     }
 
+    /// How many of these bytes one write takes.
+    fn room_for(&self, bytes: &[u8]) -> usize
+        ensures { result ≡ min (min (length bytes.now) self.now.piece)
+            (vec_capacity self.now.output - vec_len self.now.output) }
+    {
+        let room = self.output.capacity() - self.output.len();
+        bytes.len().min(self.piece).min(room)
+    }
+
     /// The bytes that it took.
     pub fn taken(&self) -> &[u8]
         ensures { result.now ≡ self.now.output.items }
@@ -88,8 +97,7 @@ impl<'a, A: Allocator + Copy> Pipe for MemoryPipe<'a, A> {
     }
 
     fn try_write(&mut self, bytes: &[u8]) -> WriteAnswer {
-        let room = self.output.capacity() - self.output.len();
-        let count = bytes.len().min(self.piece).min(room);
+        let count = self.room_for(bytes);
         if count == 0 {
             self.later = self.later.saturating_add(1);
             return WriteAnswer::Later;

@@ -4,7 +4,7 @@ ghost use Rattle.socket_links.specs.Counts.{Counts};
 ghost use Rattle.socket_links.specs.Pipes.{Reads, Writes};
 
 /// What a read answers.
-#[derive(Clone, Copy, Debug, PartialEq, Eq)]
+#[derive(Clone, Copy)]
 pub enum ReadAnswer {
     /// It gave this many bytes, at least one.
     Got(usize),
@@ -17,7 +17,7 @@ pub enum ReadAnswer {
 }
 
 /// What a write answers.
-#[derive(Clone, Copy, Debug, PartialEq, Eq)]
+#[derive(Clone, Copy)]
 pub enum WriteAnswer {
     /// It took this many bytes, at least one.
     Wrote(usize),

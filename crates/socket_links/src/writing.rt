@@ -5,7 +5,7 @@ ghost use Rattle.socket_links.specs.Writing.{WritesLine};
 use crate::pipe::{Pipe, WriteAnswer};
 
 /// How far a push came.
-#[derive(Clone, Copy, Debug, PartialEq, Eq)]
+#[derive(Clone, Copy, PartialEq, Eq)]
 pub enum Flow {
     /// Nothing of an accepted line is left.
     Done,

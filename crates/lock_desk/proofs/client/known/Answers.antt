@@ -9,3 +9,7 @@ returns-in-unlock c =
 pub returns-in-status : goal.returns-in-status
 returns-in-status c =
     let e : c.args.line.now ≡ codes "status" = text_from_reads c.args.line.now (codes "status") (omega arith) (search rules) in rw e refl
+
+pub returns-in-lock : goal.returns-in-lock
+returns-in-lock c =
+    let e : c.args.line.now ≡ codes "lock" = text_from_reads c.args.line.now (codes "lock") (omega arith) (search rules) in rw e refl

@@ -2,7 +2,7 @@ use Rattle.std.proofs.Common.{◌≡◌, ◌<◌, [], ◌∷◌, ◌∙◌, leng
 use Rattle.std.proofs.lemmas.List.{length-take-le}
 use Rattle.topology.specs.Ranges.{ranges_of}
 use Rattle.socket_links.specs.Links.{waiting, unsent}
-use Rattle.socket_links.proofs.Flowing.{pulls_look, pushes_look, pulls_later, pushes_none, flows_got, gave_bytes, asked}
+use Rattle.socket_links.proofs.Flowing.{pulls_look, pushes_look, pulls_later, pushes_none, flows_got, gave_bytes, asked, no_frame}
 use Rattle.socket_links.proofs.link.SocketLink.pull.Goals as goal
 
 pub returns-in_default-pipe-clause-pulled : goal.returns-in_default-pipe-clause-pulled
@@ -71,3 +71,27 @@ pub returns-in-Failed-clause-pulled : goal.returns-in-Failed-clause-pulled
 returns-in-Failed-clause-pulled g c =
     let was : c.args.self.now.pipe ≡ Some c.in-Some-pipe.pipe = sym c.look.ensures.pipe ∙ c.in-Some-pipe.is in
     (rw was (c.try_read.new.self, inr c.in-Failed.ensures.reads.2), c.let_go-in-Failed.ensures.0, c.let_go-in-Failed.ensures.1)
+
+pub returns-in_default-pipe-clause-kept_first : goal.returns-in_default-pipe-clause-kept_first
+returns-in_default-pipe-clause-kept_first g c = λ half is some.
+    absurd (some (no_frame _ c.args.self.now.reader c.look.new.self.reader _ _ c.in_default.ensures.looked c.in_default.ensures.all half is))
+
+pub returns-in-Some-look-clause-kept_first : goal.returns-in-Some-look-clause-kept_first
+returns-in-Some-look-clause-kept_first g c = λ half is some.
+    absurd (some (no_frame _ c.args.self.now.reader c.look.new.self.reader _ _ c.in_default.ensures.looked c.in_default.ensures.all half is))
+
+pub returns-in-None-clause-kept_first : goal.returns-in-None-clause-kept_first
+returns-in-None-clause-kept_first g c = λ half is some.
+    absurd (some (no_frame _ c.args.self.now.reader c.look.new.self.reader _ _ c.in_default.ensures.looked c.in_default.ensures.all half is))
+
+pub returns-in-Later-clause-kept_first : goal.returns-in-Later-clause-kept_first
+returns-in-Later-clause-kept_first g c = λ half is some.
+    absurd (some (no_frame _ c.args.self.now.reader c.look.new.self.reader _ _ c.in_default.ensures.looked c.in_default.ensures.all half is))
+
+pub returns-in-Closed-clause-kept_first : goal.returns-in-Closed-clause-kept_first
+returns-in-Closed-clause-kept_first g c = λ half is some.
+    absurd (some (no_frame _ c.args.self.now.reader c.look.new.self.reader _ _ c.in_default.ensures.looked c.in_default.ensures.all half is))
+
+pub returns-in-Failed-clause-kept_first : goal.returns-in-Failed-clause-kept_first
+returns-in-Failed-clause-kept_first g c = λ half is some.
+    absurd (some (no_frame _ c.args.self.now.reader c.look.new.self.reader _ _ c.in_default.ensures.looked c.in_default.ensures.all half is))
