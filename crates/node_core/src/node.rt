@@ -21,7 +21,7 @@ ghost use Rattle.node_core.specs.View.{NodeView, site_in, state_of};
 
 use crate::machines::{move_machines, ring_towards, some_may_copy, some_may_move, tree};
 use crate::own::new_own;
-use crate::status::{push_number, push_number_or_none};
+use crate::status::{push_number, push_number_or_none, push_yes_or_no};
 use crate::ticked::Ticked;
 use arrayvec::ArrayString;
 use data_link::Item;
@@ -508,17 +508,24 @@ impl<A: Allocator> Node<A> {
         ensures rest { drop result line.new ≡ drop result line.old }
         ensures within { result ≤ 96 }
     {
+        let text = self.status_text();
+        let count = text.len();
+        line[..count].copy_from_slice(text.as_bytes());
+        count
+    }
+
+    /// The node's status line.
+    fn status_text(&self) -> ArrayString<96>
+        ensures { result.bytes ≡ status_line (site_in self.now) (state_of self.now) }
+    {
         let mut text = ArrayString::<96>::new();
         push_number(&mut text, "node ", self.id);
         push_number(&mut text, " distance ", self.distance);
         push_number_or_none(&mut text, " parent ", self.parent);
-        text.push_str(" token ");
-        text.push_str(if self.privileged() { "yes" } else { "no" });
+        push_yes_or_no(&mut text, " token ", self.privileged());
         push_number_or_none(&mut text, " lent ", self.desk.lent());
         push_number(&mut text, " waiting ", self.desk.waiting() as u16);
         text.push_str("\n");
-        let count = text.len();
-        line[..count].copy_from_slice(text.as_bytes());
-        count
+        text
     }
 }
