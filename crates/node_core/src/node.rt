@@ -75,12 +75,14 @@ impl<A: Allocator + Copy> Node<A> {
         ensures site { IfOk result (λ node. site_in node ≡ site_of net.now id) }
         ensures state { IfOk result (λ node. state_of node ≡ default_node (ranges_of net.now)) }
     {
+        let is_root = id == net.root();
+        let distance = net.nodes();
         let registers = Registers::new(alloc, net, id)?;
         let desk = Desk::new(alloc, net.lease())?;
         Ok(Node {
             id,
-            is_root: id == net.root(),
-            distance: net.nodes(),
+            is_root,
+            distance,
             parent: None,
             registers,
             desk,
@@ -276,7 +278,7 @@ impl<A: Allocator> Node<A> {
         ensures site { site_in self.new ≡ site_in self.old }
     {
         let nodes = self.registers.ranges().nodes;
-        if distance > nodes || parent.is_some_and(|id| id >= nodes) {
+        if distance > nodes || matches!(parent, Some(id) if id >= nodes) {
             return Err(OutOfRange);
         }
         self.distance = distance;
@@ -356,10 +358,7 @@ impl<A: Allocator> Node<A> {
         ensures out_of_range { OnErr result (self.new ≡ self.old) }
         ensures site { site_in self.new ≡ site_in self.old }
     {
-        match self.desk.set_loan(lent, left, served) {
-            Ok(()) => Ok(()),
-            Err(_refused) => Err(OutOfRange),
-        }
+        self.desk.set_loan(lent, left, served).or(Err(OutOfRange))
     }
 
     /// Writes the tickets that wait, the next one first. `OutOfRange` comes exactly if they are
@@ -376,10 +375,7 @@ impl<A: Allocator> Node<A> {
         ensures out_of_range { OnErr result (self.new ≡ self.old) }
         ensures site { site_in self.new ≡ site_in self.old }
     {
-        match self.desk.set_waiting(tickets) {
-            Ok(()) => Ok(()),
-            Err(_refused) => Err(OutOfRange),
-        }
+        self.desk.set_waiting(tickets).or(Err(OutOfRange))
     }
 
     /// What the node has to say to the node `port` now: its distance, its parent, and its part of the
