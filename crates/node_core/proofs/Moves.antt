@@ -1,10 +1,10 @@
 -- The machines move one after the other as they would all at once.
-use Rattle.std.proofs.Common.{◌≡◌, ℕ, ◌+◌, ◌<◌, ◌≤◌, Bool, true, false, ◌&&◌, ◌||◌, ◌==◌, List, Option, refl, sym, ap, ◌∙◌, arith, inl, inr, get_or, length, take, if◌then◌else◌}
+use Rattle.std.proofs.Common.{◌≡◌, ℕ, ◌+◌, ◌<◌, ◌≤◌, Bool, true, false, ◌&&◌, ◌||◌, ◌==◌, List, Option, Contains, refl, sym, ap, ◌∙◌, arith, inl, inr, get_or, length, take, if◌then◌else◌}
 use Rattle.std.proofs.Math.Path.{fun_ext}
 use Rattle.std.specs.List.Sorted.{IsStrictlyIncreasing}
 use Rattle.std.proofs.lemmas.Grind.{common_steps, get_or_default_zero}
 use Rattle.std.proofs.lemmas.Bool.{cases_Bool}
-use Rattle.std.proofs.lemmas.List.{length-take, get_or-take, take_all}
+use Rattle.std.proofs.lemmas.List.{length-take, get_or-take, get_or_default, take_all}
 use Rattle.std.proofs.lemmas.List.Folds.{list_any_more}
 use Rattle.std.proofs.lemmas.List.Kept.{AllPairs-from_increasing}
 use Rattle.registers.specs.topology.At.{at}
@@ -17,6 +17,10 @@ use Rattle.node_core.proofs.OnTree.{on-from_Contains, Contains-from_on}
 -- values x of which those at places of `done` that pass q have become m
 abbrev pub moved_at : (done : List ℕ) (q : ℕ → Bool) (m x : ℕ → ℕ) → ℕ → ℕ
 moved_at done q m x t = if is_on done t && q t then m t else x t
+
+-- what stands at a place of a list is on it
+pub standing : (ns near : List ℕ) (k : ℕ) → near ≡ ns → k < length ns → Contains ns (get_or near k 0)
+standing ns near k are within = rw are (k, within, get_or_default ns k (get_or ns k 0) 0 within)
 
 -- in an ascending list what stands at a place stands at none before
 pub not_before : (ns : List ℕ) (k : ℕ) → IsStrictlyIncreasing ns → k < length ns → is_on (take k ns) (get_or ns k 0) ≡ false

@@ -1,10 +1,10 @@
 -- A test on the tree neighbours is a test on all neighbours.
-use Rattle.std.proofs.Common.{◌≡◌, ℕ, Bool, true, false, ◌&&◌, IsTrue, List, [], ◌∷◌, filter, Contains, arith, refl, sym, ◌∙◌, ◌==◌, subst, get_or, take, ◌<◌, ◌≤◌, length}
+use Rattle.std.proofs.Common.{◌≡◌, ℕ, ◌+◌, Bool, true, false, ◌&&◌, IsTrue, List, [], ◌∷◌, filter, Contains, arith, refl, sym, ◌∙◌, ◌==◌, subst, get_or, take, ◌<◌, ◌≤◌, length}
 use Rattle.std.specs.List.{list_any}
 use Rattle.std.proofs.lemmas.Bool.{eq-eqb, eqb-true}
 use Rattle.std.proofs.lemmas.Bool.Decides.{nat_tests}
 use Rattle.std.proofs.lemmas.List.{take_all}
-use Rattle.std.proofs.lemmas.List.Folds.{Any-from_list_any, list_any_at}
+use Rattle.std.proofs.lemmas.List.Folds.{Any-from_list_any, list_any_at, list_any_more}
 use Rattle.euler_ring.specs.Cycle.{is_on}
 
 -- two tests that follow from each other are the same
@@ -59,6 +59,11 @@ none_on ts ns q k inside past none =
     let whole : take k ns ≡ ns = take_all k ns past in
     let found : list_any (λ w. is_on ts w && q w) ns ≡ false = rw whole at none in
     sym found ∙ any_on ts ns q inside
+
+-- none of those up to here, so far
+pub none_more : (p : ℕ → Bool) (ns : List ℕ) (k : ℕ) → k < length ns → list_any p (take k ns) ≡ false → false ≡ p (get_or ns k 0)
+    → list_any p (take (k + 1) ns) ≡ false
+none_more p ns k within none fails = list_any_more p ns k 0 within ∙ rw (none, ← fails) refl
 
 -- a test of each neighbour that passes another test is one of those that pass it
 pub any_passing : (p q : ℕ → Bool) (ns : List ℕ) → list_any (λ w. p w && q w) ns ≡ list_any q (filter p ns)

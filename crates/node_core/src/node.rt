@@ -21,7 +21,7 @@ ghost use Rattle.node_core.specs.View.{NodeView, site_in, state_of};
 
 use crate::machines::{move_machines, ring_towards, some_may_copy, some_may_move, tree};
 use crate::own::new_own;
-use crate::status::{push_number, push_number_or_none};
+use crate::status::{push_number, push_number_or_none, push_yes_or_no};
 use crate::ticked::Ticked;
 use arrayvec::ArrayString;
 use data_link::Item;
@@ -75,12 +75,14 @@ impl<A: Allocator + Copy> Node<A> {
         ensures site { IfOk result (λ node. site_in node ≡ site_of net.now id) }
         ensures state { IfOk result (λ node. state_of node ≡ default_node (ranges_of net.now)) }
     {
+        let is_root = id == net.root();
+        let distance = net.nodes();
         let registers = Registers::new(alloc, net, id)?;
         let desk = Desk::new(alloc, net.lease())?;
         Ok(Node {
             id,
-            is_root: id == net.root(),
-            distance: net.nodes(),
+            is_root,
+            distance,
             parent: None,
             registers,
             desk,
@@ -276,7 +278,7 @@ impl<A: Allocator> Node<A> {
         ensures site { site_in self.new ≡ site_in self.old }
     {
         let nodes = self.registers.ranges().nodes;
-        if distance > nodes || parent.is_some_and(|id| id >= nodes) {
+        if distance > nodes || matches!(parent, Some(id) if id >= nodes) {
             return Err(OutOfRange);
         }
         self.distance = distance;
@@ -356,10 +358,7 @@ impl<A: Allocator> Node<A> {
         ensures out_of_range { OnErr result (self.new ≡ self.old) }
         ensures site { site_in self.new ≡ site_in self.old }
     {
-        match self.desk.set_loan(lent, left, served) {
-            Ok(()) => Ok(()),
-            Err(_refused) => Err(OutOfRange),
-        }
+        self.desk.set_loan(lent, left, served).or(Err(OutOfRange))
     }
 
     /// Writes the tickets that wait, the next one first. `OutOfRange` comes exactly if they are
@@ -376,10 +375,7 @@ impl<A: Allocator> Node<A> {
         ensures out_of_range { OnErr result (self.new ≡ self.old) }
         ensures site { site_in self.new ≡ site_in self.old }
     {
-        match self.desk.set_waiting(tickets) {
-            Ok(()) => Ok(()),
-            Err(_refused) => Err(OutOfRange),
-        }
+        self.desk.set_waiting(tickets).or(Err(OutOfRange))
     }
 
     /// What the node has to say to the node `port` now: its distance, its parent, and its part of the
@@ -508,17 +504,24 @@ impl<A: Allocator> Node<A> {
         ensures rest { drop result line.new ≡ drop result line.old }
         ensures within { result ≤ 96 }
     {
+        let text = self.status_text();
+        let count = text.len();
+        line[..count].copy_from_slice(text.as_bytes());
+        count
+    }
+
+    /// The node's status line.
+    fn status_text(&self) -> ArrayString<96>
+        ensures { result.bytes ≡ status_line (site_in self.now) (state_of self.now) }
+    {
         let mut text = ArrayString::<96>::new();
         push_number(&mut text, "node ", self.id);
         push_number(&mut text, " distance ", self.distance);
         push_number_or_none(&mut text, " parent ", self.parent);
-        text.push_str(" token ");
-        text.push_str(if self.privileged() { "yes" } else { "no" });
+        push_yes_or_no(&mut text, " token ", self.privileged());
         push_number_or_none(&mut text, " lent ", self.desk.lent());
         push_number(&mut text, " waiting ", self.desk.waiting() as u16);
         text.push_str("\n");
-        let count = text.len();
-        line[..count].copy_from_slice(text.as_bytes());
-        count
+        text
     }
 }

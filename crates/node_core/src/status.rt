@@ -1,7 +1,7 @@
 //! The line of text that shows a node.
 ghost use Rattle.std.specs.Prelude.{◌≡◌, ◌≤◌, ◌+◌, ◌++◌, length, decimal};
 ghost use Rattle.arrayvec.specs.ArrayString.{array_string_len};
-ghost use Rattle.node_core.specs.Status.{number_or_none};
+ghost use Rattle.node_core.specs.Status.{number_or_none, yes_or_no};
 
 use arrayvec::ArrayString;
 use itoa::Buffer;
@@ -31,5 +31,20 @@ pub fn push_number_or_none(text: &mut ArrayString<96>, name: &str, number: Optio
             text.push_str(name);
             text.push_str("none");
         }
+    }
+}
+
+/// Adds a name, and `yes` or `no`.
+pub fn push_yes_or_no(text: &mut ArrayString<96>, name: &str, is_so: bool)
+    requires { array_string_len text.old + length name.now + 3 ≤ 96 }
+    ensures bytes { text.new.bytes ≡ text.old.bytes ++ name.now ++ yes_or_no is_so }
+    // `yes` has 3 letters.
+    ensures short { array_string_len text.new ≤ array_string_len text.old + length name.now + 3 }
+{
+    text.push_str(name);
+    if is_so {
+        text.push_str("yes");
+    } else {
+        text.push_str("no");
     }
 }

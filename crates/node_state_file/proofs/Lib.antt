@@ -1,5 +1,6 @@
 pub mod Accepted
 pub mod Ascending
+pub mod Faults
 pub mod Fits
 pub mod Ports
 pub mod ReadAgain

@@ -72,6 +72,13 @@ fn read_front<F: Files>(files: &F, path: &str, buffer: &mut [u8; LOADED_BYTES]) 
         return Err(io::Error::from(ErrorKind::InvalidInput));
     }
     let mut file = fs::File::open(files, path)?;
+    fill(&mut file, buffer)
+}
+
+/// Fills the buffer, or as much of it as there are bytes for, and says how many.
+fn fill<R: Read>(file: &mut R, buffer: &mut [u8; LOADED_BYTES]) -> io::Result<usize>
+    ensures { IfOk result (λ count. count ≤ 1277) }
+{
     let mut count = 0;
     while count < LOADED_BYTES {
         let read = file.read(&mut buffer[count..])?;
@@ -85,16 +92,26 @@ fn read_front<F: Files>(files: &F, path: &str, buffer: &mut [u8; LOADED_BYTES]) 
 
 /// Writes all of a plain file in place, in one write, and then its length if that differs.
 fn write_in_place<F: Files>(files: &F, path: &str, bytes: &[u8]) -> io::Result<()> {
-    match fs::metadata(files, path) {
-        Ok(found) if !found.is_file() => return Err(io::Error::from(ErrorKind::InvalidInput)),
-        Err(error) if error.kind() != ErrorKind::NotFound => return Err(error),
-        _ => {}
-    }
+    look_for_others(files, path)?;
     let mut file = OpenOptions::new()
         .write(true)
         .create(true)
         .mode(0o600)
         .open(files, path)?;
+    overwrite(&mut file, bytes)
+}
+
+/// Fails if something else than a plain file stands at a path; nothing may stand there.
+fn look_for_others<F: Files>(files: &F, path: &str) -> io::Result<()> {
+    match fs::metadata(files, path) {
+        Ok(found) if !found.is_file() => Err(io::Error::from(ErrorKind::InvalidInput)),
+        Err(error) if error.kind() != ErrorKind::NotFound => Err(error),
+        _ => Ok(()),
+    }
+}
+
+/// Writes all of an open file in one write, and then its length if that differs.
+fn overwrite<O: OpenFile + Write>(file: &mut O, bytes: &[u8]) -> io::Result<()> {
     if file.write(bytes)? < bytes.len() {
         return Err(io::Error::from(ErrorKind::WriteZero));
     }

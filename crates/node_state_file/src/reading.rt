@@ -1,5 +1,5 @@
 //! Bytes are read as a node's state.
-ghost use Rattle.std.specs.Prelude.{◌≡◌, ◌≢◌, ◌≤◌, ◌<◌, ◌+◌, ◌*◌, Ok, Err, IfOk, IfErr, IsTrue};
+ghost use Rattle.std.specs.Prelude.{◌≡◌, ◌≢◌, ◌≤◌, ◌<◌, ◌+◌, ◌*◌, Ok, Err, Some, IfOk, IfErr, IsTrue};
 ghost use Rattle.std.specs.Prelude.{Contains, nat_lt, not, ◌&&◌, ◌==◌, length};
 ghost use Rattle.std.specs.List.{list_all};
 ghost use Rattle.topology.specs.Network.{neighbours_of};
@@ -8,7 +8,7 @@ ghost use Rattle.topology.specs.At.{at};
 ghost use Rattle.state_writing.specs.node_core.Site.{site_of};
 ghost use Rattle.state_writing.specs.node_core.State.{default_node};
 ghost use Rattle.state_writing.specs.node_core.View.{site_in, state_of};
-ghost use Rattle.node_state_file.specs.Reading.{decoded, ids_of, ports_in, are_ascending};
+ghost use Rattle.node_state_file.specs.Reading.{decoded, decoded_as, first_fault, ids_of, ports_in, are_ascending};
 ghost use Rattle.node_state_file.specs.Reading.{are_others, fields_fit, found, matched};
 ghost use Rattle.node_state_file.specs.Reading.{port_or_new, saved_port_fits};
 ghost use Rattle.node_state_file.specs.declared.fault.FileFault.TheVariants.{Memory};
@@ -17,7 +17,7 @@ use crate::fault::FileFault;
 use crate::layout::{header_length, layout_of};
 use crate::saved::{Header, SavedPort};
 use arrayvec::ArrayVec;
-use state_writing::NodeState;
+use state_writing::{Layout, NodeState};
 use std::alloc::Allocator;
 use topology::{Net, Ranges};
 
@@ -68,13 +68,28 @@ pub(crate) fn read_file<N: Allocator + Copy>(
         (λ saved. IsTrue (fields_fit (ranges_of net.now) saved.header saved.ports.items)) }
     ensures err { IfErr result (λ fault. decoded net.now id bytes.now ≡ Err fault) }
 {
-    let Some(layout) = layout_of(bytes) else {
-        return Err(if bytes.len() < 4 {
-            FileFault::Short
-        } else {
-            FileFault::Magic
-        });
-    };
+    match layout_of(bytes) {
+        Some(layout) => read_as(layout, bytes, net, id),
+        None if bytes.len() < 4 => Err(FileFault::Short),
+        None => Err(FileFault::Magic),
+    }
+}
+
+/// What a file of this layout says of node `id` of a network; all of it is in range.
+fn read_as<N: Allocator + Copy>(
+    layout: Layout,
+    bytes: &[u8],
+    net: &Net<N>,
+    id: u16,
+) -> Result<SavedState, FileFault>
+    ensures ok { IfOk result
+        (λ saved. decoded_as net.now id bytes.now layout
+        (first_fault net.now id layout bytes.now)
+        ≡ Ok (matched net.now id saved.header saved.ports.items)) }
+    ensures fits { IfOk result
+        (λ saved. IsTrue (fields_fit (ranges_of net.now) saved.header saved.ports.items)) }
+    ensures err { IfErr result (λ fault. first_fault net.now id layout bytes.now ≡ Some fault) }
+{
     if bytes.len() < header_length(layout) {
         return Err(FileFault::Short);
     }
@@ -91,7 +106,7 @@ pub(crate) fn read_file<N: Allocator + Copy>(
     if !are_others(&ports, net.nodes(), id) {
         return Err(FileFault::Shape);
     }
-    if !(header.fits(net.ranges()) && ports_fit(&ports, net.ranges())) {
+    if !fields_fit(&header, &ports, net.ranges()) {
         return Err(FileFault::Range);
     }
     if rest.len() > needed {
@@ -140,6 +155,13 @@ fn are_other_nodes(ports: &[SavedPort], nodes: u16, id: u16) -> bool
     ports
         .iter()
         .all(|port| port.neighbour < nodes && port.neighbour != id)
+}
+
+/// Whether each field is in its range.
+fn fields_fit(header: &Header, ports: &[SavedPort], ranges: Ranges) -> bool
+    ensures { result ≡ fields_fit ranges header.now ports.now }
+{
+    header.fits(ranges) && ports_fit(ports, ranges)
 }
 
 /// Whether each field of each port is in its range.

@@ -2,11 +2,13 @@
 use Rattle.std.proofs.Common.{◌≡◌, ◌≢◌, ◌∙◌, ◌↔◌, ap, sym, subst, Bool, Result, Ok, Err, IsOk, OnOk, OnErr, ℕ, ◌<◌, arith, refl, IsTrue, List, length, Contains, slice_set, slice_index_or}
 use Rattle.std.proofs.Math.Path.{fun_ext}
 use Rattle.std.proofs.lemmas.Grind.{common_steps}
-use Rattle.std.proofs.lemmas.List.{length-set}
+use Rattle.std.proofs.lemmas.List.{length-set, set-get_or}
 use Rattle.std.proofs.lemmas.List.Elements.{All-set, All-contains}
 use Rattle.link_port.specs.topology.At.{at}
 use Rattle.link_port.specs.topology.declared.frame.Ranges.{Ranges}
-use Rattle.link_port.specs.Port.{PortState, PortView, port_fits}
+use Rattle.link_port.specs.topology.declared.frame.Frame.{Frame}
+use Rattle.link_port.specs.topology.declared.frame.Payload.{Payload}
+use Rattle.link_port.specs.Port.{PortState, PortView, port_after, port_fits}
 use Rattle.registers.specs.Registers.{RegistersView, IsPortOf, IsRegisters, port_of, value_of}
 
 -- the registers with another port at place w, and with another value there
@@ -37,6 +39,13 @@ other_value r w x v ne = grind (arith, common_steps)
 -- a neighbour is a node
 pub neighbour_is_node : (r : RegistersView) (w : ℕ) → IsRegisters r → Contains r.neighbours w → w < r.ranges.nodes
 neighbour_is_node r w ok near = All-contains (λ v. v < r.ranges.nodes) r.neighbours w ok.neighbours_in near
+
+-- so it has a place among as many ports, or values, as there are nodes
+pub port_place : (r : RegistersView) (w n : ℕ) → IsRegisters r → Contains r.neighbours w → n ≡ length r.ports → w < n
+port_place r w n ok near long = omega (arith, neighbour_is_node r w ok near, ok.ports)
+
+pub value_place : (r : RegistersView) (w n : ℕ) → IsRegisters r → Contains r.neighbours w → n ≡ length r.values → w < n
+value_place r w n ok near long = omega (arith, neighbour_is_node r w ok near, ok.values)
 
 -- another node than w, if w is in the list and it is not
 other_than : (ns : List ℕ) (w v : ℕ) → Contains ns w → ¬ Contains ns v → v ≢ w
@@ -112,6 +121,37 @@ registers-written r w was new change fits result ok near read variant is same go
     let had : IsPortOf r.ranges was = subst (IsPortOf r.ranges) (sym read) (ok.ports_fit w was within) in
     let variant_here = subst (λ ranges. IsOk result ↔ IsTrue (fits ranges)) had.same variant in
     registers-with_port r w new ok near (port_kept r.ranges was new change (fits r.ranges) result had variant_here is same (good had))
+
+-- a port's ranges are those of all
+port_here : (r : RegistersView) (w : ℕ) (was : PortView) → IsRegisters r → Contains r.neighbours w → was ≡ slice_index_or r.ports w was → was.ranges ≡ r.ranges
+port_here r w was ok near read = ap (λ p. p.ranges) (port_read r w was ok near read)
+
+-- and it fits them
+pub port_had : (r : RegistersView) (w : ℕ) (was : PortView) → IsRegisters r → Contains r.neighbours w → was ≡ slice_index_or r.ports w was → IsPortOf r.ranges was
+port_had r w was ok near read = subst (IsPortOf r.ranges) (sym read) (ok.ports_fit w was (port_place r w (length r.ports) ok near refl))
+
+pub fits_here : (r : RegistersView) (w : ℕ) (was : PortView) (fits : Ranges → Bool) → IsRegisters r → Contains r.neighbours w → was ≡ slice_index_or r.ports w was
+    → IsTrue (fits r.ranges) → IsTrue (fits was.ranges)
+fits_here r w was fits ok near read fit = subst (λ ranges. IsTrue (fits ranges)) (sym (port_here r w was ok near read)) fit
+
+-- what it makes of a frame fits too
+pub port_heard : (r : RegistersView) (w : ℕ) (was new : PortView) (frame : Frame) (present : Payload) → IsRegisters r → Contains r.neighbours w → was ≡ slice_index_or r.ports w was
+    → new ≡ record was { state = port_after was.ranges.counter was.state frame present }
+    → (IsTrue (port_fits r.ranges was.state) → IsTrue (port_fits r.ranges (port_after r.ranges.counter was.state frame present))) → IsPortOf r.ranges new
+port_heard r w was new frame present ok near read is law =
+    let had = port_had r w was ok near read in
+    let fit : IsTrue (port_fits r.ranges (port_after was.ranges.counter was.state frame present)) = rw had.same (law had.fits) in
+    rw is (record { same = had.same; fits = fit })
+
+-- so it refuses what does not fit them
+pub refused_here : (r : RegistersView) (w : ℕ) (was : PortView) (Q : Type 0) (fits : Ranges → Bool) → IsRegisters r → Contains r.neighbours w → was ≡ slice_index_or r.ports w was
+    → (Q ↔ IsTrue (fits was.ranges)) → Q ↔ IsTrue (fits r.ranges)
+refused_here r w was Q fits ok near read variant = subst (λ ranges. Q ↔ IsTrue (fits ranges)) (port_here r w was ok near read) variant
+
+-- and then nothing has changed
+pub unchanged_on_err : {X E : Type 0} (r : RegistersView) (w : ℕ) (was new : PortView) (result : Result X E) → was ≡ slice_index_or r.ports w was → OnErr result (new ≡ was) → OnErr result (with_port r w new ≡ r)
+unchanged_on_err r w was new (Ok x) read same = tt
+unchanged_on_err r w was new (Err e) read same = ap (λ ports. record r { ports = ports }) (ap (slice_set r.ports w) (same ∙ read) ∙ set-get_or r.ports w was)
 
 -- the same of values
 pub value_written : (r : RegistersView) (w x : ℕ) → IsRegisters r → Contains r.neighbours w → value_of (with_value r w x) ≡ at (value_of r) w x

@@ -1,5 +1,5 @@
 -- What a node starts with are registers.
-use Rattle.std.proofs.Common.{◌≡◌, ℕ, ◌<◌, ap, get_or, inl, inr, arith, rules, refl, replicate}
+use Rattle.std.proofs.Common.{◌≡◌, ℕ, ◌<◌, ap, List, get_or, inl, inr, arith, rules, refl, replicate}
 use Rattle.std.proofs.Math.Path.{fun_ext}
 use Rattle.std.specs.List.{range_with_len}
 use Rattle.std.proofs.lemmas.Bool.{cases_lt}
@@ -8,6 +8,7 @@ use Rattle.std.proofs.lemmas.List.Elements.{All-replicate, All-filter}
 use Rattle.std.proofs.lemmas.List.FromFn.{length-range_with_len, get_or-range_with_len}
 use Rattle.link_port.specs.topology.Network.{Network, IsAcceptedNetwork, are_joined, neighbours_of, ring_of}
 use Rattle.link_port.specs.topology.Laws.{NeighboursAscend}
+use Rattle.link_port.specs.topology.declared.frame.Ranges.{Ranges}
 use Rattle.link_port.specs.topology.Ranges.{ranges_of}
 use Rattle.link_port.specs.Port.{PortView, default_port}
 use Rattle.registers.specs.Registers.{RegistersView, IsPortOf, IsRegisters, port_of, value_of}
@@ -30,6 +31,12 @@ same_read n i x = elim (cases_lt i n) [
   | inl within ↦ get_or-replicate n i x x within
   | inr past ↦ get_or_past (replicate n x) i x (omega (arith, length-replicate n x, past))
 ]
+
+-- as they are put together
+pub is_start : (net : Network) (v : ℕ) (ranges : Ranges) (neighbours : List ℕ) (ports : List PortView) (values : List ℕ)
+    → ranges ≡ ranges_of net → neighbours ≡ neighbours_of net v → ports ≡ replicate net.nodes (default_view net) → values ≡ replicate net.nodes 0
+    → record { ranges = ranges; neighbours = neighbours; ports = ports; values = values } ≡ start_of net v
+is_start net v ranges neighbours ports values r n p x = cc
 
 pub port_of-start : (net : Network) (v : ℕ) → port_of (start_of net v) ≡ (λ w. default_port (ranges_of net))
 port_of-start net v = fun_ext (λ w. ap (λ p. p.state) (same_read net.nodes w (default_view net)))

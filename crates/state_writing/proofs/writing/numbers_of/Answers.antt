@@ -1,5 +1,6 @@
 use Rattle.std.proofs.Common.{arith, ◌≡◌, ◌≤◌, ◌+◌, ◌∙◌, ap, ◌++◌, length, take}
 use Rattle.std.specs.List.{flat_map}
+use Rattle.std.proofs.lemmas.List.{take_all}
 use Rattle.arrayvec.specs.ArrayVec.{array_vec_len}
 use Rattle.topology.specs.Network.{neighbours_of}
 use Rattle.node_core.specs.Site.{Site}
@@ -41,6 +42,23 @@ loop-w-preserved g c =
           ∙ port_more f header ns i c.loop-w-test.true,
       omega (arith, on_ok r fits put.len, ten, count),
     )
+
+pub returns-clause-numbers : goal.returns-clause-numbers
+returns-clause-numbers g c =
+    let net = c.args.net.now in
+    let s = state_of c.args.node.now in
+    let id = (site_in c.args.node.now).id in
+    let ns = c.neighbours-neighbours.result.now in
+    let ns_are : ns ≡ neighbours_of net id = c.neighbours-neighbours.ensures ∙ ap (neighbours_of net) c.id.ensures in
+    c.loop-w.invariant.0
+    ∙ ap (λ ws. header_numbers Tkt2 net id (length ns) s ++ flat_map (port_numbers s) ws) (take_all c.loop-w.w-index ns c.loop-w-test.false)
+    ∙ ap (λ ws. header_numbers Tkt2 net id (length ws) s ++ flat_map (port_numbers s) ws) ns_are
+
+pub returns-clause-count : goal.returns-clause-count
+returns-clause-count g c =
+    let net = c.args.net.now in
+    let ns_are : c.neighbours-neighbours.result.now ≡ neighbours_of net (site_in c.args.node.now).id = c.neighbours-neighbours.ensures ∙ ap (neighbours_of net) c.id.ensures in
+    omega (arith, c.loop-w.invariant.1, c.loop-w-test.false, c.loop-w.auto.w-index-end, ap length ns_are)
 
 pub returns-clause-few : goal.returns-clause-few
 returns-clause-few g c = c.header_numbers.ensures.few

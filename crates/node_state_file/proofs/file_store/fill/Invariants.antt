@@ -1,5 +1,5 @@
 use Rattle.std.proofs.Common.{◌≤◌, ◌-◌}
-use Rattle.node_state_file.proofs.file_store.read_front.Given as goal
+use Rattle.node_state_file.proofs.file_store.fill.Given as goal
 
 -- no more was read than there is room for
 abbrev pub invariant-loop-count : goal.invariant-loop-count
