@@ -72,17 +72,14 @@ fn push_line(text: &mut String, answer: &NodeAnswer) -> Result<(), AllocError>
 fn privileged(answers: &[NodeAnswer]) -> usize
     ensures { result ≡ length (filter is_privileged answers.now) }
 {
-    answers
-        .iter()
-        .filter(|answer| is_privileged(answer))
-        .count()
+    answers.iter().copied().filter(is_privileged).count()
 }
 
 /// How many lend.
 fn lending(answers: &[NodeAnswer]) -> usize
     ensures { result ≡ length (filter lends answers.now) }
 {
-    answers.iter().filter(|answer| lends(answer)).count()
+    answers.iter().copied().filter(lends).count()
 }
 
 /// Whether a node says that it is privileged.
