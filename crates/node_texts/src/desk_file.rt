@@ -47,14 +47,18 @@ pub fn nodes_in<R: Files + AllocGlobal>(rt: &R, folder: &str) -> io::Result<Vec<
     ensures { IfOk result (λ nodes. IsSorted nat_cmp nodes.items) }
 {
     let mut nodes = Vec::new(rt.alloc());
-    add_nodes(rt, folder, &mut nodes)?;
+    add_nodes(&rt, folder, &mut nodes)?;
     nodes.sort_unstable();
     Ok(nodes)
 }
 
 /// Adds the nodes of the sockets in a folder.
-fn add_nodes<R: Files + AllocGlobal>(rt: &R, folder: &str, nodes: &mut Vec<u16>) -> io::Result<()> {
-    for entry in fs::read_dir(&rt, folder)? {
+fn add_nodes<F: Files + AllocGlobal + Clone + Drop>(
+    files: &F,
+    folder: &str,
+    nodes: &mut Vec<u16>,
+) -> io::Result<()> {
+    for entry in fs::read_dir(files, folder)? {
         if let Some(node) = node_at(entry) {
             nodes.push(node)?;
         }
