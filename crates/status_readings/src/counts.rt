@@ -1,8 +1,8 @@
 //! How many nodes of a reading say what.
 ghost use Rattle.std.specs.Prelude.{◌≡◌, length, filter};
-ghost use Rattle.node_texts.specs.Report.{is_privileged, lends, has_answered};
+ghost use Rattle.status_readings.specs.Report.{is_privileged, lends, has_answered};
 
-use node_texts::NodeAnswer;
+use crate::answers::NodeAnswer;
 
 /// How many gave their status line.
 pub fn answering(answers: &[NodeAnswer]) -> usize

@@ -3,7 +3,7 @@
 ghost use Rattle.std.specs.Prelude.{◌≡◌, ◌↔◌, ◌<◌, ℕ, IfOk, IfErr, Some, None, IsSorted, string_bytes};
 ghost use Rattle.std.specs.Fs.{dir_entry_name};
 ghost use Rattle.std.specs.Ordering.{nat_cmp};
-ghost use Rattle.node_texts.specs.DeskFile.{desk_path, desk_name, look_path};
+ghost use Rattle.desk_sockets.specs.DeskSockets.{desk_path, desk_name, look_path};
 
 use line_words::number;
 use std::alloc::{AllocError, Global};
