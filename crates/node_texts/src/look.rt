@@ -164,9 +164,9 @@ impl fmt::Display for StatusPart {
             "\"node\":{},\"distance\":{},\"parent\":{},\"token\":{},\"lent\":{},\"waiting\":{}",
             self.0.node,
             self.0.distance,
-            OrWord(self.0.parent.map(u64::from), "null"),
+            OrWord::small(self.0.parent, "null"),
             self.0.token,
-            OrWord(self.0.lent.map(u64::from), "null"),
+            OrWord::small(self.0.lent, "null"),
             self.0.waiting
         )
     }
