@@ -33,7 +33,7 @@ pub fn report(alloc: Global, answers: &[NodeAnswer]) -> Result<String, AllocErro
 }
 
 /// Adds the line that says how many are privileged, and lend.
-fn push_counts(text: &mut String, privileged: usize, lending: usize) -> Result<(), AllocError>
+pub fn push_counts(text: &mut String, privileged: usize, lending: usize) -> Result<(), AllocError>
     ensures { OnOk result (string_bytes text.new
         ≡ string_bytes text.old ++ counts_line privileged lending) }
 {
@@ -44,7 +44,7 @@ fn push_counts(text: &mut String, privileged: usize, lending: usize) -> Result<(
 pub fn all_answered(answers: &[NodeAnswer]) -> bool
     ensures { result ≡ list_all has_answered answers.now }
 {
-    answers.iter().all(|answer| has_answered(answer))
+    answers.iter().all(has_answered)
 }
 
 /// Adds the line of each.
