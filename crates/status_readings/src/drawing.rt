@@ -1,6 +1,5 @@
 //! What a watch shows at a time.
 ghost use Rattle.std.specs.Prelude.{◌≡◌, ◌++◌, IfOk, OnOk, length, filter, string_bytes, Some};
-ghost use Rattle.status_readings.specs.Report.{counts_line, is_privileged, lends};
 ghost use Rattle.status_readings.specs.Picture.{indent, said_text, lent_text, waiting_text, row_text, row_lines};
 ghost use Rattle.status_readings.specs.Picture.{loans_line, rounds_line, rates_lines, picture_text};
 ghost use Rattle.status_readings.specs.Picture.{tenths_text};
