@@ -1,5 +1,5 @@
 -- Small examples of names and lines, and some that look like them and are none.
-use Rattle.std.proofs.Common.{◌≡◌, ◌≢◌, ℕ, List, true, false, [], ◌∷◌, ◌++◌, Some, None, codes, decimal, map, replicate, string_bytes, refl, arith}
+use Rattle.std.proofs.Common.{◌≡◌, ℕ, List, true, false, [], ◌∷◌, ◌++◌, Some, None, codes, decimal, map, replicate, string_bytes, refl, arith}
 use Rattle.std.specs.Fmt.{digits}
 use Rattle.node_texts.specs.declared.lines.End.TheVariants.{Status, Signal, Unknown, Unstarted}
 use Rattle.node_texts.specs.declared.paths.NodePaths.{NodePaths}
