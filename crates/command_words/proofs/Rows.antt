@@ -1,7 +1,6 @@
 -- Small examples of command lines and of how they end, and some that look like them and end otherwise.
-use Rattle.std.proofs.Common.{◌≡◌, ◌≢◌, ℕ, List, true, false, Err, None, [], ◌∷◌, codes, refl, arith}
+use Rattle.std.proofs.Common.{◌≡◌, ◌≢◌, true, false, Err, [], ◌∷◌, codes, refl, arith}
 use Rattle.clap.specs.declared.parser.matches.Found.{Found}
-use Rattle.command_grammar.specs.declared.words.WordFault.{WordFault}
 use Rattle.program_ends.specs.command_faults.declared.fault.Fault.TheVariants.{Closed, Memory}
 use Rattle.command_words.specs.Ends.{asks_for_lock, asks_for_version, is_of_service, kind_fault_text, names_service, refusal_text, schedule_fault_text, serves, status_of}
 use Rattle.command_words.specs.Refused.{IsIdRefused, IsMissing}

@@ -1,8 +1,11 @@
 -- How a command line ends: its status, and what it says if it fails.
-use Rattle.std.specs.Prelude.{ℕ, Bool, false, ◌||◌, List, [], ◌∷◌, Result, Ok, Err, if◌then◌else◌, codes}
+use Rattle.std.specs.Prelude.{ℕ, Bool, false, ◌||◌, List, [], ◌∷◌, Result, Ok, Err, Option, None, Some, if◌then◌else◌, codes}
+use Rattle.std.specs.List.{list_any}
 use Rattle.std.specs.Str.{bytes_eq}
 use Rattle.std.specs.Process.{exit_status}
 use Rattle.std.specs.declared.process.ExitCode.{ExitCode}
+use Rattle.clap.specs.Facts.{aliases_to}
+use Rattle.clap.specs.declared.builder.command.Command.{Command}
 use Rattle.command_grammar.specs.FaultText.{word_fault_text}
 use Rattle.program_ends.specs.command_faults.FaultText.{fault_text}
 use Rattle.program_ends.specs.Ends.{end_status}
@@ -19,9 +22,18 @@ abbrev pub asks_for_lock : List (List ℕ) → Bool
 asks_for_lock (program ∷ command ∷ words) = bytes_eq command (codes "lock")
 asks_for_lock _ = false
 
+-- the word after the program's name, if one of these commands is called so
+abbrev pub known_command : List Command → List (List ℕ) → Option (List ℕ)
+known_command commands (program ∷ name ∷ words) = if list_any (λ c. aliases_to c name) commands then Some name else None
+known_command commands _ = None
+
+-- a word that asks for the version if it stands alone
+abbrev pub is_version : List ℕ → Bool
+is_version word = bytes_eq word (codes "version") || bytes_eq word (codes "-v")
+
 -- the only word after it is `version` or `-v`, or the second of two is `--version`
 abbrev pub asks_for_version : List (List ℕ) → Bool
-asks_for_version (program ∷ word ∷ []) = bytes_eq word (codes "version") || bytes_eq word (codes "-v")
+asks_for_version (program ∷ word ∷ []) = is_version word
 asks_for_version (program ∷ command ∷ word ∷ []) = bytes_eq word (codes "--version")
 asks_for_version _ = false
 

@@ -1,8 +1,9 @@
 //! What the lines of all commands share: whether they name a command of the service, how they are
 //! read, and how they end.
-ghost use Rattle.std.specs.Prelude.{◌≡◌, ◌⊎◌, map};
+ghost use Rattle.std.specs.Prelude.{◌≡◌, ◌⊎◌, map, option_map};
 ghost use Rattle.std.specs.Process.{exit_status};
-ghost use Rattle.command_words.specs.Ends.{asks_for_lock, asks_for_version};
+ghost use Rattle.clap.specs.Facts.{subcommands_of};
+ghost use Rattle.command_words.specs.Ends.{asks_for_lock, asks_for_version, is_version, known_command};
 ghost use Rattle.command_words.specs.Ends.{is_of_service, names_service, serves, status_of};
 
 use crate::program::{ABOUT, NAME, Runtime, VERSION};
@@ -27,15 +28,40 @@ pub fn matches_of<'a, R: Print + Eprint + AllocGlobal, S: AsStr>(
     commands: &[&Grammar<'a>],
 ) -> Result<ArgMatches<'a>, ExitCode> {
     let is_lock = asks_for_lock(words);
-    let Ok(parser) = named_parser(rt.alloc(), help, commands) else {
-        return Err(fails(rt, Fault::Memory, fault_status(is_lock)));
+    match named_parser(rt.alloc(), help, commands) {
+        Ok(parser) => parsed(rt, parser, words, is_lock),
+        Err(_) => Err(fails(rt, Fault::Memory, fault_status(is_lock))),
+    }
+}
+
+/// What a parser made of the words, or the status of a line that showed help or was invalid.
+fn parsed<'a, R: Print + Eprint + AllocGlobal, S: AsStr>(
+    rt: &R,
+    parser: Command<'a>,
+    words: &'a [S],
+    is_lock: bool,
+) -> Result<ArgMatches<'a>, ExitCode> {
+    let command = known_command(&parser, words);
+    match parser.try_get_matches_from(words) {
+        Ok(matches) => Ok(matches),
+        Err(error) => Err(shows(rt, &error, is_lock, command)),
+    }
+}
+
+/// The word after the program's name, if it is a command of this parser.
+fn known_command<'a, S: AsStr>(parser: &Command<'_>, words: &'a [S]) -> Option<&'a str>
+    ensures { option_map (λ name. name.now) result
+        ≡ known_command (subcommands_of parser.now) (map S.text words.now) }
+{
+    let [_, name, ..] = words else {
+        return None;
     };
-    let command = match words {
-        [_, name, ..] if parser.find_subcommand(name.as_str()).is_some() => Some(name.as_str()),
-        _ => None,
-    };
-    let matches = parser.try_get_matches_from(words);
-    matches.map_err(|error| shows(rt, &error, is_lock, command))
+    let name = name.as_str();
+    if parser.find_subcommand(name).is_some() {
+        Some(name)
+    } else {
+        None
+    }
 }
 
 /// The parser of these commands, in whose texts the program has its own name. Its help ends with this text.
@@ -47,13 +73,21 @@ fn named_parser<'a>(
     help: &'a str,
     commands: &[&Grammar<'a>],
 ) -> Result<Command<'a>, AllocError> {
-    let program = Program {
+    parser(alloc, &named_program(help), commands)?.bin_name(NAME)
+}
+
+/// The program by its own name, with a help that ends with this text.
+fn named_program<'a>(help: &'a str) -> Program<'a>
+    ensures texts { (result.name.now ≡ NAME.now) × (result.about.now ≡ ABOUT.now)
+        × (result.version.now ≡ VERSION.now) }
+    ensures help { result.help ≡ help.entry }
+{
+    Program {
         name: NAME,
         about: ABOUT,
         help,
         version: VERSION,
-    };
-    parser(alloc, &program, commands)?.bin_name(NAME)
+    }
 }
 
 /// The status of a command line. If it fails, says why.
@@ -73,15 +107,22 @@ pub fn ends<R: Runtime>(
 
 /// Before a fault's own line, says which file it is and what is wrong with it.
 fn explain<R: Runtime>(rt: &R, given: &ArgMatches, fault: Fault) {
-    let path = match fault {
-        Fault::Network(_) => given.get_str("FILE").or(given.get_str("network")),
-        Fault::EventsUnreadable => given.get_str("EVENTS"),
-        _ => given.get_str("events"),
-    };
-    match (fault, path) {
-        (Fault::Network(fault), Some(file)) => explain_network(rt, file, fault),
-        (Fault::EventsUnreadable, Some(file)) => explain_reading(rt, file),
-        (Fault::EventsUnwritable, Some(file)) => explain_writing(rt, file),
+    match fault {
+        Fault::Network(fault) => {
+            if let Some(file) = given.get_str("FILE").or(given.get_str("network")) {
+                explain_network(rt, file, fault);
+            }
+        }
+        Fault::EventsUnreadable => {
+            if let Some(file) = given.get_str("EVENTS") {
+                explain_reading(rt, file);
+            }
+        }
+        Fault::EventsUnwritable => {
+            if let Some(file) = given.get_str("events") {
+                explain_writing(rt, file);
+            }
+        }
         _ => {}
     }
 }
@@ -90,7 +131,7 @@ fn explain<R: Runtime>(rt: &R, given: &ArgMatches, fault: Fault) {
 pub fn say_version<R: Print + Eprint>(rt: &R) -> ExitCode
     ensures { (exit_status result ≡ 0) ⊎ ((exit_status result ≡ 1) ⊎ (exit_status result ≡ 141)) }
 {
-    print_status(rt, println!(rt; "{NAME} {VERSION}"))
+    print_status(rt, println!(rt; "tokentree {VERSION}"))
 }
 
 /// Whether the whole program leaves these words to the part that serves a lock: they name a command that serves a
@@ -115,13 +156,10 @@ fn names_service<S: AsStr>(words: &[S]) -> bool
 fn serves(name: &str) -> bool
     ensures { result ≡ serves name.now }
 {
-    name == "bound"
-        || name == "network"
-        || name == "lock"
-        || name == "status"
-        || name == "node"
-        || name == "up"
-        || name == "stop"
+    matches!(
+        name,
+        "bound" | "network" | "lock" | "status" | "node" | "up" | "stop"
+    )
 }
 
 /// Whether the word after the program's name is `lock`.
@@ -140,8 +178,15 @@ pub fn asks_for_version<S: AsStr>(words: &[S]) -> bool
     ensures { result ≡ asks_for_version (map S.text words.now) }
 {
     match words {
-        [_, word] => word.as_str() == "version" || word.as_str() == "-v",
+        [_, word] => is_version(word.as_str()),
         [_, _, word] => word.as_str() == "--version",
         _ => false,
     }
+}
+
+/// Whether a word alone asks for the version, in a way that the parser does not know.
+fn is_version(word: &str) -> bool
+    ensures { result ≡ is_version word.now }
+{
+    matches!(word, "version" | "-v")
 }

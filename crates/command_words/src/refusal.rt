@@ -187,13 +187,18 @@ pub fn ended<R: Files + Eprint + AllocGlobal>(
     match done {
         Ok(code) => code,
         Err(fault) => {
-            match fault {
-                PathFault::Fault(Fault::Network(fault)) => explain_network(rt, file, fault),
-                PathFault::Fault(_) => {}
-                PathFault::Unwritable(path) => explain_writing(rt, path),
-            }
+            explain(rt, file, fault);
             let _ = rt.eprintln(PathFaultLine(fault));
             ExitCode::FAILURE
         }
+    }
+}
+
+/// Before a fault's own line, says what is wrong with the network file, or with the file to be written.
+fn explain<R: Files + Eprint + AllocGlobal>(rt: &R, file: &str, fault: PathFault) {
+    match fault {
+        PathFault::Fault(Fault::Network(fault)) => explain_network(rt, file, fault),
+        PathFault::Fault(_) => {}
+        PathFault::Unwritable(path) => explain_writing(rt, path),
     }
 }

@@ -4,8 +4,8 @@ ghost use Rattle.lock_command.specs.Reaching.{IsUnanswered, IsUnread, unread_not
 
 use crate::desk::{DeskAnswer, DeskConnection};
 use crate::notice::Notice;
+use desk_sockets::{desk_path, nodes_in};
 use lock_desk::ClientLine;
-use node_texts::desk_file::{desk_path, nodes_in};
 use std::alloc::AllocError;
 use std::io::ErrorKind;
 use std::net::Net;

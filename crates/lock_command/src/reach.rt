@@ -4,7 +4,7 @@ ghost use Rattle.lock_command.specs.Reaching.{IsUnreached, unreached_notice};
 
 use crate::desk::DeskConnection;
 use crate::notice::Notice;
-use node_texts::desk_file::desk_path;
+use desk_sockets::desk_path;
 use std::io::ErrorKind;
 use std::net::Net;
 use std::rt::{Clock, Files};

@@ -1,8 +1,17 @@
 -- A line of a node's log.
 use Rattle.std.specs.Prelude.{ℕ, Bool, nat_lt, if◌then◌else◌, List, [], ◌++◌, codes, decimal}
+use Rattle.node_log.specs.declared.event.Level.{Level}
 use Rattle.node_log.specs.declared.event.NodeEvent.{NodeEvent}
 use Rattle.node_log.specs.declared.event.NodeEvent.TheVariants as event
 use Rattle.node_log.specs.Events.{level_of, priority_of}
+
+-- how the link to a neighbour is
+abbrev pub link_text : ℕ → List ℕ → List ℕ
+link_text id is = codes "the link to node " ++ (decimal id ++ (codes " is " ++ is))
+
+-- what became of the client with a ticket
+abbrev pub ticket_text : ℕ → List ℕ → List ℕ
+ticket_text ticket said = codes "ticket " ++ (decimal ticket ++ (codes " " ++ said))
 
 abbrev pub event_text : NodeEvent → List ℕ
 event_text event.Begins = codes "begins"
@@ -18,6 +27,10 @@ event_text event.Crowded = codes "128 clients are connected, and further ones ar
 event_text event.Seats = codes "clients may connect again"
 event_text event.Astray = codes "its distance or parent has been wrong for 2 s"
 event_text event.InPlace = codes "its distance and parent are right again"
+
+-- how urgent a line is
+abbrev pub level_text : Level → List ℕ
+level_text level = codes "<" ++ (decimal (priority_of level) ++ codes ">")
 
 -- the priority in angle brackets, as the journal of systemd reads it in front of a line (sd-daemon)
 abbrev pub priority_text : NodeEvent → Bool → List ℕ

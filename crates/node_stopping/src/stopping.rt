@@ -3,8 +3,8 @@ ghost use Rattle.std.specs.Prelude.{◌≡◌, if◌then◌else◌, ◌≤◌};
 
 use crate::lines::{Ending, EndingLine};
 use crate::steps::{LockSight, StopStep, next};
+use desk_sockets::nodes_in;
 use node_texts::NodePaths;
-use node_texts::desk_file::nodes_in;
 use std::fs::{File, OpenOptions};
 use std::io::ErrorKind;
 use std::rt::Files;

@@ -4,10 +4,7 @@ use Rattle.std.specs.Fmt.{digits}
 use Rattle.turn_watch.specs.declared.links.LinkTimes.{LinkTimes}
 use Rattle.turn_watch.specs.declared.loans.LoanTimes.{LoanTimes}
 use Rattle.turn_watch.specs.declared.turns.TurnTimes.{TurnTimes}
-use Rattle.node_texts.specs.declared.status_line.StatusLine.{StatusLine}
 use Rattle.node_texts.specs.declared.look_parts.LinkPart.{LinkPart}
-use Rattle.node_texts.specs.declared.look_parts.LoanPart.{LoanPart}
-use Rattle.node_texts.specs.declared.look_parts.ProcessPart.{ProcessPart}
 use Rattle.node_texts.specs.declared.look_parts.TurnPart.{TurnPart}
 use Rattle.node_texts.specs.LookText.{look_text, link_part, link_parts, links_text, loan_part, loan_text, status_part, turn_part}
 

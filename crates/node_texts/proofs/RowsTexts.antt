@@ -1,14 +1,11 @@
--- Small examples of names, lines and reports, and some that look like them and are none.
-use Rattle.std.proofs.Common.{◌≡◌, ◌≢◌, ℕ, List, true, false, [], ◌∷◌, ◌++◌, Some, None, codes, decimal, map, replicate, string_bytes, refl, arith}
+-- Small examples of names and lines, and some that look like them and are none.
+use Rattle.std.proofs.Common.{◌≡◌, ℕ, List, true, false, [], ◌∷◌, ◌++◌, Some, None, codes, decimal, map, replicate, string_bytes, refl, arith}
 use Rattle.std.specs.Fmt.{digits}
-use Rattle.node_texts.specs.declared.answers.NodeAnswer.{NodeAnswer}
 use Rattle.node_texts.specs.declared.lines.End.TheVariants.{Status, Signal, Unknown, Unstarted}
 use Rattle.node_texts.specs.declared.paths.NodePaths.{NodePaths}
 use Rattle.node_texts.specs.declared.status_line.StatusLine.{StatusLine}
-use Rattle.node_texts.specs.DeskFile.{desk_path, look_path}
 use Rattle.node_texts.specs.Names.{AreNamed, file_name, longest_socket_name}
 use Rattle.node_texts.specs.LineText.{capacity_line, end_line}
-use Rattle.node_texts.specs.Report.{has_answered, report_text}
 use Rattle.node_texts.specs.StatusLaws.{IsSmall}
 use Rattle.node_texts.specs.StatusText.{line_status, short_line_status, status_text}
 
@@ -19,18 +16,10 @@ names : file_name (codes "run") (codes "state-") 2 (codes ".tkt") ≡ codes "run
 unfolding digits
 names = refl
 
-names-desk : desk_path (codes "run") 2 ≡ codes "run/desk-2.sock"
-unfolding digits
-names-desk = refl
-
 -- of three nodes the last has the longest name
 names-longest : longest_socket_name (codes "run") 3 ≡ codes "run/node-2.sock"
 unfolding digits
 names-longest = refl
-
-looks-path : look_path (codes "run") 2 ≡ codes "run/look-2.sock"
-unfolding digits
-looks-path = refl
 
 -- all of node 2's files in the folder `run`; the state file of node 1 is none of them
 module _ (paths : NodePaths) where
@@ -95,32 +84,3 @@ small = record { node = omega arith; distance = omega arith; parent = omega arit
 
 small_not-node : ¬ IsSmall (record lending { node = 65536 })
 small_not-node s = omega (arith, s.node)
-
--- ---- the report
-
-abbrev answered : NodeAnswer
-answered = record { node = 1; line = Some lending }
-
-abbrev silent : NodeAnswer
-silent = record { node = 2; line = None }
-
--- a node that lends and one that gave no answer
-reports : report_text (answered ∷ silent ∷ [])
-    ≡ codes "node 1 distance 1 parent 0 token yes lent 9 waiting 2\nnode 2 no answer\nprivileged 1 lending 1\n"
-unfolding digits
-reports = refl
-
--- one that gave no answer is not counted
-reports-silent : report_text (silent ∷ []) ≡ codes "node 2 no answer\nprivileged 0 lending 0\n"
-unfolding digits
-reports-silent = refl
-
-reports-idle : report_text (record { node = 0; line = Some idle } ∷ []) ≡ codes "node 0 distance 0 parent none token no lent none waiting 0\nprivileged 0 lending 0\n"
-unfolding digits
-reports-idle = refl
-
-has : has_answered answered ≡ true
-has = refl
-
-has_not-silent : has_answered silent ≡ false
-has_not-silent = refl

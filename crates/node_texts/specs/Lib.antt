@@ -1,9 +1,6 @@
 pub mod Names
-pub mod DeskFile
 pub mod LineText
 pub mod StatusText
 pub mod StatusLaws
-pub mod Report
 pub mod LookText
 pub mod Thousandths
-pub mod PremisesText

@@ -4,7 +4,6 @@
 //! ```
 //! let paths = NodePaths::new(alloc, "run", 1)?;        // run/state-1.tkt, run/desk-1.sock, ..
 //! let line = StatusLine::read(b"node 1 distance 1 parent 0 token no lent none waiting 0");
-//! let text = report(alloc, &answers)?;                 // what `status` prints
 //! ```
 //!
 //! Nothing here reads a file or a socket.
@@ -13,22 +12,17 @@
 //! of them, or none, may be seen with the token.
 #![tactic(auto)]
 
-mod answers;
-pub mod desk_file;
 pub mod laws;
 mod lines;
 mod look;
 mod look_parts;
 mod paths;
-mod premises;
 mod status_line;
 mod thousandths;
 
-pub use answers::{NodeAnswer, all_answered, report};
 pub use lines::{CapacityLine, End, EndLine, SOCKET_FRAMES};
 pub use look::{LookAnswer, link_parts, look_line};
 pub use look_parts::{LinkPart, LoanPart, ProcessPart, TurnPart};
 pub use paths::{LONGEST_SOCKET_NAME, NodePaths, links_name, longest_socket_name};
-pub use premises::{PremisesLine, TurnsSaid, premises_report};
 pub use status_line::{MOST_STATUS_BYTES, StatusLine, StatusReading};
 pub use thousandths::Thousandths;

@@ -59,11 +59,20 @@ pub fn look_line(alloc: Global, look: &LookAnswer<'_>) -> Result<String, AllocEr
         look.now.process look.now.version.now look.now.rounds) }
 {
     let mut text = String::new(alloc);
-    push_status(&mut text, look.status)?;
-    push_links(&mut text, look.links)?;
-    push_rest(&mut text, look)?;
-    push_rounds(&mut text, look.rounds)?;
+    push_look(&mut text, look)?;
     Ok(text)
+}
+
+/// Adds that line.
+fn push_look(text: &mut String, look: &LookAnswer<'_>) -> Result<(), AllocError>
+    ensures { OnOk result (string_bytes text.new ≡ string_bytes text.old
+        ++ look_text look.now.status look.now.links.now look.now.loans look.now.turns
+        look.now.process look.now.version.now look.now.rounds) }
+{
+    push_status(text, look.status)?;
+    push_links(text, look.links)?;
+    push_rest(text, look)?;
+    push_rounds(text, look.rounds)
 }
 
 /// Begins the object by what the status line says.
@@ -79,12 +88,23 @@ fn push_links(text: &mut String, links: &[LinkPart]) -> Result<(), AllocError>
     ensures { OnOk result (string_bytes text.new
         ≡ string_bytes text.old ++ (codes ",\"links\":[" ++ (links_text links.now ++ codes "]"))) }
 {
-    write!(text, ",\"links\":[")?;
-    if let [first, others @ ..] = links {
-        write!(text, "{first}")?;
-        push_others(text, others)?;
+    text.push_str(",\"links\":[")?;
+    push_each(text, links)?;
+    text.push(']')
+}
+
+/// Adds each link, with commas between.
+fn push_each(text: &mut String, links: &[LinkPart]) -> Result<(), AllocError>
+    ensures { OnOk result (string_bytes text.new
+        ≡ string_bytes text.old ++ links_text links.now) }
+{
+    match links {
+        [] => Ok(()),
+        [first, others @ ..] => {
+            write!(text, "{first}")?;
+            push_others(text, others)
+        }
     }
-    write!(text, "]")
 }
 
 /// Adds links after the first.
@@ -144,9 +164,9 @@ impl fmt::Display for StatusPart {
             "\"node\":{},\"distance\":{},\"parent\":{},\"token\":{},\"lent\":{},\"waiting\":{}",
             self.0.node,
             self.0.distance,
-            OrWord(self.0.parent.map(u64::from), "null"),
+            OrWord::small(self.0.parent, "null"),
             self.0.token,
-            OrWord(self.0.lent.map(u64::from), "null"),
+            OrWord::small(self.0.lent, "null"),
             self.0.waiting
         )
     }

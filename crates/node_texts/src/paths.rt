@@ -1,6 +1,6 @@
 //! The names of a node's files.
 ghost use Rattle.std.specs.Prelude.{◌≡◌, IfOk, string_bytes, codes, length};
-ghost use Rattle.node_texts.specs.Names.{AreNamed, file_name, longest_socket_name};
+ghost use Rattle.node_texts.specs.Names.{AreFiles, AreNamed, AreSockets, file_name, longest_socket_name};
 
 use std::alloc::{AllocError, Global};
 
@@ -32,11 +32,65 @@ impl NodePaths {
     pub fn new(alloc: Global, dir: &str, id: u16) -> Result<NodePaths, AllocError>
         ensures { IfOk result (AreNamed dir.now id) }
     {
+        let SocketNames {
+            links,
+            clients,
+            looks,
+        } = SocketNames::new(alloc, dir, id)?;
+        let FileNames { state, stop, lock } = FileNames::new(alloc, dir, id)?;
         Ok(NodePaths {
-            state: file_name(alloc, dir, "state-", id, ".tkt")?,
+            state,
+            links,
+            clients,
+            looks,
+            stop,
+            lock,
+        })
+    }
+}
+
+/// The names of the sockets of one node.
+#[derive(Drop)]
+struct SocketNames {
+    /// Where the neighbours of greater ids connect.
+    links: String,
+    /// Where clients connect.
+    clients: String,
+    /// Where whoever looks at the node connects.
+    looks: String,
+}
+
+impl SocketNames {
+    /// The names of the sockets of node `id` in a folder.
+    fn new(alloc: Global, dir: &str, id: u16) -> Result<SocketNames, AllocError>
+        ensures { IfOk result (AreSockets dir.now id) }
+    {
+        Ok(SocketNames {
             links: links_name(alloc, dir, id)?,
             clients: file_name(alloc, dir, "desk-", id, ".sock")?,
             looks: file_name(alloc, dir, "look-", id, ".sock")?,
+        })
+    }
+}
+
+/// The names of a node's files that are no sockets.
+#[derive(Drop)]
+struct FileNames {
+    /// Its state.
+    state: String,
+    /// What ends it.
+    stop: String,
+    /// What it holds locked.
+    lock: String,
+}
+
+impl FileNames {
+    /// The names of these files of node `id` in a folder.
+    fn new(alloc: Global, dir: &str, id: u16) -> Result<FileNames, AllocError>
+        ensures { IfOk result (AreFiles dir.now id) }
+    {
+        Ok(FileNames {
+            state: file_name(alloc, dir, "state-", id, ".tkt")?,
             stop: file_name(alloc, dir, "stop-", id, "")?,
             lock: file_name(alloc, dir, "lock-", id, "")?,
         })

@@ -114,6 +114,15 @@ impl LineReading<MOST_STATUS_BYTES> for StatusReading {
 #[derive(Drop)]
 pub(crate) struct OrWord(pub Option<u64>, pub &'static str);
 
+impl OrWord {
+    /// An id or a ticket, or this word if there is none.
+    pub fn small(number: Option<u16>, word: &'static str) -> OrWord
+        ensures { (result.0 ≡ number) × (result.1.now ≡ word.entry.now) }
+    {
+        OrWord(number.map(u64::from), word)
+    }
+}
+
 impl fmt::Display for OrWord {
     ghost output = { λ number. Some (or_word number.1.now number.0) };
 
@@ -135,8 +144,8 @@ impl fmt::Display for StatusLine {
             "node {} distance {} parent {} token {token} lent {} waiting {}",
             self.node,
             self.distance,
-            OrWord(self.parent.map(u64::from), "none"),
-            OrWord(self.lent.map(u64::from), "none"),
+            OrWord::small(self.parent, "none"),
+            OrWord::small(self.lent, "none"),
             self.waiting
         )
     }

@@ -3,7 +3,7 @@ use Rattle.std.proofs.Common.{◌≡◌, ◌∙◌, ℕ, zero, suc, ◌+◌, Lis
 use Rattle.std.specs.List.{range_with_len}
 use Rattle.status_command.specs.declared.asking.Asked.{Asked}
 use Rattle.std.specs.Prelude.{Bool, true, false, if◌then◌else◌, is_some}
-use Rattle.node_texts.specs.declared.answers.NodeAnswer.{NodeAnswer}
+use Rattle.status_readings.specs.declared.answers.NodeAnswer.{NodeAnswer}
 use Rattle.status_command.specs.Asking.{nodes_in, nodes_of, answers_in}
 use Rattle.status_command.specs.Windows.{filled_one, filled, standing_in}
 

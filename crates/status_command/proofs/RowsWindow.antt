@@ -1,6 +1,6 @@
 -- Nodes that have no room for a client: examples by hand.
 use Rattle.std.proofs.Common.{◌≡◌, true, false, None, Some, [], ◌∷◌, refl}
-use Rattle.node_texts.specs.declared.answers.NodeAnswer.{NodeAnswer}
+use Rattle.status_readings.specs.declared.answers.NodeAnswer.{NodeAnswer}
 use Rattle.status_command.specs.Windows.{is_closed, filled}
 use Rattle.status_command.specs.declared.asking.Contact.TheVariants.{Closed, Done}
 

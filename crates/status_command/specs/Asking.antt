@@ -3,8 +3,8 @@ use Rattle.std.specs.Prelude.{◌≡◌, ℕ, Bool, ◌||◌, nat_lt, List, [], 
 use Rattle.std.specs.Str.{is_utf8}
 use Rattle.lock_desk.specs.ClientText.{client_lines}
 use Rattle.lock_desk.specs.declared.client_line.ClientLine.TheVariants as line
-use Rattle.node_texts.specs.DeskFile.{desk_path, look_path}
-use Rattle.node_texts.specs.declared.answers.NodeAnswer.{NodeAnswer}
+use Rattle.desk_sockets.specs.DeskSockets.{desk_path, look_path}
+use Rattle.status_readings.specs.declared.answers.NodeAnswer.{NodeAnswer}
 use Rattle.status_readings.specs.declared.minute.NodeLoans.{NodeLoans}
 use Rattle.status_readings.specs.LookSaid.{line_loans}
 use Rattle.status_command.specs.Answering.{answer_in, first_line}

@@ -1,7 +1,7 @@
 -- What is shown of readings, and where.
 use Rattle.std.specs.Prelude.{◌≡◌, ℕ, Bool, true, false, List, Option, None, Some}
-use Rattle.node_texts.specs.declared.answers.NodeAnswer.{NodeAnswer}
-use Rattle.node_texts.specs.Report.{report_text}
+use Rattle.status_readings.specs.declared.answers.NodeAnswer.{NodeAnswer}
+use Rattle.status_readings.specs.Report.{report_text}
 use Rattle.status_readings.specs.declared.minute.NodeLoans.{NodeLoans}
 use Rattle.status_readings.specs.declared.minute.Sample.{Sample}
 use Rattle.status_readings.specs.JsonData.{IsStatusLine}

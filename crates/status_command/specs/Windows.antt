@@ -1,6 +1,6 @@
 -- What is known of nodes that have no room for a client: what they say at their windows.
 use Rattle.std.specs.Prelude.{ℕ, ◌==◌, if◌then◌else◌, Bool, true, false, List, [], ◌∷◌, map, is_some, Option, None, option_and_then}
-use Rattle.node_texts.specs.declared.answers.NodeAnswer.{NodeAnswer}
+use Rattle.status_readings.specs.declared.answers.NodeAnswer.{NodeAnswer}
 use Rattle.node_texts.specs.declared.status_line.StatusLine.{StatusLine}
 use Rattle.status_readings.specs.StandingSaid.{line_standing}
 use Rattle.status_command.specs.Answering.{own_line}

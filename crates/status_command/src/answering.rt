@@ -6,7 +6,8 @@ ghost use Rattle.status_command.specs.Answering.{first_line, line_said, own_line
 ghost use Rattle.status_command.specs.Asking.{answers_in};
 
 use crate::asking::Asked;
-use node_texts::{MOST_STATUS_BYTES, NodeAnswer, StatusLine};
+use node_texts::{MOST_STATUS_BYTES, StatusLine};
+use status_readings::NodeAnswer;
 use std::alloc::{AllocError, Global};
 
 /// The first line of what came, without its newline; none if none has ended.

@@ -5,8 +5,8 @@ ghost use Rattle.std.specs.List.{find};
 ghost use Rattle.status_command.specs.Reasons.{why_no_nodes};
 
 use crate::notice::StatusNotice;
+use desk_sockets::nodes_in;
 use node_texts::NodePaths;
-use node_texts::desk_file::nodes_in;
 use std::alloc::Global;
 use std::io::ErrorKind;
 use std::rt::Files;

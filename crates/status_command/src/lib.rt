@@ -2,7 +2,7 @@
 //!
 //! [`status::run`] asks nodes at their desks for their status lines, and prints them.
 //! [`StatusLine::read`](node_texts::StatusLine::read) reads a line, and
-//! [`report`](node_texts::report) says what is printed of the answers.
+//! [`report`](status_readings::report) says what is printed of the answers.
 //!
 //! ```
 //! let status = status::run(rt, "/run/lock", &[], AnswerForm::Lines);  // 0 if each node answered, else 1

@@ -9,8 +9,10 @@ use crate::folder::nodes_asked;
 use crate::notice::{StatusNotice, reported, why_not_written};
 use crate::question::Question;
 use crate::status::{NO_ANSWER, WAIT, why_not_asked};
-use node_texts::{PremisesLine, TurnsSaid, premises_report};
-use status_readings::{LinksSaid, LoansSaid, NodeLoans, links_report, read_links};
+use status_readings::{
+    LinksSaid, LoansSaid, NodeLoans, PremisesLine, TurnsSaid, links_report, premises_report,
+    read_links,
+};
 use std::alloc::{AllocError, Global};
 use std::net::Net;
 use std::rt::Files;

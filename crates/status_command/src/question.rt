@@ -2,10 +2,10 @@
 ghost use Rattle.std.specs.Prelude.{◌≡◌, IfOk, string_bytes};
 ghost use Rattle.status_command.specs.Asking.{question_path, AreWordsOf, most_bytes};
 
+use desk_sockets::{desk_path, look_path};
 use lock_client::spelled;
 use lock_desk::ClientLine;
 use node_texts::MOST_STATUS_BYTES;
-use node_texts::desk_file::{desk_path, look_path};
 use std::alloc::{AllocError, Global};
 
 /// The most bytes of a line for lookers. With 63 neighbours and the greatest numbers it has fewer.

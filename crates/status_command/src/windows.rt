@@ -7,8 +7,8 @@ ghost use Rattle.status_command.specs.Windows.{filled_one, filled};
 use crate::answering::{answers, own_line};
 use crate::asking::Asked;
 use crate::looks::line_of;
-use node_texts::{NodeAnswer, StatusLine};
-use status_readings::read_standing;
+use node_texts::StatusLine;
+use status_readings::{NodeAnswer, read_standing};
 use std::alloc::{AllocError, Global};
 
 /// The nodes that closed the connection at their desk and gave no line, in their order.

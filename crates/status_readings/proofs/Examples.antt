@@ -2,7 +2,7 @@
 use Rattle.std.proofs.Common.{◌≡◌, true, false, None, Some, List, [], ◌∷◌, codes, refl}
 use Rattle.std.specs.Fmt.{digits}
 use Rattle.topology.specs.Network.{Network}
-use Rattle.node_texts.specs.declared.answers.NodeAnswer.{NodeAnswer}
+use Rattle.status_readings.specs.declared.answers.NodeAnswer.{NodeAnswer}
 use Rattle.status_readings.specs.declared.findings.Finding.TheVariants.{AllWell, Silent, Wrong, TwoLentOnce, Nobody, TwoLend}
 use Rattle.status_readings.specs.CheckText.{check_line, figure_text}
 use Rattle.status_readings.specs.Picture.{picture_text}

@@ -1,6 +1,6 @@
 -- The rows of a node and of all under it.
 use Rattle.std.proofs.Common.{◌≡◌, ◌++◌, ◌-◌, ◌≤◌, ℕ, zero, suc, List, [], ◌∷◌, length, refl, arith, append_assoc}
-use Rattle.node_texts.specs.declared.answers.NodeAnswer.{NodeAnswer}
+use Rattle.status_readings.specs.declared.answers.NodeAnswer.{NodeAnswer}
 use Rattle.status_readings.specs.declared.tree.Row.{Row}
 use Rattle.status_readings.specs.Tree.{below, child_rows}
 

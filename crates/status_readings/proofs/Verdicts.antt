@@ -6,8 +6,8 @@ use Rattle.std.specs.List.{list_any, find}
 use Rattle.std.proofs.lemmas.Bool.Decides.{nat_tests}
 use Rattle.topology.specs.Network.{Network}
 use Rattle.node_texts.specs.declared.status_line.StatusLine.{StatusLine}
-use Rattle.node_texts.specs.declared.answers.NodeAnswer.{NodeAnswer}
-use Rattle.node_texts.specs.Report.{lends, line_lends, has_answered}
+use Rattle.status_readings.specs.declared.answers.NodeAnswer.{NodeAnswer}
+use Rattle.status_readings.specs.Report.{lends, line_lends, has_answered}
 use Rattle.status_readings.specs.declared.findings.Finding.{Finding}
 use Rattle.status_readings.specs.declared.findings.Finding.TheVariants.{AllWell, TwoLentOnce, Nobody, TwoLend}
 use Rattle.status_readings.specs.declared.findings.Severity.TheVariants.{Fine, Warning, Critical}

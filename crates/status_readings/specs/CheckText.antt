@@ -1,8 +1,8 @@
 -- The line that a check prints, in the form of monitoring plugins: the text, a bar, and the figures.
 use Rattle.std.specs.Prelude.{ℕ, Bool, ◌&&◌, List, ◌++◌, length, filter, codes, decimal}
 use Rattle.topology.specs.Network.{Network}
-use Rattle.node_texts.specs.declared.answers.NodeAnswer.{NodeAnswer}
-use Rattle.node_texts.specs.Report.{is_privileged, lends, has_answered}
+use Rattle.status_readings.specs.declared.answers.NodeAnswer.{NodeAnswer}
+use Rattle.status_readings.specs.Report.{is_privileged, lends, has_answered}
 use Rattle.status_readings.specs.declared.check_line.Figures.{Figures}
 use Rattle.status_readings.specs.declared.findings.Finding.{Finding}
 use Rattle.status_readings.specs.declared.findings.Finding.TheVariants.{AllWell, Silent, Wrong, TwoLentOnce, Nobody, TwoLend}

@@ -4,8 +4,8 @@ use Rattle.serde_json.specs.Data.{Data, Items, Members, null, boolean, number, u
 use Rattle.serde_json.specs.View.{items_of}
 use Rattle.serde_json.specs.Written.{IsInOrder}
 use Rattle.node_texts.specs.declared.status_line.StatusLine.{StatusLine}
-use Rattle.node_texts.specs.declared.answers.NodeAnswer.{NodeAnswer}
-use Rattle.node_texts.specs.Report.{is_privileged, lends}
+use Rattle.status_readings.specs.declared.answers.NodeAnswer.{NodeAnswer}
+use Rattle.status_readings.specs.Report.{is_privileged, lends}
 
 abbrev pub count : ℕ → Data
 count n = number (unsigned n)

@@ -2,8 +2,8 @@
 use Rattle.std.specs.Prelude.{◌≡◌, ◌≢◌, ◌⊎◌, ◌≤◌, false, List, length, filter}
 use Rattle.std.specs.List.{list_any}
 use Rattle.topology.specs.Network.{Network}
-use Rattle.node_texts.specs.declared.answers.NodeAnswer.{NodeAnswer}
-use Rattle.node_texts.specs.Report.{lends}
+use Rattle.status_readings.specs.declared.answers.NodeAnswer.{NodeAnswer}
+use Rattle.status_readings.specs.Report.{lends}
 use Rattle.status_readings.specs.declared.findings.Severity.TheVariants.{Fine, Critical}
 use Rattle.status_readings.specs.Verdict.{finding, severity, is_faulty}
 

@@ -1,3 +1,5 @@
+pub mod Report
+pub mod PremisesText
 pub mod Verdict
 pub mod CheckText
 pub mod JsonData

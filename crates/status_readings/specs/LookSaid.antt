@@ -3,7 +3,7 @@ use Rattle.std.specs.Prelude.{ℕ, ◌==◌, if◌then◌else◌, Bool, List, []
 use Rattle.serde_json.specs.Data.{Data, Items, no_items, item}
 use Rattle.serde_json.specs.Find.{get, as_bool, as_array}
 use Rattle.serde_json.specs.Read.{read}
-use Rattle.node_texts.specs.PremisesText.{member_number}
+use Rattle.status_readings.specs.PremisesText.{member_number}
 use Rattle.status_readings.specs.declared.looks.LoansSaid.{LoansSaid}
 use Rattle.status_readings.specs.declared.looks.LinkSaid.{LinkSaid}
 

@@ -3,7 +3,7 @@ use Rattle.std.specs.Prelude.{ℕ, nat_lt, if◌then◌else◌, Bool, List, Opti
 use Rattle.serde_json.specs.Data.{Data}
 use Rattle.serde_json.specs.Find.{get, as_null, as_number, as_u64}
 use Rattle.serde_json.specs.Read.{read}
-use Rattle.node_texts.specs.PremisesText.{member_number}
+use Rattle.status_readings.specs.PremisesText.{member_number}
 use Rattle.node_texts.specs.declared.status_line.StatusLine.{StatusLine}
 use Rattle.status_readings.specs.LookSaid.{member_truth}
 

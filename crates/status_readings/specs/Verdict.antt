@@ -5,8 +5,8 @@ use Rattle.std.specs.List.{list_any, find}
 use Rattle.topology.specs.Network.{Network}
 use Rattle.topology.specs.Tree.{distance_of, parent_of}
 use Rattle.node_texts.specs.declared.status_line.StatusLine.{StatusLine}
-use Rattle.node_texts.specs.declared.answers.NodeAnswer.{NodeAnswer}
-use Rattle.node_texts.specs.Report.{lends, has_answered}
+use Rattle.status_readings.specs.declared.answers.NodeAnswer.{NodeAnswer}
+use Rattle.status_readings.specs.Report.{lends, has_answered}
 use Rattle.status_readings.specs.declared.findings.Finding.{Finding}
 use Rattle.status_readings.specs.declared.findings.Finding.TheVariants.{AllWell, Silent, Wrong, TwoLentOnce, Nobody, TwoLend}
 use Rattle.status_readings.specs.declared.findings.Severity.{Severity}

@@ -3,9 +3,9 @@ ghost use Rattle.std.specs.Prelude.{◌≡◌, length, filter, Some};
 ghost use Rattle.status_readings.specs.CheckText.{figures, is_wrong, finding_text, figure_text};
 ghost use Rattle.status_readings.specs.CheckText.{figures_text, check_line};
 
+use crate::answers::NodeAnswer;
 use crate::counts::{answering, has_answered, lending, privileged};
 use crate::findings::{Finding, is_faulty};
-use node_texts::NodeAnswer;
 use std::fmt;
 use topology::Net;
 

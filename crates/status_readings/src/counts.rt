@@ -1,31 +1,28 @@
 //! How many nodes of a reading say what.
 ghost use Rattle.std.specs.Prelude.{◌≡◌, length, filter};
-ghost use Rattle.node_texts.specs.Report.{is_privileged, lends, has_answered};
+ghost use Rattle.status_readings.specs.Report.{is_privileged, lends, has_answered};
 
-use node_texts::NodeAnswer;
+use crate::answers::NodeAnswer;
 
 /// How many gave their status line.
 pub fn answering(answers: &[NodeAnswer]) -> usize
     ensures { result ≡ length (filter has_answered answers.now) }
 {
-    answers.iter().filter(|answer| has_answered(answer)).count()
+    answers.iter().copied().filter(has_answered).count()
 }
 
 /// How many are privileged.
 pub fn privileged(answers: &[NodeAnswer]) -> usize
     ensures { result ≡ length (filter is_privileged answers.now) }
 {
-    answers
-        .iter()
-        .filter(|answer| is_privileged(answer))
-        .count()
+    answers.iter().copied().filter(is_privileged).count()
 }
 
 /// How many lend.
 pub fn lending(answers: &[NodeAnswer]) -> usize
     ensures { result ≡ length (filter lends answers.now) }
 {
-    answers.iter().filter(|answer| lends(answer)).count()
+    answers.iter().copied().filter(lends).count()
 }
 
 /// Whether a node gave its status line.

@@ -1,14 +1,14 @@
 //! What a watch shows at a time.
 ghost use Rattle.std.specs.Prelude.{◌≡◌, ◌++◌, IfOk, OnOk, length, filter, string_bytes, Some};
-ghost use Rattle.node_texts.specs.Report.{counts_line, is_privileged, lends};
 ghost use Rattle.status_readings.specs.Picture.{indent, said_text, lent_text, waiting_text, row_text, row_lines};
 ghost use Rattle.status_readings.specs.Picture.{loans_line, rounds_line, rates_lines, picture_text};
 ghost use Rattle.status_readings.specs.Picture.{tenths_text};
 
+use crate::answers::{NodeAnswer, push_counts};
 use crate::counts::{lending, privileged};
 use crate::minute::{NodeLoans, Rates, present_at};
 use crate::tree::{Row, rows};
-use node_texts::{NodeAnswer, StatusLine, Thousandths};
+use node_texts::{StatusLine, Thousandths};
 use std::alloc::{AllocError, Global};
 use std::fmt;
 use std::fmt::Write;
@@ -102,14 +102,6 @@ fn push_waiting(text: &mut String, waiting: u16) -> Result<(), AllocError>
         0 => Ok(()),
         _ => write!(text, " waiting {waiting}"),
     }
-}
-
-/// Adds how many are privileged, and lend.
-fn push_counts(text: &mut String, privileged: usize, lending: usize) -> Result<(), AllocError>
-    ensures { OnOk result (string_bytes text.new
-        ≡ string_bytes text.old ++ counts_line privileged lending) }
-{
-    writeln!(text, "privileged {privileged} lending {lending}")
 }
 
 /// Adds the loans of the last minute and how often the token came round, if they are known.

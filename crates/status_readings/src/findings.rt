@@ -1,12 +1,13 @@
 //! What three readings of a network say: whether it serves as it should, as far as readings can say.
 ghost use Rattle.std.specs.Prelude.{◌≡◌};
 ghost use Rattle.std.specs.List.{list_any, find};
-ghost use Rattle.node_texts.specs.Report.{has_answered};
+ghost use Rattle.status_readings.specs.Report.{has_answered};
 ghost use Rattle.status_readings.specs.Verdict.{is_true, is_faulty, fault_of, first_fault, is_nobody};
 ghost use Rattle.status_readings.specs.Verdict.{two_lend, finding, severity, severity_status, severity_word};
 
+use crate::answers::NodeAnswer;
 use crate::counts::{has_answered, lending};
-use node_texts::{NodeAnswer, StatusLine};
+use node_texts::StatusLine;
 use topology::Net;
 
 /// What was found of a network.

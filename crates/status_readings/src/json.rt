@@ -6,8 +6,9 @@ ghost use Rattle.serde_json.specs.Written.{IsInOrder};
 ghost use Rattle.status_readings.specs.JsonData.{status_data, node_data, node_members};
 ghost use Rattle.status_readings.specs.JsonData.{line_members, nodes_data, or_null};
 
+use crate::answers::NodeAnswer;
 use crate::counts::{lending, privileged};
-use node_texts::{NodeAnswer, StatusLine};
+use node_texts::StatusLine;
 use serde_json::{Map, Value, push, put};
 use std::alloc::{AllocError, Global};
 

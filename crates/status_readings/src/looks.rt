@@ -3,7 +3,7 @@ ghost use Rattle.std.specs.Prelude.{◌≡◌, ◌++◌, IfOk, OnOk, string_byte
 ghost use Rattle.std.specs.Option.{option_map};
 ghost use Rattle.serde_json.specs.Read.{read};
 ghost use Rattle.serde_json.specs.View.{view, items_view};
-ghost use Rattle.node_texts.specs.PremisesText.{member_number};
+ghost use Rattle.status_readings.specs.PremisesText.{member_number};
 ghost use Rattle.status_readings.specs.LookSaid.{loans_said, root_rounds, line_loans, member_truth};
 ghost use Rattle.status_readings.specs.LookSaid.{link_said, links_in};
 ghost use Rattle.status_readings.specs.LookSaid.{links_listed, links_said, line_links};

@@ -1,7 +1,7 @@
 //! What the lines for whoever looks say of how a node stands.
 ghost use Rattle.std.specs.Prelude.{◌≡◌, IfOk};
 ghost use Rattle.serde_json.specs.View.{view};
-ghost use Rattle.node_texts.specs.PremisesText.{member_number};
+ghost use Rattle.status_readings.specs.PremisesText.{member_number};
 ghost use Rattle.status_readings.specs.LookSaid.{member_truth};
 ghost use Rattle.status_readings.specs.StandingSaid.{in_range, member_id, member_or_null, number_or_null};
 ghost use Rattle.status_readings.specs.StandingSaid.{standing_said, line_standing};

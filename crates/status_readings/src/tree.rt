@@ -4,7 +4,7 @@ ghost use Rattle.std.specs.List.{list_any};
 ghost use Rattle.status_readings.specs.Tree.{has_parent, parent_named, is_asked, is_top, below, top_rows};
 ghost use Rattle.status_readings.specs.Tree.{is_placed, rest_rows, tree_rows};
 
-use node_texts::NodeAnswer;
+use crate::answers::NodeAnswer;
 use std::alloc::{AllocError, Global};
 
 /// A line of the picture.

@@ -6,7 +6,7 @@ use Rattle.pace.specs.declared.pace.Manner.{Manner}
 use Rattle.process_parts.specs.declared.rights.Rights.{Rights}
 use Rattle.process_parts.specs.declared.rights.Rights.TheVariants.{Usual, GroupLocks}
 use Rattle.process_parts.specs.declared.record_size.RecordSize.{RecordSize}
-use Rattle.process_parts.specs.node_texts.PremisesText.{millis_text}
+use Rattle.process_parts.specs.node_texts.Thousandths.{millis_text}
 use Rattle.node_log.specs.Events.{priority_of}
 use Rattle.node_log.specs.declared.event.Level.{Level}
 use Rattle.process_parts.specs.node_texts.declared.lines.End.{End}

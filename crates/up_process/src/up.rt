@@ -9,7 +9,7 @@ ghost use Rattle.process_parts.specs.node_keeping.declared.keeper.KeeperStage.Th
 ghost use Rattle.process_parts.specs.node_keeping.declared.keeper.Seen.{Seen};
 ghost use Rattle.process_parts.specs.node_keeping.declared.keeper.Seen.TheVariants.{Nothing};
 ghost use Rattle.process_parts.specs.node_keeping.declared.keeper.KeeperDeed.TheVariants.{Start};
-ghost use Rattle.process_parts.specs.node_texts.PremisesText.{millis_text};
+ghost use Rattle.process_parts.specs.node_texts.Thousandths.{millis_text};
 ghost use Rattle.up_process.specs.Children.{child_options, rights_options, log_options, record_options};
 ghost use Rattle.up_process.specs.Children.{child_words, end_of};
 ghost use Rattle.process_parts.specs.Start.{may_end};

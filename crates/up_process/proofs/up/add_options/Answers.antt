@@ -1,6 +1,6 @@
 use Rattle.std.proofs.Common.{◌∷◌, [], ◌++◌, codes, decimal}
 use Rattle.std.specs.Process.{command_args}
-use Rattle.process_parts.specs.node_texts.PremisesText.{millis_text}
+use Rattle.process_parts.specs.node_texts.Thousandths.{millis_text}
 use Rattle.up_process.proofs.Words.{added, both}
 use Rattle.up_process.proofs.up.add_options.Goals as goal
 

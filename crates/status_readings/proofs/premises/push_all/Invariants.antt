@@ -1,6 +1,6 @@
 use Rattle.std.proofs.Common.{◌≡◌, ◌++◌, string_bytes, drop}
-use Rattle.node_texts.specs.PremisesText.{premises_text}
-use Rattle.node_texts.proofs.premises.push_all.Given as goal
+use Rattle.status_readings.specs.PremisesText.{premises_text}
+use Rattle.status_readings.proofs.premises.push_all.Given as goal
 
 -- what is written, and the lines that are left, are all that must be written
 abbrev pub invariant-loop-line : goal.invariant-loop-line

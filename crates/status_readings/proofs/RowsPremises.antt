@@ -2,8 +2,9 @@
 use Rattle.std.proofs.Common.{◌≡◌, None, Some, [], ◌∷◌, codes, map, replicate, refl}
 use Rattle.serde_json.proofs.OnLiterals.{serde_json_on_literals}
 use Rattle.std.specs.Fmt.{digits}
-use Rattle.node_texts.specs.declared.premises.TurnsSaid.{TurnsSaid}
-use Rattle.node_texts.specs.PremisesText.{line_said, millis_text, premises_text}
+use Rattle.status_readings.specs.declared.premises.TurnsSaid.{TurnsSaid}
+use Rattle.node_texts.specs.Thousandths.{millis_text}
+use Rattle.status_readings.specs.PremisesText.{line_said, premises_text}
 
 said : TurnsSaid
 said = record { count = 512; longest = 2290; lately = 2190; late = 3 }

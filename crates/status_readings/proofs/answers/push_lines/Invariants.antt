@@ -1,6 +1,6 @@
 use Rattle.std.proofs.Common.{◌≡◌, ◌++◌, string_bytes, drop}
-use Rattle.node_texts.specs.Report.{answer_lines}
-use Rattle.node_texts.proofs.answers.push_lines.Given as goal
+use Rattle.status_readings.specs.Report.{answer_lines}
+use Rattle.status_readings.proofs.answers.push_lines.Given as goal
 
 -- what is written, and the lines of the others after it, are all that must be written
 abbrev pub invariant-loop-answer : goal.invariant-loop-answer

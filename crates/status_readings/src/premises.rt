@@ -1,10 +1,11 @@
 //! What a node's line for whoever looks says of its turns, and what `status --premises` prints of it.
 ghost use Rattle.std.specs.Prelude.{◌≡◌, ◌++◌, IfOk, OnOk, codes, string_bytes, Some};
 ghost use Rattle.serde_json.specs.View.{view};
-ghost use Rattle.node_texts.specs.PremisesText.{member_number, turns_said, line_said};
-ghost use Rattle.node_texts.specs.PremisesText.{premises_line, premises_text};
+ghost use Rattle.status_readings.specs.PremisesText.{turns_said, line_said};
+ghost use Rattle.status_readings.specs.PremisesText.{premises_line, premises_text};
 
-use crate::thousandths::Thousandths;
+use crate::looks::{member_number, value_of};
+use node_texts::Thousandths;
 use serde_json::Value;
 use std::alloc::{AllocError, Global};
 use std::fmt;
@@ -32,11 +33,8 @@ impl TurnsSaid {
     pub fn read(alloc: Global, line: &str) -> Result<Option<TurnsSaid>, AllocError>
         ensures { IfOk result (λ said. said ≡ line_said line.now) }
     {
-        match Value::from_str(alloc, line) {
-            Ok(value) => Ok(turns_said(&value)),
-            Err(error) if error.is_memory() => Err(AllocError),
-            Err(_) => Ok(None),
-        }
+        let value = value_of(alloc, line)?;
+        Ok(value.as_ref().and_then(turns_said))
     }
 }
 
@@ -51,13 +49,6 @@ fn turns_said(value: &Value) -> Option<TurnsSaid>
         lately: member_number(turns, "lately_us")?,
         late: member_number(turns, "late")?,
     })
-}
-
-/// The number that is a member of an object.
-fn member_number(object: &Value, name: &str) -> Option<u64>
-    ensures { result ≡ member_number name.now (view object.now) }
-{
-    object.get(name)?.as_u64()
 }
 
 /// What `status --premises` prints: a line for each node.

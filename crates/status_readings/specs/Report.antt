@@ -2,7 +2,7 @@
 use Rattle.std.specs.Prelude.{ℕ, Bool, false, List, [], ◌∷◌, ◌++◌, length, filter, Option, Some}
 use Rattle.std.specs.Prelude.{None, is_some, codes, decimal}
 use Rattle.node_texts.specs.declared.status_line.StatusLine.{StatusLine}
-use Rattle.node_texts.specs.declared.answers.NodeAnswer.{NodeAnswer}
+use Rattle.status_readings.specs.declared.answers.NodeAnswer.{NodeAnswer}
 use Rattle.node_texts.specs.StatusText.{status_text}
 
 -- the line of a node, or that it gave no answer

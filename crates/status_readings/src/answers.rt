@@ -1,10 +1,11 @@
 //! What `status` prints.
-ghost use Rattle.std.specs.Prelude.{◌≡◌, ◌++◌, length, filter, IfOk, OnOk, string_bytes};
+ghost use Rattle.std.specs.Prelude.{◌≡◌, ◌++◌, IfOk, OnOk, string_bytes};
 ghost use Rattle.std.specs.List.{list_all};
-ghost use Rattle.node_texts.specs.Report.{answer_text, answer_lines, counts_line, report_text};
-ghost use Rattle.node_texts.specs.Report.{is_privileged, lends, has_answered};
+ghost use Rattle.status_readings.specs.Report.{answer_text, answer_lines, counts_line, report_text};
+ghost use Rattle.status_readings.specs.Report.{has_answered};
 
-use crate::StatusLine;
+use crate::counts::{has_answered, lending, privileged};
+use node_texts::StatusLine;
 use std::alloc::{AllocError, Global};
 use std::fmt::Write;
 
@@ -32,7 +33,7 @@ pub fn report(alloc: Global, answers: &[NodeAnswer]) -> Result<String, AllocErro
 }
 
 /// Adds the line that says how many are privileged, and lend.
-fn push_counts(text: &mut String, privileged: usize, lending: usize) -> Result<(), AllocError>
+pub fn push_counts(text: &mut String, privileged: usize, lending: usize) -> Result<(), AllocError>
     ensures { OnOk result (string_bytes text.new
         ≡ string_bytes text.old ++ counts_line privileged lending) }
 {
@@ -43,7 +44,7 @@ fn push_counts(text: &mut String, privileged: usize, lending: usize) -> Result<(
 pub fn all_answered(answers: &[NodeAnswer]) -> bool
     ensures { result ≡ list_all has_answered answers.now }
 {
-    answers.iter().all(|answer| answer.line.is_some())
+    answers.iter().all(has_answered)
 }
 
 /// Adds the line of each.
@@ -66,35 +67,4 @@ fn push_line(text: &mut String, answer: &NodeAnswer) -> Result<(), AllocError>
         Some(line) => writeln!(text, "{line}"),
         None => writeln!(text, "node {} no answer", answer.node),
     }
-}
-
-/// How many are privileged.
-fn privileged(answers: &[NodeAnswer]) -> usize
-    ensures { result ≡ length (filter is_privileged answers.now) }
-{
-    answers
-        .iter()
-        .filter(|answer| is_privileged(answer))
-        .count()
-}
-
-/// How many lend.
-fn lending(answers: &[NodeAnswer]) -> usize
-    ensures { result ≡ length (filter lends answers.now) }
-{
-    answers.iter().filter(|answer| lends(answer)).count()
-}
-
-/// Whether a node says that it is privileged.
-fn is_privileged(answer: &NodeAnswer) -> bool
-    ensures { result ≡ is_privileged answer.now }
-{
-    matches!(answer.line, Some(line) if line.token)
-}
-
-/// Whether a node says that it lends.
-fn lends(answer: &NodeAnswer) -> bool
-    ensures { result ≡ lends answer.now }
-{
-    matches!(answer.line, Some(line) if line.lent.is_some())
 }

@@ -1,11 +1,13 @@
 //! Where a node's desk listens, where whoever looks at the node connects, and which nodes have a desk in a
 //! folder.
-ghost use Rattle.std.specs.Prelude.{◌≡◌, ◌↔◌, ◌<◌, ℕ, IfOk, Some, IsSorted, string_bytes};
+ghost use Rattle.std.specs.Prelude.{◌≡◌, ◌↔◌, ◌<◌, ℕ, IfOk, IfErr, Some, None, IsSorted, string_bytes};
+ghost use Rattle.std.specs.Fs.{dir_entry_name};
 ghost use Rattle.std.specs.Ordering.{nat_cmp};
-ghost use Rattle.node_texts.specs.DeskFile.{desk_path, desk_name, look_path};
+ghost use Rattle.desk_sockets.specs.DeskSockets.{desk_path, desk_name, look_path};
 
 use line_words::number;
 use std::alloc::{AllocError, Global};
+use std::fs::DirEntry;
 use std::rt::Files;
 use std::{fs, io};
 
@@ -45,21 +47,30 @@ pub fn nodes_in<R: Files + AllocGlobal>(rt: &R, folder: &str) -> io::Result<Vec<
     ensures { IfOk result (λ nodes. IsSorted nat_cmp nodes.items) }
 {
     let mut nodes = Vec::new(rt.alloc());
-    add_nodes(rt, folder, &mut nodes)?;
+    add_nodes(&rt, folder, &mut nodes)?;
     nodes.sort_unstable();
     Ok(nodes)
 }
 
 /// Adds the nodes of the sockets in a folder.
-fn add_nodes<R: Files + AllocGlobal>(rt: &R, folder: &str, nodes: &mut Vec<u16>) -> io::Result<()> {
-    for entry in fs::read_dir(&rt, folder)? {
-        // A name that is no text is not a desk's.
-        let Ok(entry) = entry else {
-            continue;
-        };
-        if let Some(node) = node_of(entry.file_name().as_bytes()) {
+fn add_nodes<F: Files + AllocGlobal + Clone + Drop>(
+    files: &F,
+    folder: &str,
+    nodes: &mut Vec<u16>,
+) -> io::Result<()> {
+    for entry in fs::read_dir(files, folder)? {
+        if let Some(node) = node_at(entry) {
             nodes.push(node)?;
         }
     }
     Ok(())
+}
+
+/// The node whose desk this entry of a folder is, if it is a desk's. An entry whose name is no text is not.
+fn node_at<F: Files + Drop>(entry: io::Result<DirEntry<F>>) -> Option<u16>
+    ensures named { IfOk entry (λ entry. (node : ℕ)
+        → (result ≡ Some node) ↔ ((node < 65536) × (dir_entry_name entry ≡ desk_name node))) }
+    ensures unnamed { IfErr entry (λ _. result ≡ None) }
+{
+    node_of(entry.ok()?.file_name().as_bytes())
 }

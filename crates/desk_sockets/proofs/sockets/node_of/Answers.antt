@@ -1,5 +1,5 @@
-use Rattle.node_texts.proofs.DeskNames.{of-name}
-use Rattle.node_texts.proofs.desk_file.node_of.Goals as goal
+use Rattle.desk_sockets.proofs.DeskNames.{of-name}
+use Rattle.desk_sockets.proofs.sockets.node_of.Goals as goal
 
 pub returns : goal.returns
 returns c =

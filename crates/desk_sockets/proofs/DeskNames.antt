@@ -7,7 +7,7 @@ use Rattle.std.proofs.lemmas.List.{take-append-drop, append_cancel_right}
 use Rattle.std.proofs.lemmas.Slice.Eq.{bytes_eq-Decides}
 use Rattle.line_words.specs.Numbers.{number}
 use Rattle.line_words.specs.Laws.{NumbersAreRead, NumbersHaveOneSpelling}
-use Rattle.node_texts.specs.DeskFile.{desk_name}
+use Rattle.desk_sockets.specs.DeskSockets.{desk_name}
 
 are-bytes : (w v : List ℕ) → bytes_eq w v ≡ true → w ≡ v
 are-bytes w v e = grind (arith, bytes_eq-Decides w v)

@@ -3,9 +3,9 @@ use Rattle.std.specs.Prelude.{ℕ, List, [], ◌∷◌, ◌++◌, Option, None, 
 use Rattle.serde_json.specs.Data.{Data}
 use Rattle.serde_json.specs.Find.{get, as_number, as_u64}
 use Rattle.serde_json.specs.Read.{read}
-use Rattle.node_texts.specs.declared.premises.TurnsSaid.{TurnsSaid}
-use Rattle.node_texts.specs.declared.premises.PremisesLine.{PremisesLine}
-use Rattle.node_texts.specs.Thousandths.{thousandths_text}
+use Rattle.status_readings.specs.declared.premises.TurnsSaid.{TurnsSaid}
+use Rattle.status_readings.specs.declared.premises.PremisesLine.{PremisesLine}
+use Rattle.node_texts.specs.Thousandths.{millis_text}
 
 -- the number that is the member of this name
 abbrev pub member_number : List ℕ → Data → Option ℕ
@@ -30,10 +30,6 @@ turns_said value = option_and_then members_said (get (codes "turns") value)
 -- what a line says of them, if it is JSON
 abbrev pub line_said : List ℕ → Option TurnsSaid
 line_said line = option_and_then turns_said (read line)
-
--- microseconds as milliseconds with three decimals
-abbrev pub millis_text : ℕ → List ℕ
-millis_text micros = thousandths_text micros
 
 -- the line of a node
 abbrev pub premises_line : ℕ → Option TurnsSaid → List ℕ

@@ -1,0 +1,2 @@
+pub mod DeskNames
+mod Rows
