@@ -1,6 +1,6 @@
-use Rattle.std.proofs.Common.{◌≡◌, inl}
+use Rattle.std.proofs.Common.{◌≡◌, inl, refl, slice_get}
 use Rattle.node_connections.proofs.Loose.{loose-set}
-use Rattle.node_connections.proofs.Hearing.{wired-set}
+use Rattle.node_connections.proofs.Hearing.{both-same, wired-same, wired-set}
 use Rattle.node_loop.proofs.Hearing.{changed-there, counted-set}
 use Rattle.node_loop.proofs.run.NodeRun.call_on.Goals as goal
 
@@ -15,3 +15,15 @@ returns-in-Came-clause-links g c = changed-there (λ old new. (new.link ≡ old.
 
 pub returns-in-Came-clause-wires : goal.returns-in-Came-clause-wires
 returns-in-Came-clause-wires g c = wired-set c.args.self.now.ports.items c.args.id c.args.self.now.net.nodes c.index_mut.result.now c.greet.new.self c.args.self.now.ports_are c.requires.node c.index_mut.ensures.value (inl (c.greet.ensures.link.0, c.greet.ensures.link.1))
+
+pub returns-then-not-is_loose-clause-links : goal.returns-then-not-is_loose-clause-links
+returns-then-not-is_loose-clause-links g c = both-same (λ old new. (new.link ≡ old.link) × (new.is_stuck ≡ old.is_stuck)) (λ p. (refl, refl)) (slice_get c.args.self.now.ports.items c.args.id)
+
+pub returns-then-not-is_loose-clause-wires : goal.returns-then-not-is_loose-clause-wires
+returns-then-not-is_loose-clause-wires g c = (wired-same c.args.self.now.ports.items c.args.id, λ w other. refl)
+
+pub returns-in_default-clause-links : goal.returns-in_default-clause-links
+returns-in_default-clause-links g c = both-same (λ old new. (new.link ≡ old.link) × (new.is_stuck ≡ old.is_stuck)) (λ p. (refl, refl)) (slice_get c.args.self.now.ports.items c.args.id)
+
+pub returns-in_default-clause-wires : goal.returns-in_default-clause-wires
+returns-in_default-clause-wires g c = (wired-same c.args.self.now.ports.items c.args.id, λ w other. refl)
