@@ -1,4 +1,3 @@
-use Rattle.std.proofs.Common.{refl}
 use Rattle.node_connections.proofs.Written.{none-still, others-still, there-still}
 use Rattle.node_connections.proofs.clients.Clients.read.Goals as goal
 
