@@ -1,4 +1,9 @@
-use Rattle.std.proofs.Common.{◌≡◌, inl, refl, slice_get}
+use Rattle.std.proofs.Common.{◌≡◌, ◌<◌, ◌&&◌, ◌∙◌, Bool, true, Some, Option, None, inl, length, refl, slice_get, ap, sym, arith}
+use Rattle.std.specs.Prelude.{is_none, is_some}
+use Rattle.std.proofs.lemmas.Bool.{false≢true}
+use Rattle.std.proofs.lemmas.Option.{slice_get_read}
+use Rattle.node_connections.specs.declared.port.NodePort.{NodePort}
+use Rattle.node_connections.specs.Loose.{is_linked}
 use Rattle.node_connections.proofs.Loose.{loose-set}
 use Rattle.node_connections.proofs.Hearing.{both-same, wired-same, wired-set}
 use Rattle.node_loop.proofs.Hearing.{changed-there, counted-set}
@@ -27,3 +32,16 @@ returns-in_default-clause-links g c = both-same (λ old new. (new.link ≡ old.l
 
 pub returns-in_default-clause-wires : goal.returns-in_default-clause-wires
 returns-in_default-clause-wires g c = (wired-same c.args.self.now.ports.items c.args.id, λ w other. refl)
+
+-- a port with neither a pipe nor a greeting is not linked
+loose-linked : {P : Type 0} (port : NodePort P) → true ≡ (is_none port.link.pipe && is_none port.greeting) → is_linked (Some port) ≡ true → ⊥
+loose-linked port loose linked = grind arith
+
+pub returns-in-Came-clause-linked : goal.returns-in-Came-clause-linked
+returns-in-Came-clause-linked g c linked =
+    let items = c.args.self.now.ports.items in
+    let nodes = c.args.self.now.ports_are.0 in
+    let below = c.requires.node in
+    let within : c.args.id < length items = omega (arith, nodes, below) in
+    let at-id = slice_get_read items (length items) c.args.id c.index.result.now refl within c.index.ensures in
+    absurd (loose-linked c.index.result.now c.if-not-is_loose.ensures (rw at-id at linked))
