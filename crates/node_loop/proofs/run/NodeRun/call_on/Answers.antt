@@ -1,6 +1,5 @@
-use Rattle.std.proofs.Common.{◌≡◌, ◌<◌, ◌&&◌, ◌∙◌, Bool, true, Some, Option, None, inl, length, refl, slice_get, ap, sym, arith}
-use Rattle.std.specs.Prelude.{is_none, is_some}
-use Rattle.std.proofs.lemmas.Bool.{false≢true}
+use Rattle.std.proofs.Common.{◌≡◌, ◌<◌, ◌&&◌, true, Some, inl, length, refl, slice_get, arith}
+use Rattle.std.specs.Prelude.{is_none}
 use Rattle.std.proofs.lemmas.Option.{slice_get_read}
 use Rattle.node_connections.specs.declared.port.NodePort.{NodePort}
 use Rattle.node_connections.specs.Loose.{is_linked}
