@@ -6,6 +6,7 @@ pub mod Arrivals
 pub mod Rooms
 pub mod Lives
 pub mod Heard
+pub mod Written
 pub mod GoingOut
 pub mod BeingRead
 pub mod Ends

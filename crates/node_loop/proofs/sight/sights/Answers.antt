@@ -1,4 +1,4 @@
-use Rattle.std.proofs.Common.{◌≡◌, ◌<◌, ap, length, take, refl, slice_index_or, slice_set, subst, sym, Contains, rules, arith}
+use Rattle.std.proofs.Common.{◌≡◌, ◌<◌, ◌≤◌, ap, length, take, refl, slice_index_or, slice_set, subst, sym, Contains, arith}
 use Rattle.std.proofs.lemmas.List.{take_all}
 use Rattle.std.proofs.lemmas.Option.{slice_get_read}
 use Rattle.node_core.specs.View.{site_in}
@@ -25,10 +25,10 @@ bounds-ports-w g c =
     let nodes : (site_in c.args.node.now).ranges.nodes ≡ c.args.net.now.nodes = ap (λ s. s.ranges.nodes) c.requires.site in
     let below = (c.neighbours-w-items.ensures.within c.loop-w.w-index c.loop-w-test.true).1 in
     let long = c.requires.ports.0 in
-    omega arith
+    omega (arith, nodes, below, long)
 
 pub offset_bounds-ports-w : goal.offset_bounds-ports-w
-offset_bounds-ports-w g c = let within = bounds-ports-w g c in omega arith
+offset_bounds-ports-w g c = let within = bounds-ports-w g c in omega (arith, within)
 
 pub loop-w-preserved : goal.loop-w-preserved
 loop-w-preserved g c =
@@ -38,10 +38,10 @@ loop-w-preserved g c =
     let items = c.neighbours-w-items.result.now in
     let i = c.loop-w.w-index in
     let w = slice_index_or items i 0 in
-    let there : i < length ws = search rules in
+    let there : i < length ws = subst (λ xs. i < length xs) c.neighbours-w-items.ensures.neighbours c.loop-w-test.true in
     let near = c.neighbours-w-items.ensures.within i c.loop-w-test.true in
     let nodes : (site_in node).ranges.nodes ≡ c.args.net.now.nodes = ap (λ s. s.ranges.nodes) c.requires.site in
-    let within : w < length ports = let below = near.1 in let long = c.requires.ports.0 in omega arith in
+    let within : w < length ports = let below = near.1 in let long = c.requires.ports.0 in omega (arith, nodes, below, long) in
     let sight : PortSight = record { takes_frames = c.takes_frames.result; frame = c.frame_for.result; present = c.payload_for.result } in
     subst (λ vs. AreSeen (sight_at node ports) no_sight vs (slice_set c.loop-w.sights w sight)) (sym (take-next items ws c.neighbours-w-items.ensures.neighbours i there))
     (seen-next (sight_at node ports) no_sight (take i ws) c.loop-w.sights w sight near.0
@@ -51,4 +51,4 @@ loop-w-preserved g c =
 
 pub returns : goal.returns
 returns g c w below has =
-    c.loop-w.invariant.seen w (subst (λ vs. Contains vs w) (sym (take_all c.loop-w.w-index (site_in c.args.node.now).neighbours (search rules))) has)
+    c.loop-w.invariant.seen w (subst (λ vs. Contains vs w) (sym (take_all c.loop-w.w-index (site_in c.args.node.now).neighbours (subst (λ xs. length xs ≤ c.loop-w.w-index) c.neighbours-w-items.ensures.neighbours c.loop-w-test.false))) has)

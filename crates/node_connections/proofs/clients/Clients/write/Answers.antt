@@ -1,6 +1,8 @@
 use Rattle.std.proofs.Common.{◌≡◌, ◌<◌, ◌≤◌, ◌∙◌, ℕ, List, length, take, drop, ap, refl, sym, subst, inl, inr, arith, []}
-use Rattle.std.specs.Prelude.{slice_index_or, slice_set}
-use Rattle.std.proofs.lemmas.List.{get_or-set_same, length-take}
+use Rattle.std.specs.Option.{option_copied_mut}
+use Rattle.std.specs.Prelude.{slice_index_or, slice_set, IsSome}
+use Rattle.std.proofs.lemmas.Bool.{false≢true, true≢false}
+use Rattle.std.proofs.lemmas.List.{get_or-set_same, get_or-set_other, length-set, length-take}
 use Rattle.circular_buffer.specs.Buffer.{buffer}
 use Rattle.slab.specs.Slab.{get, with_value}
 use Rattle.slab.proofs.SlabLemmas.{Updates-with_value}
@@ -14,7 +16,8 @@ use Rattle.node_connections.proofs.GoingOut.{buffer-at, buffer-other, buffer-set
 use Rattle.node_connections.specs.declared.clients.Client.{Client}
 use Rattle.node_connections.proofs.Heard.{goes-nothing, heard-written, unheard-same}
 use Rattle.node_connections.proofs.Lives.{failed-here, stays-at, there, touched-here}
-use Rattle.node_connections.proofs.Saying.{said-at, said-out}
+use Rattle.node_connections.proofs.Saying.{nothing-same, said-at, said-out}
+use Rattle.node_connections.proofs.Written.{none-still, others-still, room-after, there-still}
 use Rattle.node_connections.proofs.clients.Clients.write.Goals.{in-Wrote, in-Later, then-key-ge-PLACES-via-then-key-ge-PLACES, then-key-ge-PLACES-via-else-key-ge-PLACES+then-not-contains}
 use Rattle.node_connections.proofs.clients.Clients.write.Given as given
 use Rattle.node_connections.proofs.clients.Clients.write.Goals as goal
@@ -157,3 +160,144 @@ pub returns-clause-heard : goal.returns-clause-heard
 returns-clause-heard g c =
     let client = c.in-Some.client.now in
     heard-written g.P.Pipe.gave c.args.self.now.table c.args.ticket client (record { pipe = c.try_write.new.self; reader = client.reader }) c.in-Some.ensures.value c.try_write.ensures.gave refl
+
+-- ---- a client for whom there is nothing to write
+
+pub returns-then-key-ge-PLACES-clause-same : goal.returns-then-key-ge-PLACES-clause-same
+returns-then-key-ge-PLACES-clause-same g c t = refl
+
+pub returns-then-key-ge-PLACES-clause-failed : goal.returns-then-key-ge-PLACES-clause-failed
+returns-then-key-ge-PLACES-clause-failed g c fails = absurd (true≢false fails)
+
+pub returns-then-key-ge-PLACES-clause-others_stay : goal.returns-then-key-ge-PLACES-clause-others_stay
+returns-then-key-ge-PLACES-clause-others_stay g c t other = refl
+
+pub returns-then-key-ge-PLACES-clause-others : goal.returns-then-key-ge-PLACES-clause-others
+returns-then-key-ge-PLACES-clause-others g c t other = refl
+
+pub returns-then-key-ge-PLACES-clause-nothing : goal.returns-then-key-ge-PLACES-clause-nothing
+returns-then-key-ge-PLACES-clause-nothing g c _ = nothing-same g.P.Pipe.took c.args.self.now c.args.self.now refl refl
+
+pub returns-then-count-eq0-clause-same : goal.returns-then-count-eq0-clause-same
+returns-then-count-eq0-clause-same g c t = refl
+
+pub returns-then-count-eq0-clause-failed : goal.returns-then-count-eq0-clause-failed
+returns-then-count-eq0-clause-failed g c fails = absurd (true≢false fails)
+
+pub returns-then-count-eq0-clause-others_stay : goal.returns-then-count-eq0-clause-others_stay
+returns-then-count-eq0-clause-others_stay g c t other = refl
+
+pub returns-then-count-eq0-clause-others : goal.returns-then-count-eq0-clause-others
+returns-then-count-eq0-clause-others g c t other = refl
+
+pub returns-then-count-eq0-clause-nothing : goal.returns-then-count-eq0-clause-nothing
+returns-then-count-eq0-clause-nothing g c _ = nothing-same g.P.Pipe.took c.args.self.now c.args.self.now refl refl
+
+-- ---- the client is there, as was seen before its answers were read
+
+pub invariant_of-self : goal.invariant_of-self
+invariant_of-self g c =
+    let self = c.args.self.now in
+    record {
+      room = self.room;
+      answers_are = length-set self.answers.items c.args.ticket c.read_into-all.new.self ∙ self.answers_are;
+      rooms = room-after self.answers.items c.args.ticket c.index_mut.result.now c.read_into-all.new.self self.answers_are c.if-key-ge-PLACES.false self.rooms c.index_mut.ensures.value (ap (λ b. b.capacity) c.read_into-all.ensures.items);
+      tickets = self.tickets;
+    }
+
+nobody-gone : (g : given.Over) (c : goal.After-self-in_default-3-1 g) → ⊥
+nobody-gone g c =
+    let none = sym c.get_mut.follows ∙ ap (λ x. option_copied_mut x) c.in_default.is in
+    false≢true (subst (λ x. IsSome x) none (c.contains.ensures.0 c.if-not-contains.false))
+
+pub returns-in_default-clause-same : goal.returns-in_default-clause-same
+returns-in_default-clause-same g c = absurd (nobody-gone g c)
+
+pub returns-in_default-clause-lives : goal.returns-in_default-clause-lives
+returns-in_default-clause-lives g c = absurd (nobody-gone g c)
+
+pub returns-in_default-clause-failed : goal.returns-in_default-clause-failed
+returns-in_default-clause-failed g c = absurd (nobody-gone g c)
+
+pub returns-in_default-clause-others_stay : goal.returns-in_default-clause-others_stay
+returns-in_default-clause-others_stay g c = absurd (nobody-gone g c)
+
+pub returns-in_default-clause-others : goal.returns-in_default-clause-others
+returns-in_default-clause-others g c = absurd (nobody-gone g c)
+
+pub returns-in_default-clause-heard : goal.returns-in_default-clause-heard
+returns-in_default-clause-heard g c = absurd (nobody-gone g c)
+
+pub returns-in_default-clause-nothing : goal.returns-in_default-clause-nothing
+returns-in_default-clause-nothing g c = absurd (nobody-gone g c)
+
+pub returns-in_default-clause-out : goal.returns-in_default-clause-out
+returns-in_default-clause-out g c = absurd (nobody-gone g c)
+
+-- ---- a write that failed
+
+pub invariant_of-self-in-Failed : goal.invariant_of-self-in-Failed
+invariant_of-self-in-Failed g c =
+    let self = c.args.self.now in
+    let client = c.in-Some.client.now in
+    record {
+      room = self.room;
+      answers_are = length-set self.answers.items c.args.ticket c.read_into-all.new.self ∙ self.answers_are;
+      rooms = room-after self.answers.items c.args.ticket c.index_mut.result.now c.read_into-all.new.self self.answers_are c.if-key-ge-PLACES.false self.rooms c.index_mut.ensures.value (ap (λ b. b.capacity) c.read_into-all.ensures.items);
+      tickets = none-still self.table c.args.ticket client (record { pipe = c.try_write.new.self; reader = client.reader }) c.in-Some.ensures.value self.tickets;
+    }
+
+pub returns-in-Failed-clause-same : goal.returns-in-Failed-clause-same
+returns-in-Failed-clause-same g c =
+    let client = c.in-Some.client.now in
+    there-still c.args.self.now.table c.args.ticket client (record { pipe = c.try_write.new.self; reader = client.reader }) c.in-Some.ensures.value
+
+pub returns-in-Failed-clause-lives : goal.returns-in-Failed-clause-lives
+returns-in-Failed-clause-lives g c goes = absurd (false≢true goes)
+
+pub returns-in-Failed-clause-others_stay : goal.returns-in-Failed-clause-others_stay
+returns-in-Failed-clause-others_stay g c =
+    let client = c.in-Some.client.now in
+    others-still c.args.self.now.table c.args.ticket client (record { pipe = c.try_write.new.self; reader = client.reader }) c.in-Some.ensures.value
+
+pub returns-in-Failed-clause-others : goal.returns-in-Failed-clause-others
+returns-in-Failed-clause-others g c t other =
+    ap (λ b. b.items) (get_or-set_other c.args.self.now.answers.items c.args.ticket t c.read_into-all.new.self (buffer [] 0) other)
+
+pub returns-in-Failed-clause-nothing : goal.returns-in-Failed-clause-nothing
+returns-in-Failed-clause-nothing g c goes = absurd (false≢true goes)
+
+pub returns-in-Failed-clause-out : goal.returns-in-Failed-clause-out
+returns-in-Failed-clause-out g c goes = absurd (false≢true goes)
+
+-- ---- a write that did not fail
+
+pub invariant_of-self-2 : goal.invariant_of-self-2
+invariant_of-self-2 g c =
+    let self = c.args.self.now in
+    let client = c.in-Some.client.now in
+    record {
+      room = self.room;
+      answers_are = length-set (slice_set self.answers.items c.args.ticket c.read_into-all.new.self) c.args.ticket c.fill_from_slice-rest.new.self ∙ (length-set self.answers.items c.args.ticket c.read_into-all.new.self ∙ self.answers_are);
+      rooms = room-after (slice_set self.answers.items c.args.ticket c.read_into-all.new.self) c.args.ticket c.index_mut-2.result.now c.fill_from_slice-rest.new.self (length-set self.answers.items c.args.ticket c.read_into-all.new.self ∙ self.answers_are) c.if-key-ge-PLACES.false
+          (room-after self.answers.items c.args.ticket c.index_mut.result.now c.read_into-all.new.self self.answers_are c.if-key-ge-PLACES.false self.rooms c.index_mut.ensures.value (ap (λ b. b.capacity) c.read_into-all.ensures.items))
+          c.index_mut-2.ensures.value (ap (λ b. b.capacity) c.fill_from_slice-rest.ensures.items);
+      tickets = none-still self.table c.args.ticket client (record { pipe = c.try_write.new.self; reader = client.reader }) c.in-Some.ensures.value self.tickets;
+    }
+
+pub returns-clause-same : goal.returns-clause-same
+returns-clause-same g c =
+    let client = c.in-Some.client.now in
+    there-still c.args.self.now.table c.args.ticket client (record { pipe = c.try_write.new.self; reader = client.reader }) c.in-Some.ensures.value
+
+pub returns-clause-failed : goal.returns-clause-failed
+returns-clause-failed g c fails = absurd (true≢false fails)
+
+pub returns-clause-others_stay : goal.returns-clause-others_stay
+returns-clause-others_stay g c =
+    let client = c.in-Some.client.now in
+    others-still c.args.self.now.table c.args.ticket client (record { pipe = c.try_write.new.self; reader = client.reader }) c.in-Some.ensures.value
+
+pub returns-clause-others : goal.returns-clause-others
+returns-clause-others g c t other =
+    ap (λ b. b.items) (buffer-other c.args.self.now.answers.items c.args.ticket t c.read_into-all.new.self c.fill_from_slice-rest.new.self other)

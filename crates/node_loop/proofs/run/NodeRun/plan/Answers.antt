@@ -20,3 +20,27 @@ returns g c = record {
       let within : w < length (take c.len.result sights) = rw (length-take c.len.result sights) (omega arith) in
       rw (get_or-take c.len.result sights w no_sight below, c.sights-sights.ensures w here has, c.outlook-outlook.ensures, c.deref.ensures.value) at (c.plan.ensures.offers w within);
 }
+
+pub slice_bounds-sights-end : goal.slice_bounds-sights-end
+slice_bounds-sights-end g c =
+    let self = c.args.self.now in
+    let count = c.len.ensures in
+    let nodes = self.ports_are.0 in
+    let few = self.ports_are.1 in
+    omega arith
+
+pub slice_bounds-plan-end : goal.slice_bounds-plan-end
+slice_bounds-plan-end g c =
+    let self = c.args.self.now in
+    let count = c.len.ensures in
+    let nodes = self.ports_are.0 in
+    let few = self.ports_are.1 in
+    rw (length-take c.len.result c.sights-sights.result) (omega arith)
+
+pub plan-requires : goal.plan-requires
+plan-requires g c =
+    let self = c.args.self.now in
+    let count = c.len.ensures in
+    let nodes = self.ports_are.0 in
+    let few = self.ports_are.1 in
+    rw (length-take c.len.result c.sights-sights.result) (omega arith)

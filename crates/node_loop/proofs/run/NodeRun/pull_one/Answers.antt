@@ -1,5 +1,6 @@
 use Rattle.std.proofs.Common.{◌≡◌, ◌<◌, ◌∷◌, Contains, length, ap, refl, rules, subst, sym, []}
 use Rattle.std.specs.Prelude.{slice_set}
+use Rattle.std.proofs.lemmas.Bool.{false≢true, true≢false}
 use Rattle.node_core.specs.Site.{Site, site_of}
 use Rattle.topology.specs.Ranges.{ranges_of}
 use Rattle.node_connections.specs.socket_links.Links.{Pulled}
@@ -9,6 +10,7 @@ use Rattle.node_connections.proofs.Hearing.{both-set, others-set, frame-came, la
 use Rattle.node_loop.proofs.Hearing.{counted-set, takes-none, takes-one, takes-set}
 use Rattle.node_connections.specs.Loose.{AreLoose}
 use Rattle.node_connections.proofs.Loose.{loose-set}
+use Rattle.node_loop.proofs.Remembering.{remembers-same}
 use Rattle.node_loop.proofs.run.NodeRun.pull_one.Goals as goal
 
 pub returns-then-not-is_neighbour-clause-ended : goal.returns-then-not-is_neighbour-clause-ended
@@ -86,3 +88,24 @@ invariant_of-self-in-Broken-clause-ports_are g c = counted-set c.args.self.now.p
 
 pub invariant_of-self-in-Broken-clause-strangers : goal.invariant_of-self-in-Broken-clause-strangers
 invariant_of-self-in-Broken-clause-strangers g c = loose-set c.args.self.now.node.registers.neighbours c.args.self.now.ports.items c.args.id c.pull.new.self (search rules) c.args.self.now.strangers
+
+pub returns-then-not-is_neighbour-clause-came : goal.returns-then-not-is_neighbour-clause-came
+returns-then-not-is_neighbour-clause-came g c goes = absurd (false≢true goes)
+
+pub returns-then-not-is_neighbour-clause-pace : goal.returns-then-not-is_neighbour-clause-pace
+returns-then-not-is_neighbour-clause-pace g c = remembers-same c.args.self.now.pace
+
+pub returns-in-Later-clause-came : goal.returns-in-Later-clause-came
+returns-in-Later-clause-came g c goes = absurd (false≢true goes)
+
+pub returns-in-Later-clause-pace : goal.returns-in-Later-clause-pace
+returns-in-Later-clause-pace g c = remembers-same c.args.self.now.pace
+
+pub returns-in-Broken-clause-came : goal.returns-in-Broken-clause-came
+returns-in-Broken-clause-came g c goes = absurd (false≢true goes)
+
+pub returns-in-Broken-clause-pace : goal.returns-in-Broken-clause-pace
+returns-in-Broken-clause-pace g c = remembers-same c.args.self.now.pace
+
+pub returns-clause-ended : goal.returns-clause-ended
+returns-clause-ended g c ends = absurd (true≢false ends)
