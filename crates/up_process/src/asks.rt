@@ -47,16 +47,7 @@ impl<P: OpenProcess + Drop> Asks<P> {
     pub fn new<R: Files + Sockets + AllocGlobal>(rt: &R) -> io::Result<Asks<P>>
         ensures { IfOk result (λ asks. asks.beside ≡ None) }
     {
-        Asks::over(rt, Poll::new(rt)?)
-    }
-
-    /// Nothing has asked yet, and this poll waits for standard input, if it can.
-    ///
-    /// # Errors
-    /// If memory runs out.
-    fn over<R: Files + AllocGlobal>(rt: &R, poll: Poll) -> io::Result<Asks<P>>
-        ensures { IfOk result (λ asks. asks.beside ≡ None) }
-    {
+        let poll = Poll::new(rt)?;
         let events = Events::with_capacity(rt.alloc(), 1)?;
         Ok(Asks {
             watches_input: can_watch(&poll, true),
