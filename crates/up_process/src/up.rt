@@ -106,13 +106,13 @@ impl NodeProgram for OwnProgram<'_> {
 /// Whether the system's `env` can hold signals back from what it starts: GNU's can since 8.31.
 fn can_hold_back<R: Processes + AllocGlobal>(rt: &R) -> bool {
     match held_back(rt.alloc(), "true") {
-        Ok(command) => succeeds(rt, command),
+        Ok(mut command) => succeeds(rt, &mut command),
         Err(_) => false,
     }
 }
 
 /// Whether this command, of which nothing is shown, succeeds.
-fn succeeds<R: Processes + AllocGlobal>(rt: &R, mut command: Command) -> bool {
+fn succeeds<R: Processes + AllocGlobal>(rt: &R, command: &mut Command) -> bool {
     command.stdout(Stdio::null()).stderr(Stdio::null());
     match command.status(rt) {
         Ok(status) => status.success(),
