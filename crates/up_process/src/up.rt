@@ -83,7 +83,7 @@ impl<'a> OwnProgram<'a> {
         match env::current_exe(rt) {
             Ok(program) => Ok(OwnProgram {
                 program,
-                holds_signals_back: can_hold_back(rt),
+                holds_signals_back: can_hold_back(rt).unwrap_or(false),
                 words,
             }),
             Err(_) => Err(NodeFault::System),
@@ -104,20 +104,12 @@ impl NodeProgram for OwnProgram<'_> {
 }
 
 /// Whether the system's `env` can hold signals back from what it starts: GNU's can since 8.31.
-fn can_hold_back<R: Processes + AllocGlobal>(rt: &R) -> bool {
-    match held_back(rt.alloc(), "true") {
-        Ok(mut command) => succeeds(rt, &mut command),
-        Err(_) => false,
-    }
-}
-
-/// Whether this command, of which nothing is shown, succeeds.
-fn succeeds<R: Processes + AllocGlobal>(rt: &R, command: &mut Command) -> bool {
+fn can_hold_back<R: Processes + AllocGlobal>(rt: &R) -> io::Result<bool> {
+    let mut command = held_back(rt.alloc(), "true")?;
     command.stdout(Stdio::null()).stderr(Stdio::null());
-    match command.status(rt) {
-        Ok(status) => status.success(),
-        Err(_) => false,
-    }
+    let status = command.status(rt);
+    drop(command);
+    Ok(status?.success())
 }
 
 /// A command that starts this program, with signals held back or not.
