@@ -93,10 +93,10 @@ impl fmt::Display for ProcessRefusal<'_> {
         let (file, dir, id) = (self.file, self.dir, self.id);
         match self.said() {
             Said::OfNetwork(fault) => f.write(fault),
-            Said::OfNoNode(nodes) => NoSuchNode { file, id, nodes }.fmt(f),
-            Said::OfNode => RunsAlready { dir, id }.fmt(f),
-            Said::OfFolder(said) => OfFolder(dir, said).fmt(f),
-            Said::OfFile(name, said) => OfFile(dir, name, id, said).fmt(f),
+            Said::OfNoNode(nodes) => f.write(NoSuchNode { file, id, nodes }),
+            Said::OfNode => f.write(RunsAlready { dir, id }),
+            Said::OfFolder(said) => f.write(OfFolder(dir, said)),
+            Said::OfFile(name, said) => f.write(OfFile(dir, name, id, said)),
             Said::OfSystem(said) => f.write_str(said),
         }
     }

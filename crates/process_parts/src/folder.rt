@@ -201,17 +201,27 @@ pub fn make_sockets<R: Files + Net>(
     ensures err { IfErr result (λ fault. ((fault ≡ Links) ⊎ ((fault ≡ Clients) ⊎ (fault ≡ Looks)))
         × (stage.new ≡ Held)) }
 {
-    let Ok(links) = bind_again(rt, paths.links.as_str(), rights.own()) else {
-        return Err(NodeFault::Links);
-    };
-    let Ok(clients) = bind_again(rt, paths.clients.as_str(), rights.clients()) else {
-        return Err(NodeFault::Clients);
-    };
-    let Ok(looks) = bind_again(rt, paths.looks.as_str(), rights.own()) else {
-        return Err(NodeFault::Looks);
-    };
+    let (own, of_clients) = (rights.own(), rights.clients());
+    let links = bound(rt, paths.links.as_str(), own, NodeFault::Links)?;
+    let clients = bound(rt, paths.clients.as_str(), of_clients, NodeFault::Clients)?;
+    let looks = bound(rt, paths.looks.as_str(), own, NodeFault::Looks)?;
     *stage = StartStage::Listening;
     Ok(joined(links, clients, looks))
+}
+
+/// A socket as [`bind_again`] makes it, or this fault.
+fn bound<R: Files + Net>(
+    rt: &R,
+    path: &str,
+    mode: Option<u32>,
+    fault: NodeFault,
+) -> Result<Listener, NodeFault>
+    ensures { IfErr result (λ given. given ≡ fault) }
+{
+    match bind_again(rt, path, mode) {
+        Ok(listener) => Ok(listener),
+        Err(_) => Err(fault),
+    }
 }
 
 /// The sockets of a node.
@@ -278,7 +288,9 @@ fn push_addresses(
 {
     for id in 0..nodes {
         let address = address_of(alloc, dir, id)?;
-        addresses.push(address).map_err(|_| NodeFault::Memory)?;
+        if addresses.push(address).is_err() {
+            return Err(NodeFault::Memory);
+        }
     }
     Ok(())
 }
@@ -288,7 +300,10 @@ fn address_of(alloc: Global, dir: &str, id: u16) -> Result<SocketAddr, NodeFault
     ensures { IfErr result (λ fault. (fault ≡ LongName) ⊎ (fault ≡ Memory)) }
 {
     let name = links_name(alloc, dir, id)?;
-    SocketAddr::from_pathname(name.as_str()).map_err(|_| NodeFault::LongName)
+    match SocketAddr::from_pathname(name.as_str()) {
+        Ok(address) => Ok(address),
+        Err(_) => Err(NodeFault::LongName),
+    }
 }
 
 /// A new file of this name, for its owner alone. It replaces a plain file that was there. Anything
@@ -297,19 +312,25 @@ fn address_of(alloc: Global, dir: &str, id: u16) -> Result<SocketAddr, NodeFault
 /// # Errors
 /// If something else has that name, or the system makes no file.
 pub fn new_file<F: Files<File = File>>(files: &F, path: &str) -> io::Result<File> {
-    match fs::symlink_metadata(files, path) {
-        Ok(found) if !found.is_file() => {
-            return Err(io::Error::new(ErrorKind::InvalidInput, "it is no plain file"));
-        }
-        Ok(_) => fs::remove_file(files, path)?,
-        Err(error) if error.kind() == ErrorKind::NotFound => {}
-        Err(error) => return Err(error),
-    }
+    make_way(files, path)?;
     OpenOptions::new()
         .write(true)
         .create_new(true)
         .mode(FILE_MODE)
         .open(files, path)
+}
+
+/// Removes a plain file of this name, if it is there. Anything else of that name stays.
+///
+/// # Errors
+/// If something else has that name, or the system does not remove the file.
+fn make_way<F: Files>(files: &F, path: &str) -> io::Result<()> {
+    match fs::symlink_metadata(files, path) {
+        Ok(found) if found.is_file() => fs::remove_file(files, path),
+        Ok(_) => Err(io::Error::new(ErrorKind::InvalidInput, "it is no plain file")),
+        Err(error) if error.kind() == ErrorKind::NotFound => Ok(()),
+        Err(error) => Err(error),
+    }
 }
 
 /// A plain file that is there, of which all is cut off after so many bytes. What is written goes to its
@@ -318,11 +339,20 @@ pub fn new_file<F: Files<File = File>>(files: &F, path: &str) -> io::Result<File
 /// # Errors
 /// If it is no plain file, has fewer bytes, or the system does not open or cut it.
 pub fn file_up_to<F: Files<File = File>>(files: &F, path: &str, length: u64) -> io::Result<File> {
+    check_length(files, path, length)?;
+    let file = OpenOptions::new().append(true).open(files, path)?;
+    file.set_len(length)?;
+    Ok(file)
+}
+
+/// Refuses what is no plain file, or has fewer bytes.
+///
+/// # Errors
+/// Then, or if the system does not say.
+fn check_length<F: Files>(files: &F, path: &str, length: u64) -> io::Result<()> {
     let found = fs::symlink_metadata(files, path)?;
     if !found.is_file() || found.len() < length {
         return Err(io::Error::new(ErrorKind::InvalidData, "it was changed"));
     }
-    let file = OpenOptions::new().append(true).open(files, path)?;
-    file.set_len(length)?;
-    Ok(file)
+    Ok(())
 }

@@ -3,9 +3,10 @@ ghost use Rattle.std.specs.Prelude.{IfOk, IfErr};
 ghost use Rattle.clap.specs.Matches.{found_of};
 ghost use Rattle.process_words.specs.NodeWords.{IsNodeOf, AreNodeWordsRefused};
 
-use crate::options::{DIR, OPTIONS, late_after, log_level, manner, record_size, rights};
+use crate::options::{DIR, OPTIONS};
+use crate::up;
 use clap::ArgMatches;
-use command_grammar::{FREE, Grammar, Parameter, given_number, word};
+use command_grammar::{FREE, Grammar, Parameter, given_number};
 use command_words::program::{FILE, ID, VERSION};
 use command_words::refusal::Refusal;
 use process_parts::NodeWords;
@@ -95,16 +96,19 @@ pub fn asked<'a>(given: &ArgMatches<'a>) -> Result<NodeWords<'a>, Refusal>
     ensures ok { IfOk result (IsNodeOf (found_of given.now)) }
     ensures err { IfErr result (AreNodeWordsRefused (found_of given.now)) }
 {
+    let id = given_number(given, ID)? as u16;
+    // Beside these, it takes what `up` takes.
+    let words = up::asked(given)?;
     Ok(NodeWords {
-        file: word(given, "FILE")?,
-        id: given_number(given, ID)? as u16,
-        dir: word(given, "DIR")?,
-        manner: manner(given)?,
-        turn: late_after(given)?,
+        file: words.file,
+        id,
+        dir: words.dir,
+        manner: words.manner,
+        turn: words.turn,
         version: VERSION,
-        rights: rights(given),
-        log: log_level(given)?,
-        record_size: record_size(given)?,
+        rights: words.rights,
+        log: words.log,
+        record_size: words.record_size,
         is_child: given.get_flag("child"),
     })
 }

@@ -2,7 +2,7 @@
 ghost use Rattle.std.specs.Prelude.{◌≡◌, IfOk, IfErr, if◌then◌else◌, is_ok, codes};
 ghost use Rattle.std.specs.Process.{exit_status};
 ghost use Rattle.clap.specs.Matches.{found_of};
-ghost use Rattle.command_grammar.specs.Given.{IsRefused};
+ghost use Rattle.command_grammar.specs.Given.{IsGivenOr, IsRefused};
 ghost use Rattle.process_words.specs.GivenRights.{AreRightsOf};
 ghost use Rattle.process_words.specs.LogAndRecord.{IsLogOf, IsSizeOf};
 ghost use Rattle.process_words.specs.Manner.{IsMannerOf, IsMannerRefused};
@@ -114,9 +114,8 @@ pub fn record_size(given: &ArgMatches) -> Result<Option<RecordSize>, WordFault<'
     ensures ok { IfOk result (IsSizeOf (found_of given.now)) }
     ensures err { IfErr result (IsRefused (found_of given.now) (codes "record-size") 65536 1073741824) }
 {
-    let size = match number_if_given(given, RECORD_SIZE)? {
-        Some(bytes) => RecordSize { bytes },
-        None => USUAL_SIZE,
+    let size = RecordSize {
+        bytes: number_or(given, RECORD_SIZE, USUAL_SIZE.bytes)?,
     };
     Ok(given.get_flag("record").then_some(size))
 }
@@ -160,9 +159,23 @@ pub fn manner(given: &ArgMatches) -> Result<Manner, WordFault<'static>>
 {
     let usual = Manner::usual();
     Ok(Manner {
-        hold: number_if_given(given, HOLD)?.unwrap_or(usual.hold),
-        repeat: number_if_given(given, REPEAT)?.unwrap_or(usual.repeat),
+        hold: number_or(given, HOLD, usual.hold)?,
+        repeat: number_or(given, REPEAT, usual.repeat)?,
     })
+}
+
+/// The number of an option, or this usual one if the words leave it out.
+fn number_or(
+    given: &ArgMatches,
+    number: Number<'static>,
+    usual: u64,
+) -> Result<u64, WordFault<'static>>
+    ensures ok { IfOk result (IsGivenOr (found_of given.now)
+        number.entry.id.now number.entry.least number.entry.most usual) }
+    ensures err { IfErr result (IsRefused (found_of given.now)
+        number.entry.id.now number.entry.least number.entry.most) }
+{
+    Ok(number_if_given(given, number)?.unwrap_or(usual))
 }
 
 /// The status of a finished command; after a fault, prints its line and returns 1.

@@ -1,6 +1,8 @@
 //! Doors over Unix sockets.
-ghost use Rattle.std.specs.Prelude.{◌≡◌, true, false, None, IfOk, OnOk, IsErr, IsSome};
+ghost use Rattle.std.specs.Prelude.{◌≡◌, ◌≢◌, ◌⊎◌, true, false, None, IfOk, OnOk, IsErr, IsSome};
+ghost use Rattle.std.specs.declared.io.ErrorKind.TheVariants.{WouldBlock, Interrupted};
 ghost use Rattle.node_connections.specs.Doors.{Opens};
+ghost use Rattle.node_connections.specs.declared.doors.Door.TheVariants.{Nobody, Failed};
 
 use crate::pipe::{UnixPipe, hold_few, is_passing};
 use crate::seats::{ClientSight, Seats};
@@ -32,6 +34,13 @@ const LOOKS: Token = Token(4);
 /// How many events one wait takes. What it leaves, the next wait takes.
 const EVENTS: usize = 64;
 
+/// What a wait waits with, and what the last one reported.
+#[derive(Drop)]
+struct Watch {
+    poll: Poll,
+    events: Events,
+}
+
 /// Doors over three listening Unix sockets, and the addresses of all nodes. A wait ends as soon as
 /// anything comes.
 ///
@@ -40,8 +49,7 @@ const EVENTS: usize = 64;
 #[derive(Drop)]
 pub struct UnixDoors<'a, N> {
     net: &'a N,
-    poll: Poll,
-    events: Events,
+    watch: Watch,
     listeners: Listeners,
     /// Of each node by its id, where the nodes of greater ids connect.
     addresses: Vec<SocketAddr>,
@@ -68,22 +76,18 @@ impl<'a, N: Net> UnixDoors<'a, N> {
             × (doors.clients_may_come ≡ true) × (doors.looks_may_come ≡ true)) }
         ensures none_closed { IfOk result (λ doors. doors.seats.closed ≡ 0) }
     {
-        let poll = Poll::new(net)?;
-        let events = Events::with_capacity(alloc, EVENTS)?;
-        listen(&poll, &mut listeners.links, LINKS)?;
-        listen(&poll, &mut listeners.clients, CLIENTS)?;
-        listen(&poll, &mut listeners.looks, LOOKS)?;
+        let watch = watch_over(net, alloc, &mut listeners)?;
+        let seats = Seats::new(alloc)?;
         Ok(UnixDoors {
             net,
-            poll,
-            events,
+            watch,
             listeners,
             addresses,
             links_may_come: true,
             clients_may_come: true,
             looks_may_come: true,
             input_has_news: false,
-            seats: Seats::new(alloc)?,
+            seats,
             failures: 0,
         })
     }
@@ -95,7 +99,7 @@ impl<'a, N: Net> UnixDoors<'a, N> {
     pub fn watch_input(&mut self) -> io::Result<()>
         ensures { self.new.failures ≡ self.old.failures }
     {
-        watch_input(self.poll.registry(), INPUT, true)
+        watch_input(self.watch.poll.registry(), INPUT, true)
     }
 
     /// Whether standard input, if it is watched, is at its end.
@@ -109,7 +113,7 @@ impl<'a, N: Net> UnixDoors<'a, N> {
         }
         self.input_has_news = false;
         read_input(rt) != InputSight::Open
-            || watch_input(self.poll.registry(), INPUT, false).is_err()
+            || watch_input(self.watch.poll.registry(), INPUT, false).is_err()
     }
 
     /// Listens for neighbours at this socket from now on, in place of that before.
@@ -121,7 +125,7 @@ impl<'a, N: Net> UnixDoors<'a, N> {
         ensures listens { OnOk result (self.new.links_may_come ≡ true) }
         ensures stays { IsErr result → self.new.links_may_come ≡ self.old.links_may_come }
     {
-        listen(&self.poll, &mut links, LINKS)?;
+        listen(&self.watch.poll, &mut links, LINKS)?;
         self.listeners.links = links;
         self.links_may_come = true;
         Ok(())
@@ -136,7 +140,7 @@ impl<'a, N: Net> UnixDoors<'a, N> {
         ensures listens { OnOk result (self.new.clients_may_come ≡ true) }
         ensures stays { IsErr result → self.new.clients_may_come ≡ self.old.clients_may_come }
     {
-        listen(&self.poll, &mut clients, CLIENTS)?;
+        listen(&self.watch.poll, &mut clients, CLIENTS)?;
         self.listeners.clients = clients;
         self.clients_may_come = true;
         Ok(())
@@ -151,7 +155,7 @@ impl<'a, N: Net> UnixDoors<'a, N> {
         ensures listens { OnOk result (self.new.looks_may_come ≡ true) }
         ensures stays { IsErr result → self.new.looks_may_come ≡ self.old.looks_may_come }
     {
-        listen(&self.poll, &mut looks, LOOKS)?;
+        listen(&self.watch.poll, &mut looks, LOOKS)?;
         self.listeners.looks = looks;
         self.looks_may_come = true;
         Ok(())
@@ -196,7 +200,7 @@ impl<'a, N: Net> UnixDoors<'a, N> {
     fn note_events(&mut self)
         ensures { self.new.failures ≡ self.old.failures }
     {
-        for event in self.events.iter() {
+        for event in self.watch.events.iter() {
             match event.token() {
                 LINKS => self.links_may_come = true,
                 CLIENTS => self.clients_may_come = true,
@@ -211,20 +215,34 @@ impl<'a, N: Net> UnixDoors<'a, N> {
     fn door_of(&mut self, made: io::Result<UnixStream>) -> Door<UnixPipe>
         ensures { Opens result self.old.failures self.new.failures }
     {
-        let watched = made.and_then(|mut stream| {
-            self.poll
-                .registry()
-                .register(&mut stream, CONNECTION, Interest::READABLE)?;
-            Ok(stream)
-        });
-        match watched {
-            Ok(stream) => Door::Came(UnixPipe::new(stream)),
-            Err(error) if is_passing(error.kind()) => Door::Nobody,
-            Err(_) => {
-                self.failures = self.failures.saturating_add(1);
-                Door::Failed
-            }
+        match made {
+            Ok(stream) => self.watched_door(stream),
+            Err(error) => self.no_door(error.kind()),
         }
+    }
+
+    /// This connection, whose bytes end a wait from now on, or why it is none.
+    fn watched_door(&mut self, mut stream: UnixStream) -> Door<UnixPipe>
+        ensures { Opens result self.old.failures self.new.failures }
+    {
+        let registry = self.watch.poll.registry();
+        match registry.register(&mut stream, CONNECTION, Interest::READABLE) {
+            Ok(()) => Door::Came(UnixPipe::new(stream)),
+            Err(error) => self.no_door(error.kind()),
+        }
+    }
+
+    /// Why there is no connection: nobody has come, or it failed, which is counted.
+    fn no_door(&mut self, kind: io::ErrorKind) -> Door<UnixPipe>
+        ensures opens { Opens result self.old.failures self.new.failures }
+        ensures nobody { (kind ≡ WouldBlock) ⊎ (kind ≡ Interrupted) → result ≡ Nobody }
+        ensures failed { kind ≢ WouldBlock → kind ≢ Interrupted → result ≡ Failed }
+    {
+        if is_passing(kind) {
+            return Door::Nobody;
+        }
+        self.failures = self.failures.saturating_add(1);
+        Door::Failed
     }
 }
 
@@ -236,8 +254,9 @@ impl<'a, N: Net> Doors for UnixDoors<'a, N> {
     fn wait(&mut self, rest: u64) {
         // A wait that fails ends at once, and the turn asks all the same.
         let waited = self
+            .watch
             .poll
-            .poll(&mut self.events, Some(Duration::from_micros(rest)));
+            .poll(&mut self.watch.events, Some(Duration::from_micros(rest)));
         if waited.is_err() {
             self.links_may_come = true;
             self.clients_may_come = true;
@@ -250,8 +269,8 @@ impl<'a, N: Net> Doors for UnixDoors<'a, N> {
         if !self.links_may_come {
             return Door::Nobody;
         }
-        let accepted = self.listeners.links.accept();
-        let door = self.door_of(accepted.and_then(|(stream, _)| hold_few(stream)));
+        let comer = comer_at(&self.listeners.links);
+        let door = self.door_of(comer.and_then(hold_few));
         if matches!(door, Door::Nobody) {
             self.links_may_come = false;
         }
@@ -262,8 +281,8 @@ impl<'a, N: Net> Doors for UnixDoors<'a, N> {
         if !self.clients_may_come {
             return Door::Nobody;
         }
-        let accepted = self.listeners.clients.accept().map(|(stream, _)| stream);
-        match self.door_of(accepted) {
+        let comer = comer_at(&self.listeners.clients);
+        match self.door_of(comer) {
             Door::Came(pipe) => Door::Came(self.seats.take(pipe)),
             Door::Nobody => {
                 self.clients_may_come = false;
@@ -281,6 +300,36 @@ impl<'a, N: Net> Doors for UnixDoors<'a, N> {
         let made = UnixStream::connect_addr(self.net, address);
         self.door_of(made.and_then(hold_few))
     }
+}
+
+/// A poll to which these sockets are new, and which reports them.
+///
+/// # Errors
+/// If the system gives no poll or does not watch a socket, or memory runs out.
+fn watch_over<N: Net>(net: &N, alloc: Global, listeners: &mut Listeners) -> io::Result<Watch> {
+    let watch = new_watch(net, alloc)?;
+    listen_to_all(&watch.poll, listeners)?;
+    Ok(watch)
+}
+
+/// A poll that reports nothing yet.
+fn new_watch<N: Net>(net: &N, alloc: Global) -> io::Result<Watch> {
+    let poll = Poll::new(net)?;
+    let events = Events::with_capacity(alloc, EVENTS)?;
+    Ok(Watch { poll, events })
+}
+
+/// Has a poll report these sockets, each under its token.
+fn listen_to_all(poll: &Poll, listeners: &mut Listeners) -> io::Result<()> {
+    listen(poll, &mut listeners.links, LINKS)?;
+    listen(poll, &mut listeners.clients, CLIENTS)?;
+    listen(poll, &mut listeners.looks, LOOKS)
+}
+
+/// The next connection at a socket that listens.
+fn comer_at(listener: &UnixListener) -> io::Result<UnixStream> {
+    let (stream, _) = listener.accept()?;
+    Ok(stream)
 }
 
 /// Has a poll report a socket that listens, under this token.

@@ -5,7 +5,6 @@ ghost use Rattle.held_signals.specs.Signals.{no_signals};
 use held_signals::{Signals, state_now};
 use mio::{Events, Poll, Token};
 use process_parts::{InputSight, UpSights, read_input, watch_input};
-use std::alloc::Global;
 use std::io::Input;
 use std::net::Net as Sockets;
 use std::os::unix::process::ExitStatusExt;
@@ -174,16 +173,15 @@ fn begin_sleeper<R: Processes + AllocGlobal>(rt: &R, beside: &mut Option<Child<R
 
 /// A process that waits, and holds no signal back.
 fn sleeper<R: Processes + AllocGlobal>(rt: &R) -> io::Result<Child<R::Started>> {
-    let mut command = sleep_command(rt.alloc())?;
-    command.stdin(Stdio::null()).stdout(Stdio::null());
-    let child = command.spawn(rt);
+    let mut command = Command::new(rt.alloc(), "sleep")?;
+    let child = spawn_sleeper(rt, &mut command);
     drop(command);
     child
 }
 
-/// The command that waits.
-fn sleep_command(alloc: Global) -> io::Result<Command> {
-    let mut command = Command::new(alloc, "sleep")?;
+/// Starts the command that waits, for so many seconds.
+fn spawn_sleeper<R: Processes>(rt: &R, command: &mut Command) -> io::Result<Child<R::Started>> {
     command.arg(SECONDS)?;
-    Ok(command)
+    command.stdin(Stdio::null()).stdout(Stdio::null());
+    command.spawn(rt)
 }

@@ -33,7 +33,7 @@ use std::fs::File;
 use std::io::Input;
 use std::net::Net as Sockets;
 use std::os::unix::process::ExitStatusExt;
-use std::path::{Path, PathBuf};
+use std::path::PathBuf;
 use std::process::{Child, Command, ExitStatus, OpenProcess, Processes, Stdio};
 use std::rt::{Clock, Env, Files};
 use std::{env, io};
@@ -105,7 +105,7 @@ impl NodeProgram for OwnProgram<'_> {
 
 /// Whether the system's `env` can hold signals back from what it starts: GNU's can since 8.31.
 fn can_hold_back<R: Processes + AllocGlobal>(rt: &R) -> io::Result<bool> {
-    let mut command = held_back(rt.alloc(), Path::new("true"))?;
+    let mut command = held_back(rt.alloc(), "true")?;
     command.stdout(Stdio::null()).stderr(Stdio::null());
     let status = command.status(rt);
     drop(command);
@@ -115,24 +115,17 @@ fn can_hold_back<R: Processes + AllocGlobal>(rt: &R) -> io::Result<bool> {
 /// A command that starts this program, with signals held back or not.
 fn bare_command(alloc: Global, program: &PathBuf, holds_signals_back: bool) -> io::Result<Command> {
     if holds_signals_back {
-        held_back(alloc, program.as_path())
+        held_back(alloc, program.as_os_str())
     } else {
         Ok(Command::new(alloc, program.as_path())?)
     }
 }
 
 /// A command that starts a program with signals held back.
-fn held_back(alloc: Global, program: Path<'_>) -> io::Result<Command> {
+fn held_back(alloc: Global, program: &str) -> io::Result<Command> {
     let mut command = Command::new(alloc, ENV)?;
-    add_held_back(&mut command, program)?;
+    add_two(&mut command, HOLD_SIGNALS_BACK, program)?;
     Ok(command)
-}
-
-/// Adds the words that start a program with signals held back.
-fn add_held_back(command: &mut Command, program: Path<'_>) -> io::Result<()> {
-    command.arg(HOLD_SIGNALS_BACK)?;
-    command.arg(program)?;
-    Ok(())
 }
 
 /// Adds the words that make this program node `id` of the network of FILE in DIR, as a child.
@@ -329,11 +322,20 @@ where
     R: Files<File = File> + Sockets + Clock + Input + Print + Eprint + Processes + AllocGlobal,
 {
     let mut stage = StartStage::Begun;
-    let net = check_network(rt, file, dir, &mut stage)?;
+    let extent = check_network(rt, file, dir, &mut stage)?;
     make_folder(rt, dir, program.rights(), &mut stage)?;
     // Held until it ends.
     let _place = hold_up_place(rt, dir, &mut stage)?;
-    run_in_place(rt, program, &net)
+    run_in_place(rt, program, extent)
+}
+
+/// What `up` has to know of a network.
+#[derive(Clone, Copy)]
+struct Extent {
+    /// How many nodes it has.
+    nodes: u16,
+    /// How many frames each of its links holds.
+    capacity: u16,
 }
 
 /// Takes the place of `up` in a folder.
@@ -361,28 +363,41 @@ fn check_network<R: Files + AllocGlobal>(
     file: &str,
     dir: &str,
     stage: &mut StartStage,
-) -> Result<Net, NodeFault>
+) -> Result<Extent, NodeFault>
     requires { stage.old ≡ Begun }
     ensures ok { IfOk result (λ _. stage.new ≡ Checked) }
     ensures err { IfErr result (λ fault. (may_end Begun fault ≡ true) × (stage.new ≡ Begun)) }
 {
-    let net = match read_network(rt, file) {
-        Ok(net) => net,
+    let extent = match read_network(rt, file) {
+        Ok(net) => extent_of(&net),
         Err(fault) => return Err(NodeFault::Network(fault)),
     };
-    check_names(rt.alloc(), dir, net.nodes())?;
+    check_names(rt.alloc(), dir, extent.nodes)?;
     *stage = StartStage::Checked;
-    Ok(net)
+    Ok(extent)
+}
+
+/// What `up` has to know of this network.
+fn extent_of(net: &Net) -> Extent
+    ensures { (result.nodes ≡ net.now.nodes) × (result.capacity ≡ net.now.capacity) }
+{
+    Extent {
+        nodes: net.nodes(),
+        capacity: net.capacity(),
+    }
 }
 
 /// Keeps all nodes of a network running in the folder whose place is held.
-fn run_in_place<R, C: NodeProgram>(rt: &R, program: &C, net: &Net) -> Result<(), NodeFault>
+fn run_in_place<R, C: NodeProgram>(rt: &R, program: &C, extent: Extent) -> Result<(), NodeFault>
 where
     R: Files + Sockets + Clock + Input + Print + Eprint + Processes + AllocGlobal,
 {
-    let mut asks = Asks::new(rt).map_err(|error| fault_of(error.kind()))?;
-    warn_of_capacity(rt, net.capacity());
-    let ended = keep_all(rt, program, &mut asks, net.nodes());
+    let mut asks = match Asks::new(rt) {
+        Ok(asks) => asks,
+        Err(error) => return Err(fault_of(error.kind())),
+    };
+    warn_of_capacity(rt, extent.capacity);
+    let ended = keep_all(rt, program, &mut asks, extent.nodes);
     asks.close();
     ended
 }
@@ -439,15 +454,28 @@ where
     let mut course = UpCourse::new();
     let mut word = None;
     for _ in 0..u64::MAX {
-        for one in kept.iter_mut() {
-            note_of_one(rt, program, one, word);
-        }
+        note_of_all(rt, program, kept, word);
         if !any_is_kept(kept) {
             break;
         }
         word = course.step(asks.sights(rt, course.is_ending()));
     }
     course.is_ending()
+}
+
+/// Takes note, of each node, of what was seen of `up` itself, or of what a look at the node shows.
+fn note_of_all<R, C: NodeProgram>(
+    rt: &R,
+    program: &C,
+    kept: &mut [Kept<R::Started>],
+    word: Option<Seen>,
+)
+where
+    R: Print + Processes + AllocGlobal,
+{
+    for one in kept {
+        note_of_one(rt, program, one, word);
+    }
 }
 
 /// Takes note of what was seen of `up` itself; if nothing was, of what a look at the node shows.
@@ -519,16 +547,13 @@ where
     ensures id { kept.new.id ≡ kept.old.id }
     ensures started { (kept.new.keeper.stage ≡ Runs 0) ⊎ (kept.new.keeper.stage ≡ Waits 10) }
 {
-    match start(rt, program, kept.id) {
-        Ok(child) => {
-            kept.child = Some(child);
-            kept.keeper.step(Seen::Started);
-        }
-        Err(_) => {
-            let (id, end) = (kept.id, End::Unstarted);
-            kept.keeper.step(Seen::Ended(end));
-            say(rt, kept, &EndLine { id, end });
-        }
+    kept.child = start(rt, program, kept.id).ok();
+    if kept.child.is_some() {
+        kept.keeper.step(Seen::Started);
+    } else {
+        let (id, end) = (kept.id, End::Unstarted);
+        kept.keeper.step(Seen::Ended(end));
+        say(rt, kept, &EndLine { id, end });
     }
 }
 
@@ -564,6 +589,11 @@ where
     ensures gone { kept.new.child ≡ None }
 {
     kept.child = None;
+    print_line(rt, line);
+}
+
+/// Prints a line in one write, if memory does not run out.
+fn print_line<R: Print + AllocGlobal, D: Display>(rt: &R, line: &D) {
     if let Ok(text) = format!(in rt.alloc(); "{line}\n") {
         let _ = rt.print(text.as_str());
     }
