@@ -8,6 +8,7 @@ use process_parts::{
     FolderPlace, NodeFault, NodePaths, NodeWords, StartStage, check_names, hold_place, make_folder,
     read_network,
 };
+use std::alloc::Global;
 use std::fs::File;
 use std::rt::Files;
 use topology::Net;
@@ -26,14 +27,28 @@ pub fn check_words<R: Files + AllocGlobal>(
     ensures ok { IfOk result (λ net. (words.now.id < net.nodes) × (stage.new ≡ Checked)) }
     ensures err { IfErr result (λ fault. (may_end Begun fault ≡ true) × (stage.new ≡ Begun)) }
 {
-    let net = match read_network(rt, words.file) {
-        Ok(net) => net,
-        Err(fault) => return Err(NodeFault::Network(fault)),
-    };
-    check_id(words.id, &net)?;
-    check_names(rt.alloc(), words.dir, net.nodes())?;
-    *stage = StartStage::Checked;
-    Ok(net)
+    match read_network(rt, words.file) {
+        Ok(net) => match check_place(rt.alloc(), words, &net) {
+            Ok(()) => {
+                *stage = StartStage::Checked;
+                Ok(net)
+            }
+            Err(fault) => {
+                drop(net);
+                Err(fault)
+            }
+        },
+        Err(fault) => Err(NodeFault::Network(fault)),
+    }
+}
+
+/// Refuses an id that is no node's of this network, and a folder whose name is too long for its nodes.
+fn check_place(alloc: Global, words: &NodeWords<'_>, net: &Net) -> Result<(), NodeFault>
+    ensures ok { IfOk result (λ _. words.now.id < net.now.nodes) }
+    ensures err { IfErr result (λ fault. may_end Begun fault ≡ true) }
+{
+    check_id(words.id, net)?;
+    check_names(alloc, words.dir, net.nodes())
 }
 
 /// Refuses an id that is no node's.

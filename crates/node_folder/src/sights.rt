@@ -1,12 +1,13 @@
 //! What a node sees of its files while it runs, and which of them it removes.
 ghost use Rattle.std.specs.Prelude.{◌≡◌, false};
 ghost use Rattle.process_parts.specs.node_keeping.AfterSave.{looks_for_stop};
+ghost use Rattle.network_news.specs.News.{found_in, news_then};
 ghost use Rattle.process_parts.specs.node_keeping.declared.saved.StopSight.TheVariants.{Absent};
 
 use crate::doors::ProcessDoors;
 use crate::names::Names;
 use held_signals::state_now;
-use network_news::news_line;
+use network_news::{FileNews, found_in, news_line};
 use process_parts::{
     AfterSave, NetworkFault, NodePaths, NodeWords, Sights, StopSight, looks_for_stop, remove,
 };
@@ -36,11 +37,22 @@ pub fn see<R: Files + Input + AllocGlobal, D: ProcessDoors>(
     Sights {
         place,
         stop,
-        is_asked: words.is_child && (doors.has_input_ended(rt) || state_now(rt).heeded().terminate),
+        is_asked: is_asked(rt, words, doors),
         links: names.links.sight(rt),
         clients: names.clients.sight(rt),
         looks: names.looks.sight(rt),
     }
+}
+
+/// Whether a node that `up` started is asked to end.
+fn is_asked<R: Files + Input + AllocGlobal, D: ProcessDoors>(
+    rt: &R,
+    words: &NodeWords<'_>,
+    doors: &mut D,
+) -> bool
+    ensures { words.now.is_child ≡ false → result ≡ false }
+{
+    words.is_child && (doors.has_input_ended(rt) || state_now(rt).heeded().terminate)
 }
 
 /// Looks for the stop file, and removes it.
@@ -66,8 +78,23 @@ fn remove_sockets<F: Files>(files: &F, paths: &NodePaths) {
     let _ = remove(files, paths.looks.as_str());
 }
 
-/// Says what a node of this network found in its file.
+/// Says what a node of this network found in its file, if that is news.
 pub fn say_news<R: Eprint + AllocGlobal>(
+    rt: &R,
+    words: &NodeWords<'_>,
+    news: &mut FileNews,
+    own: &Net,
+    read: &Result<Net, NetworkFault>,
+)
+    ensures { news.new ≡ news_then (found_in own.now read.now) }
+{
+    if news.step(found_in(own, read)) {
+        say_line(rt, words, own, read);
+    }
+}
+
+/// Says what a node of this network found in its file.
+fn say_line<R: Eprint + AllocGlobal>(
     rt: &R,
     words: &NodeWords<'_>,
     own: &Net,

@@ -6,10 +6,10 @@ ghost use Rattle.node_process.specs.Ends.{end_fault, ends_by};
 
 use crate::observer::Observer;
 use crate::start::start_node;
-use look_window::{COMERS, is_let_in, show};
+use look_window::{COMERS, LookNotes, is_let_in, show};
 use node_folder::{
     FileNews, FileStore, FolderOpener, Names, Opener, ProcessDoors, Seat, Stopwatch, Store,
-    check_words, found_in, remove_own_sockets, say_news, see, take_place,
+    check_words, remove_own_sockets, say_news, see, take_place,
 };
 use node_loop::{Doors, NodeRun};
 use record_files::process_parts::{
@@ -204,24 +204,19 @@ where
     let clients = run.doors().look_at_clients();
     observer.turn_ended(run, &turned, clients, now);
     if run.doors().may_be_looked_at() {
-        show_all(alloc, observer, run);
+        show_all(alloc, &observer.window, run, observer.watch.last());
     }
     turned.is_to_look()
 }
 
-/// Shows all lookers how the node stands. If memory is refused, they wait.
-fn show_all<R, D: ProcessDoors, S: Store + Drop>(
+/// Shows all lookers how the node stands at this instant. If memory is refused, they wait.
+fn show_all<D: ProcessDoors, S: Store + Drop>(
     alloc: Global,
-    observer: &Observer<'_, '_, R>,
+    window: &LookNotes<'_>,
     run: &mut NodeRun<D, S>,
-)
-where
-    R: Files<File = File> + Clock + Eprint + AllocGlobal,
-{
-    if let Ok(line) = observer
-        .window
-        .line(alloc, run.node(), observer.watch.last())
-    {
+    at: u64,
+) {
+    if let Ok(line) = window.line(alloc, run.node(), at) {
         show_line(run.doors(), line.as_bytes());
     }
 }
@@ -281,9 +276,7 @@ fn rewire_by_file<R: Files + Eprint + AllocGlobal, D: Doors, S: Store + Drop>(
     ensures { IsTrue (is_same_frame run.old.net run.new.net) }
 {
     let read = read_network(rt, words.file);
-    if news.step(found_in(run.net(), &read)) {
-        say_news(rt, words, run.net(), &read);
-    }
+    say_news(rt, words, news, run.net(), &read);
     if let Ok(net) = &read {
         let _ = run.rewire(net);
     }

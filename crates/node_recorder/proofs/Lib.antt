@@ -1,3 +1,4 @@
 mod Parts
 mod Zipped
+mod Steps
 mod Rows

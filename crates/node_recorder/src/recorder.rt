@@ -1,6 +1,6 @@
 //! The recorder of a node.
 ghost use Rattle.std.specs.Prelude.{◌≡◌, ◌<◌, ◌⊎◌, IfOk, IsTrue, length, true, false};
-ghost use Rattle.node_recorder.specs.Backlog.{first_instant, nothing};
+ghost use Rattle.node_recorder.specs.Backlog.{first_instant, has_room, nothing};
 ghost use Rattle.node_follower.specs.accounts.Deeds.{Leads};
 ghost use Rattle.node_follower.specs.node_core.Site.{site_of};
 ghost use Rattle.node_follower.specs.node_core.View.{site_in, state_of};
@@ -9,7 +9,7 @@ ghost use Rattle.node_follower.specs.Following.{account_of, AreSame, FitsNetwork
 ghost use Rattle.node_follower.specs.Parts.{state_parts};
 ghost use Rattle.node_recorder.specs.Turns.{after_deeds, after_parts, after_ports, after_queue, after_state};
 ghost use Rattle.node_recorder.specs.Turns.{mixed, network_mark, is_to_begin, with_backlog, with_beginning};
-ghost use Rattle.node_recorder.specs.Turns.{Records, Settles, Stands, TakesOver};
+ghost use Rattle.node_recorder.specs.Turns.{KeepsDeeds, NotesNow, Records, Settles, Stands, TakesOver};
 
 use crate::backlog::Backlog;
 use flight_recorder::{Deed, Noted, Recorder, StatePart};
@@ -77,18 +77,36 @@ impl<A: Allocator + Copy> NodeRecorder<A> {
         }
         if self.is_lost {
             self.take_over(node, now);
-            return;
+        } else if has_all && self.backlog.has_room(deeds.len()) {
+            self.take_up(node, deeds, may_wait, now);
+        } else {
+            self.note_all(node, deeds, now);
         }
-        if !has_all || !self.backlog.has_room(deeds.len()) {
-            self.note_backlog(now);
-            note_deeds(&mut self.pages, deeds, now);
-            self.take_over(node, now);
-            return;
-        }
+    }
+
+    /// These deeds wait, too, if they may and few do; else they and all that wait are noted.
+    fn take_up<B: Allocator>(&mut self, node: &Node<B>, deeds: &[Deed], may_wait: bool, now: u64)
+        requires known { self.old.is_lost ≡ false }
+        requires room { IsTrue (has_room (length deeds.now) self.old.backlog) }
+        ensures { KeepsDeeds now deeds.now true may_wait node.now self.old self.new
+            ⊎ NotesNow now deeds.now true may_wait node.now self.old self.new }
+    {
         self.backlog.add(deeds, now);
         if !may_wait || self.backlog.is_long() {
             self.settle(node, now);
         }
+    }
+
+    /// Notes the deeds that wait, then these, and then the node's whole state.
+    fn note_all<B: Allocator>(&mut self, node: &Node<B>, deeds: &[Deed], now: u64)
+        ensures { TakesOver now node.now (record self.old {
+          pages = after_deeds now deeds.now (with_backlog now self.old);
+          is_rewired = false;
+        }) self.new }
+    {
+        self.note_backlog(now);
+        note_deeds(&mut self.pages, deeds, now);
+        self.take_over(node, now);
     }
 
     /// Notes the deeds that wait, and then the node's whole state if they lead elsewhere.
