@@ -70,7 +70,11 @@ pub fn run_words<R: Runtime, S: AsStr>(rt: &R, words: &[S], on_terminal: bool) -
 fn run_part<R: Runtime, S: AsStr>(rt: &R, words: &[S]) -> ExitCode {
     match words {
         [_, name, ..] if is_of_networks(name.as_str()) => network_words::run_words(rt, words),
-        [_, name, ..] if is_of_nodes(name.as_str()) => process_line::run_words(rt, words, &NodeProcess),
+        [_, name, ..] if is_of_nodes(name.as_str()) => process_line::run_words(
+            rt,
+            words,
+            &NodeProcess,
+        ),
         _ => client_words::run_words(rt, words),
     }
 }

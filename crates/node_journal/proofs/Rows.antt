@@ -1,5 +1,5 @@
 -- Small examples of nodes in their place, and of some that are not.
-use Rattle.std.proofs.Common.{◌≡◌, ◌≢◌, ℕ, Option, true, false, Some, None, [], ◌∷◌, refl, arith}
+use Rattle.std.proofs.Common.{◌≡◌, ◌≢◌, ℕ, Option, true, false, Some, None, is_some, [], ◌∷◌, ap, refl, arith}
 use Rattle.node_core.specs.lock_desk.declared.act.DeskAct.TheVariants as act
 use Rattle.node_core.specs.State.{LocalState}
 use Rattle.node_core.specs.registers.link_port.Port.{PortState}
@@ -8,6 +8,7 @@ use Rattle.process_parts.specs.node_log.declared.event.NodeEvent.TheVariants as 
 use Rattle.process_parts.specs.node_log.declared.event.Level.TheVariants.{Notice, Info}
 use Rattle.process_parts.specs.node_log.declared.log.NodeLog.{NodeLog}
 use Rattle.process_parts.specs.node_log.declared.place.PlaceSeen.TheVariants.{Right}
+use Rattle.unix_doors.specs.node_connections.declared.port.NodePort.{NodePort}
 use Rattle.node_journal.specs.Places.{same_id, is_in_place}
 use Rattle.node_journal.specs.Said.{rates_then, stands_at, turn_events, HasSeen, SawTheSame}
 use Rattle.node_core.specs.link_port.topology.Network.{Network}
@@ -82,3 +83,9 @@ same_not-lent same = let e : ◌≡◌ {A = Option ℕ} (Some 7) None = same.len
 
 stands_not-none : (P : Type 0) → stands_at {P = P} None ≡ false
 stands_not-none P = refl
+
+stands-pipe : {P : Type 0} (port : NodePort P) (pipe : P) → port.link.pipe ≡ Some pipe → stands_at (Some port) ≡ true
+stands-pipe port pipe there = ap is_some there
+
+stands_not-loose : {P : Type 0} (port : NodePort P) → port.link.pipe ≡ None → stands_at (Some port) ≡ false
+stands_not-loose port loose = ap is_some loose

@@ -20,11 +20,7 @@ This is the part of tokentree that runs nodes. Other parts ask them, and know
 networks; the whole program also simulates, measures and draws.";
 
 /// Does what the words say, after the first, the program's name, and returns the exit status. `nodes` runs a node.
-pub fn run_words<R: Runtime, S: AsStr, N: NodeWork<R>>(
-    rt: &R,
-    words: &[S],
-    nodes: &N,
-) -> ExitCode {
+pub fn run_words<R: Runtime, S: AsStr, N: NodeWork<R>>(rt: &R, words: &[S], nodes: &N) -> ExitCode {
     if asks_for_version(words) {
         return say_version(rt);
     }
