@@ -14,7 +14,7 @@ use std::mem;
 use topology::Net;
 
 /// How a search goes.
-#[derive(Clone, Copy)]
+#[derive(Clone, Copy, Debug)]
 pub struct Search {
     /// What all of it is drawn from.
     pub seed: u64,

@@ -13,7 +13,7 @@ use std::alloc::Allocator;
 use topology::laws as topology_laws;
 
 /// What has settled of a network at one moment.
-#[derive(Clone, Copy)]
+#[derive(Clone, Copy, Debug)]
 pub struct Layers {
     /// How many links there are; an edge is one in each direction.
     pub links: usize,

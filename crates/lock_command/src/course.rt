@@ -22,7 +22,7 @@ const FAMILY_REST: u64 = 100;
 const CLOSING: u64 = 500;
 
 /// What time it is, and what is due when: in milliseconds since the lock was asked for.
-#[derive(Clone, Copy)]
+#[derive(Clone, Copy, Debug)]
 pub struct Course {
     time: u64,
     /// When the connection was made.

@@ -24,7 +24,7 @@ const MOST_CHANGES: u16 = 10_000;
 const MOST_BYTES: usize = 700_000;
 
 /// How many beats a film has, and how long it plays.
-#[derive(Clone, Copy)]
+#[derive(Clone, Copy, Debug)]
 pub struct FilmPace {
     /// The beats, but for those that hold the first still and the last.
     beats: u16,

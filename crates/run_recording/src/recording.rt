@@ -43,7 +43,7 @@ const PIECE: usize = 8192;
 const SPARE_PAIRS: u16 = 8;
 
 /// What was before the first moment that is shown.
-#[derive(Clone, Copy)]
+#[derive(Clone, Copy, Debug)]
 pub struct Before {
     /// How many events have led to it.
     pub events: u64,

@@ -6,7 +6,7 @@ use std::ops::{Add, Mul, Sub};
 
 /// A length, or a place from the left or the top, in units of the page. What is computed of lengths
 /// stays within 0 and the greatest value.
-#[derive(Clone, Copy)]
+#[derive(Clone, Copy, Debug)]
 pub struct Px(pub u32);
 
 impl Add for Px {

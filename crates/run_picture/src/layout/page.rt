@@ -15,7 +15,7 @@ const LEAST_WIDTH: u32 = 800;
 
 /// Where the parts of a picture stand. From above: title, legend, the line of damage and that of
 /// sweeps, the lanes, the curves with their axis. Left of the lanes stands the tree.
-#[derive(Clone, Copy)]
+#[derive(Clone, Copy, Debug)]
 pub struct Page {
     /// The left end of the columns.
     pub left: Px,
