@@ -1,8 +1,11 @@
 -- Small examples of command lines and of how they end, and some that look like them and end otherwise.
-use Rattle.std.proofs.Common.{◌≡◌, ◌≢◌, true, false, Err, [], ◌∷◌, codes, refl, arith}
+use Rattle.std.proofs.Common.{◌≡◌, ◌≢◌, true, false, Err, List, [], ◌∷◌, Some, None, codes, refl, arith}
+use Rattle.clap.specs.Facts.{aliases_to}
+use Rattle.clap.specs.declared.builder.command.Command.{Command}
 use Rattle.clap.specs.declared.parser.matches.Found.{Found}
 use Rattle.program_ends.specs.command_faults.declared.fault.Fault.TheVariants.{Closed, Memory}
-use Rattle.command_words.specs.Ends.{asks_for_lock, asks_for_version, is_of_service, kind_fault_text, names_service, refusal_text, schedule_fault_text, serves, status_of}
+use Rattle.command_words.specs.Ends.{asks_for_lock, asks_for_version, is_of_service, is_version, kind_fault_text, known_command}
+use Rattle.command_words.specs.Ends.{names_service, refusal_text, schedule_fault_text, serves, status_of}
 use Rattle.command_words.specs.Refused.{IsIdRefused, IsMissing}
 use Rattle.command_words.specs.declared.refusal.KindFault.TheVariants.{NoColumns, OneNumber}
 use Rattle.command_words.specs.declared.refusal.Refusal.TheVariants.{Fault, Kind, NoCommand, NoWords, Schedule}
@@ -14,6 +17,26 @@ lock-asked = refl
 -- the program's own name counts for nothing
 lock_not-name : asks_for_lock (codes "lock" ∷ []) ≡ false
 lock_not-name = refl
+
+known : (command : Command) → aliases_to command (codes "lock") ≡ true
+    → known_command (command ∷ []) (codes "tokentree" ∷ codes "lock" ∷ codes "ring.toml" ∷ []) ≡ Some (codes "lock")
+known command called = rw called refl
+
+-- no command is called so
+known_not-other : (command : Command) → aliases_to command (codes "lokc") ≡ false
+    → known_command (command ∷ []) (codes "tokentree" ∷ codes "lokc" ∷ []) ≡ None
+known_not-other command called = rw called refl
+
+-- nor does the program's own name count here
+known_not-name : (commands : List Command) → known_command commands (codes "lock" ∷ []) ≡ None
+known_not-name commands = refl
+
+-- the parser knows `--version` itself
+version-short : is_version (codes "-v") ≡ true
+version-short = refl
+
+version_not-long : is_version (codes "--version") ≡ false
+version_not-long = refl
 
 version-word : asks_for_version (codes "tokentree" ∷ codes "version" ∷ []) ≡ true
 version-word = refl

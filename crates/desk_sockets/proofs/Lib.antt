@@ -1,2 +1,3 @@
 pub mod DeskNames
+pub mod Finding
 mod Rows

@@ -2,8 +2,9 @@
 //! folder.
 ghost use Rattle.std.specs.Prelude.{◌≡◌, ◌↔◌, ◌<◌, ℕ, IfOk, IfErr, Some, None, IsSorted, string_bytes};
 ghost use Rattle.std.specs.Fs.{dir_entry_name};
+ghost use Rattle.std.specs.Iterator.{IsFinite};
 ghost use Rattle.std.specs.Ordering.{nat_cmp};
-ghost use Rattle.desk_sockets.specs.DeskSockets.{desk_path, desk_name, look_path};
+ghost use Rattle.desk_sockets.specs.DeskSockets.{FindsDesks, desk_path, desk_name, look_path};
 
 use line_words::number;
 use std::alloc::{AllocError, Global};
@@ -44,26 +45,32 @@ pub fn node_of(name: &[u8]) -> Option<u16>
 /// # Errors
 /// The system's, if the folder cannot be read; `OutOfMemory`, if memory runs out.
 pub fn nodes_in<R: Files + AllocGlobal>(rt: &R, folder: &str) -> io::Result<Vec<u16>>
+    // No contract can say what a folder holds. `nodes_among` says what is made of its entries.
     ensures { IfOk result (λ nodes. IsSorted nat_cmp nodes.items) }
 {
-    let mut nodes = Vec::new(rt.alloc());
-    add_nodes(&rt, folder, &mut nodes)?;
-    nodes.sort_unstable();
-    Ok(nodes)
+    Ok(nodes_among(rt.alloc(), fs::read_dir(&rt, folder)?)?)
 }
 
-/// Adds the nodes of the sockets in a folder.
-fn add_nodes<F: Files + AllocGlobal + Clone + Drop>(
-    files: &F,
-    folder: &str,
-    nodes: &mut Vec<u16>,
-) -> io::Result<()> {
-    for entry in fs::read_dir(files, folder)? {
+/// The nodes whose desks are among these entries of a folder, by ascending id.
+///
+/// # Errors
+/// If memory runs out.
+fn nodes_among<F: Files + Drop, I: Iterator<Item = io::Result<DirEntry<F>>>>(
+    alloc: Global,
+    entries: I,
+) -> Result<Vec<u16>, AllocError>
+    requires can { I.can_next entries }
+    requires ends { IsFinite (I.remaining entries) }
+    ensures { IfOk result (λ nodes. FindsDesks I.next_gives entries nodes.items) }
+{
+    let mut nodes = Vec::new(alloc);
+    for entry in entries {
         if let Some(node) = node_at(entry) {
             nodes.push(node)?;
         }
     }
-    Ok(())
+    nodes.sort_unstable();
+    Ok(nodes)
 }
 
 /// The node whose desk this entry of a folder is, if it is a desk's. An entry whose name is no text is not.

@@ -53,7 +53,7 @@ leave-undamaged : (v : ℕ) (lent : Option ℕ) (w : World) → IsUndamaged w (l
 leave-undamaged v None w = refl
 leave-undamaged v (Some t) w = refl
 
-leaves-undamaged : (now : World) (ids : List ℕ) (w : World) → IsUndamaged w (flat_map (leave_at now) ids)
+pub leaves-undamaged : (now : World) (ids : List ℕ) (w : World) → IsUndamaged w (flat_map (leave_at now) ids)
 leaves-undamaged now [] w = refl
 leaves-undamaged now (v ∷ ids) w =
     undamaged-append w (leave_at now v) (flat_map (leave_at now) ids) (leave-undamaged v (lent_at now v) w) (leaves-undamaged now ids)

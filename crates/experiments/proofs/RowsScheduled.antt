@@ -1,26 +1,32 @@
--- Rows: what an order says, what is scrambled, who gives the lock back, and when a watched run goes on.
+-- Rows: what an order says, what is scrambled, who gives the lock back, when a watched run goes on, and when it has been watched.
 -- The words of the generators were worked out apart from this code, by the rules of O'Neill, "PCG", 2014, and of
 -- `seed_from_u64` in `rand_core`.
-use Rattle.std.proofs.Common.{◌≡◌, ◌≢◌, ℕ, true, false, [], ◌∷◌, Option, Some, None, refl, arith}
+use Rattle.std.proofs.Common.{◌≡◌, ◌≢◌, ◌≤◌, ℕ, true, false, zero, suc, [], ◌∷◌, ◌++◌, Option, Some, None, refl, ap, ◌∙◌, inl, arith}
+use Rattle.std.specs.List.{range_with_len}
 use Rattle.rand_core.specs.Pcg32Seed.{pcg32_seed}
 use Rattle.rand_core.specs.Steps.{u32_at, word_bytes}
 use Rattle.rand_pcg.specs.Lcg.{Lcg}
 use Rattle.run_model.specs.World.{World}
 use Rattle.run_model.specs.Start.{default_world}
+use Rattle.run_model.specs.Run.{IsUndamaged, run}
 use Rattle.run_model.specs.Headline.{IsServing}
 use Rattle.run_model.specs.declared.event.Event.TheVariants.{Leave, Send, Take, Tick}
 use Rattle.run_model.proofs.RowsTwo.{two_nodes, calm}
 use Rattle.run_model.proofs.RowsServing.{calm-serves, two_tokens, two_tokens-do_not_serve}
+use Rattle.schedules.specs.Rounds.{round}
 use Rattle.schedules.specs.damage_tool.Draws.{draw}
 use Rattle.judge.specs.JudgeView.{JudgeView, HasSeen}
+use Rattle.experiments.specs.declared.measured_run.Scheduler.TheVariants as scheduler
 use Rattle.experiments.specs.declared.plan.Order.TheVariants as order
 use Rattle.experiments.specs.declared.watch.LastFailures.{LastFailures}
 use Rattle.experiments.specs.Plan.{ordered}
-use Rattle.experiments.specs.Recovery.{beginning, Beginning, HoldsAfterEach, IsWatched}
-use Rattle.experiments.specs.Scheduled.{plain, plain_steps, lent_at, leave_of}
+use Rattle.experiments.specs.Recovery.{beginning, Beginning, HoldsAfterEach, IsWatched, counted_from}
+use Rattle.experiments.specs.Runs.{IsRunWatched}
+use Rattle.experiments.specs.Scheduled.{plain, plain_steps, lent_at, leave_of, leaves, stretches}
 use Rattle.experiments.specs.Shown.{scrambled, seeded}
 use Rattle.experiments.specs.Watched.{GoesOn, GoesOnBy}
-use Rattle.experiments.proofs.RowsMeasured.{lending, last_not-now, still}
+use Rattle.experiments.proofs.Harmless.{leaves-undamaged, undamaged-append}
+use Rattle.experiments.proofs.RowsMeasured.{lending, last_not-now, sharp-two, still}
 
 abbrev start : World
 start = default_world two_nodes
@@ -126,3 +132,42 @@ goes_not-back judge seen goes = watches_not-failing judge (goes (from calm) [] (
 
 goes_not-by : (judge : JudgeView) → HasSeen judge calm [] → ¬ GoesOnBy (λ w. []) judge (last None) judge (last (Some 4))
 goes_not-by judge seen goes = watches_not-failing judge (goes (from calm) [] (watches judge seen))
+
+-- ---- a measured run, of the seed 7
+
+rounds-undamaged : (w : World) (g : Lcg) (count : ℕ) (v : World) → IsUndamaged v (stretches scheduler.Rounds two_nodes w g count).0
+rounds-undamaged w g zero v = refl
+rounds-undamaged w g (suc count) v =
+    let before = (stretches scheduler.Rounds two_nodes w g count).0 in
+    let now = run w (before ++ round two_nodes) in
+    undamaged-append v (before ++ round two_nodes) (leaves now)
+    (undamaged-append v before (round two_nodes) (rounds-undamaged w g count v) (λ u. refl))
+    (leaves-undamaged now (range_with_len 0 now.net.nodes))
+
+abbrev from_seven : World
+from_seven = scrambled two_nodes (seeded 7)
+
+keeps-net : (scrambled two_nodes (record { state = 14886976994342444554; increment = 2172230297942992439 })).net ≡ two_nodes
+unfolding draw
+keeps-net = refl
+
+-- it is watched once its judge has seen 35 sweeps, and serves after them at the latest
+run-watched : (judge : JudgeView) (l : LastFailures) (count : ℕ) → 35 ≤ judge.sweeps → counted_from l.serving ≤ 35
+    → IsWatched (from from_seven) (stretches scheduler.Rounds two_nodes from_seven (seeded 7) count).0 judge l
+    → IsRunWatched two_nodes scheduler.Rounds 7 false judge l
+run-watched judge l count seen within watched = record {
+  count = count;
+  enough = inl (omega (arith, sharp-two, seen));
+  undamaged = rounds-undamaged from_seven (seeded 7) count from_seven;
+  watched = watched;
+  network = ap (λ (g : Lcg). (scrambled two_nodes g).net) seeds-seven ∙ keeps-net;
+  within = omega (arith, sharp-two, within);
+}
+
+-- no run fails to serve after 35 sweeps
+run_not-late : (judge : JudgeView) → ¬ IsRunWatched two_nodes scheduler.Rounds 7 false judge (last (Some 35))
+run_not-late judge r = let late : 36 ≤ 35 = r.within in omega (arith, late)
+
+-- one that looks at the layers shows them
+run_not-unlayered : (judge : JudgeView) (serving : Option ℕ) → ¬ IsRunWatched two_nodes scheduler.Rounds 7 true judge (last serving)
+run_not-unlayered judge serving r = r.watched.layers

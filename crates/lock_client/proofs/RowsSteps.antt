@@ -1,11 +1,12 @@
 -- Small examples of the parts of a client's and a guard's rule, and ones that fail.
-use Rattle.std.proofs.Common.{◌≡◌, true, false, [], ◌∷◌, map, None, Some, refl, codes, inl, inr, arith}
+use Rattle.std.proofs.Common.{◌≡◌, Bool, true, false, [], ◌∷◌, map, None, Some, refl, codes, inl, inr, arith}
 use Rattle.lock_client.specs.declared.answer.Answer.TheVariants as answer
 use Rattle.lock_client.specs.declared.outcome.CommandEnd.TheVariants.{Exited, Killed, CannotRun}
 use Rattle.lock_client.specs.declared.outcome.Outcome.TheVariants.{Done, Lost}
 use Rattle.held_signals.specs.declared.signals.Signal.TheVariants.{Terminate, Quit}
 use Rattle.lock_client.specs.declared.client.ClientStage.TheVariants.{Asking, Holding, Losing, Returning, Over}
 use Rattle.lock_client.specs.declared.client.ClientEvent.TheVariants.{Line, Gone, TimeIsUp, Ended, GuardGone, Signal}
+use Rattle.lock_client.specs.declared.client.ClientDeed.{ClientDeed}
 use Rattle.lock_client.specs.declared.client.ClientDeed.TheVariants.{Wait, AskAgain, Start, PassOn, GiveBack, EndCommand, SayLost, Finish}
 use Rattle.lock_client.specs.declared.guard.GuardStage.TheVariants as guard
 use Rattle.lock_client.specs.declared.guard.GuardEvent.TheVariants.{Said, Closed, Looked, GraceIsOver}
@@ -13,11 +14,13 @@ use Rattle.lock_client.specs.declared.guard.GuardDeed.TheVariants as deed
 use Rattle.lock_client.specs.declared.words.GuardWord.TheVariants as word
 use Rattle.lock_client.specs.Outcome.{end_status}
 use Rattle.lock_client.specs.Steps.{asking_after, holding_after, losing_after, returning_after, stage_after, in_doubt, losing_deed, running_deed, lost_deed, deed_between}
-use Rattle.lock_client.specs.Laws.{IsHarmless, IsReleasedNext, IsHeldToTheEnd, IsWaiting, is_start, is_giving_back, is_ending, is_loss}
+use Rattle.lock_client.specs.Laws.{IsDoneOnce, IsHarmless, IsReleasedNext, IsHeldToTheEnd, IsWaiting}
+use Rattle.lock_client.specs.Laws.{is_start, is_giving_back, is_ending, is_loss}
 use Rattle.lock_client.specs.Guards.{idle_after, watching_after, unseen, quiet_after, searching_after, asked_after, killed_after, waiting_after, guard_deed, look_rest}
 use Rattle.lock_client.specs.GuardLaws.{is_asking}
 use Rattle.held_signals.specs.Signals.{signal_number}
 use Rattle.lock_client.specs.Words.{process_number}
+use Rattle.lock_client.proofs.Counting.{starts}
 
 -- ---- a client
 
@@ -149,6 +152,17 @@ ending = refl
 
 ending_not-passing : is_ending PassOn ≡ false
 ending_not-passing = refl
+
+-- a command is started once, but SIGTERM is passed on to it as often as it comes
+once-started : IsDoneOnce is_start
+once-started keeps events = starts keeps Asking events
+
+abbrev is_passing : ClientDeed → Bool
+is_passing PassOn = true
+is_passing _ = false
+
+once_not-passed : ¬ IsDoneOnce is_passing
+once_not-passed once = omega (arith, once false (Line answer.Granted ∷ Signal Terminate ∷ Signal Terminate ∷ []))
 
 -- ---- a guard
 
