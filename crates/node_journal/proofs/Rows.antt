@@ -1,5 +1,6 @@
 -- Small examples of nodes in their place, and of some that are not.
-use Rattle.std.proofs.Common.{◌≡◌, ◌≢◌, ℕ, Option, true, false, Some, None, is_some, [], ◌∷◌, ap, refl, arith}
+use Rattle.std.proofs.Common.{◌≡◌, ◌≢◌, ℕ, zero, suc, Bool, Option, true, false, Some, None, is_some, [], ◌∷◌, ap, refl, arith}
+use Rattle.std.specs.List.{slice_index_or}
 use Rattle.node_core.specs.lock_desk.declared.act.DeskAct.TheVariants as act
 use Rattle.node_core.specs.State.{LocalState}
 use Rattle.node_core.specs.registers.link_port.Port.{PortState}
@@ -52,6 +53,12 @@ rates_not-nothing = grind arith
 log : NodeLog
 log = record { least = Some Info; rate = new_rate; up = []; next = 1; lent = None; is_full = false; is_crowded = false; place = Right }
 
+-- of two links only the second is up
+other-down : (other : ℕ) → other ≢ 1 → slice_index_or (false ∷ true ∷ []) other false ≡ slice_index_or [] other false
+other-down zero differs = refl
+other-down (suc zero) differs = absurd (differs refl)
+other-down (suc (suc other)) differs = refl
+
 module _ (port : ℕ → PortState) (value : ℕ → ℕ) where
   lender : LocalState
   lender = record { distance = 1; parent = Some 0; port = port; value = value; desk = record { waiting = 7 ∷ []; lent = Some 7; left = 0; served = true } }
@@ -66,13 +73,26 @@ module _ (port : ℕ → PortState) (value : ℕ → ℕ) where
   unfolding log lender
   turn_not-up = grind arith
 
-  seen-loan : HasSeen log (record log { lent = Some 7 }) lender true 1 0 9
+  seen-loan : HasSeen log (record log { lent = Some 7 }) lender false true 1 0 9
   unfolding log lender
-  seen-loan = record { lent = refl; is_full = refl; is_crowded = refl; place = refl }
+  seen-loan = record { lent = refl; is_full = refl; is_crowded = refl; place = refl; link = λ few. refl; others = λ other differs. refl }
 
-  seen_not-loan : HasSeen log log lender true 1 0 9 → ⊥
+  seen_not-loan : HasSeen log log lender false true 1 0 9 → ⊥
   unfolding log lender
   seen_not-loan seen = let e : ◌≡◌ {A = Option ℕ} None (Some 7) = seen.lent in grind arith
+
+  -- the link to node 1 is up, and that to node 0 is as it was
+  seen-link : HasSeen log (record log { lent = Some 7; up = false ∷ true ∷ [] }) lender true true 1 0 9
+  unfolding log lender
+  seen-link = record { lent = refl; is_full = refl; is_crowded = refl; place = refl; link = λ few. refl; others = λ other differs. other-down other differs }
+
+  seen_not-link : HasSeen log (record log { lent = Some 7 }) lender true true 1 0 9 → ⊥
+  unfolding log lender
+  seen_not-link seen = let e : ◌≡◌ {A = Bool} false true = seen.link (omega arith) in absurd cc
+
+  seen_not-other : HasSeen log (record log { lent = Some 7; up = true ∷ true ∷ [] }) lender true true 1 0 9 → ⊥
+  unfolding log lender
+  seen_not-other seen = let e : ◌≡◌ {A = Bool} true false = seen.others 0 (λ e. omega (arith, e)) in absurd cc
 
 same-log : SawTheSame log log
 same-log = record { least = refl; up = refl; next = refl; lent = refl; is_full = refl; is_crowded = refl; place = refl }

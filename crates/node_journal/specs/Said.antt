@@ -1,5 +1,6 @@
 -- What a log has said and seen after a turn.
-use Rattle.std.specs.Prelude.{ℕ, Bool, false, ◌≡◌, List, [], ◌∷◌, Option, None, Some, is_some, length, slice_get}
+use Rattle.std.specs.Prelude.{ℕ, Bool, false, ◌≡◌, ◌≢◌, ◌<◌, List, [], ◌∷◌, Option, None, Some, is_some, length, slice_get}
+use Rattle.std.specs.List.{slice_index_or}
 use Rattle.node_core.specs.lock_desk.declared.act.DeskAct.{DeskAct}
 use Rattle.node_core.specs.State.{LocalState}
 use Rattle.node_core.specs.View.{NodeView, site_in, state_of}
@@ -35,12 +36,15 @@ pub record SawTheSame (old new : NodeLog) : Type 0 where
   pub is_crowded : new.is_crowded ≡ old.is_crowded
   pub place : new.place ≡ old.place
 
--- a log has seen a node after a turn, in its place or not, with so many clients connected and closed
-pub record HasSeen (old new : NodeLog) (s : LocalState) (in_place : Bool) (connected closed now : ℕ) : Type 0 where
+-- A log has seen a node after a turn, in its place or not, with so many clients connected and closed. Of the
+-- links it has seen the one that was next: it is up or down. Of an id above 63 nothing is said.
+pub record HasSeen (old new : NodeLog) (s : LocalState) (is_up in_place : Bool) (connected closed now : ℕ) : Type 0 where
   pub lent : new.lent ≡ s.desk.lent
   pub is_full : new.is_full ≡ full_after (length s.desk.waiting) old.is_full
   pub is_crowded : new.is_crowded ≡ crowded_after closed connected old.is_crowded
   pub place : new.place ≡ place_after in_place now old.place
+  pub link : old.next < 64 → slice_index_or new.up old.next false ≡ is_up
+  pub others : (other : ℕ) → other ≢ old.next → slice_index_or new.up other false ≡ slice_index_or old.up other false
 
 -- a connection stands at the port of a node; none does if the node has no port
 abbrev pub stands_at : {P : Type 0} → Option (NodePort P) → Bool
@@ -61,7 +65,7 @@ turn_events old s act is_up in_place connected closed now =
 -- a log that is on has seen a node, as it stands after a turn with this act at its desk; each event of the
 -- turn was said or counted, in order; and the next turn looks at the next link
 pub record LogsTurn {P : Type 0} (net : Network) (node : NodeView) (ports : List (NodePort P)) (act : DeskAct) (clients : ClientSight) (now : ℕ) (old new : NodeLog) : Type 0 where
-  pub seen : HasSeen old new (state_of node) (is_placed net (site_in node).id (state_of node)) clients.connected clients.closed now
+  pub seen : HasSeen old new (state_of node) (stands_at (slice_get ports old.next)) (is_placed net (site_in node).id (state_of node)) clients.connected clients.closed now
   pub said : new.rate ≡ rates_then old.least now
       (turn_events old (state_of node) act (stands_at (slice_get ports old.next)) (is_placed net (site_in node).id (state_of node)) clients.connected clients.closed now)
       old.rate

@@ -12,3 +12,4 @@ mod RowsEnds
 mod RowsPorts
 mod RowsSaid
 mod RowsHeard
+mod RowsMore

@@ -1,5 +1,5 @@
 -- Small examples of turns that close no client, and some that look like them and do.
-use Rattle.std.proofs.Common.{◌≡◌, ◌∙◌, ℕ, List, Option, None, Some, sym, subst, ap, []}
+use Rattle.std.proofs.Common.{◌≡◌, ◌∙◌, ℕ, Bool, List, Option, None, Some, sym, subst, ap, []}
 use Rattle.slab.specs.Slab.{get}
 use Rattle.lock_desk.specs.declared.act.DeskAct.TheVariants.{Quiet}
 use Rattle.node_core.specs.View.{NodeView, state_of}
@@ -29,11 +29,11 @@ module _ {P A : Type 0} (gave took : P → Option (List ℕ)) (counts : P → Co
           ends_not-quiet gave took counts a b sound (answers_of heard 3) here
 
       -- no turn closes it without a cause, unless its loan began or ended
-      turn_not-closed : (ticked : Ticked) (now : ℕ) (m w : Moment P) (n o : NotesView) (x : TurnSays gave took counts ticked now m w n o old new) → ticked.act ≡ Quiet
+      turn_not-closed : (ticked : Ticked) (now : ℕ) (m w : Moment P) (n o : NotesView) (has_more : Bool) (x : TurnSays gave took counts ticked now m w n o old new has_more) → ticked.act ≡ Quiet
           → lines_of 3 x.answers.services (state_of x.did.turns.listens.heard) ≡ [] → ⊥
-      turn_not-closed ticked now m w n o x quiet silent =
+      turn_not-closed ticked now m w n o has_more x quiet silent =
           let same : x.acted ≡ x.heard = subst (λ act. IsReported act x.heard x.acted) quiet x.reported in
           not-written gave took counts old new a b was is waits sound x.acted x.writes (λ gone. not-heard x.did.turns.listens.serves x.heard x.answers silent (sym (ap (λ c. get c.table 3) same) ∙ gone))
 
-      attend_not-closed : (now : ℕ) (m w : Moment P) (n o : NotesView) (x : AttendSays gave took counts now m w n o old new) → lines_of 3 x.answers.services (state_of x.did.attends.listens.heard) ≡ [] → ⊥
-      attend_not-closed now m w n o x silent = not-written gave took counts old new a b was is waits sound x.heard x.writes (λ gone. not-heard x.did.attends.listens.serves x.heard x.answers silent gone)
+      attend_not-closed : (now : ℕ) (m w : Moment P) (n o : NotesView) (has_more : Bool) (x : AttendSays gave took counts now m w n o old new has_more) → lines_of 3 x.answers.services (state_of x.did.attends.listens.heard) ≡ [] → ⊥
+      attend_not-closed now m w n o has_more x silent = not-written gave took counts old new a b was is waits sound x.heard x.writes (λ gone. not-heard x.did.attends.listens.serves x.heard x.answers silent gone)

@@ -27,6 +27,7 @@ use Rattle.node_loop.specs.Said.{AttendSays, HasAnswered, ListensTo, TurnSays}
 use Rattle.node_connections.specs.Said.{IsSaid, SaidAt}
 use Rattle.node_service.specs.Services.{lines_of}
 use Rattle.node_connections.proofs.BeingRead.{read-gone}
+use Rattle.node_service.proofs.Pieces.{gave-alone}
 use Rattle.node_connections.proofs.Ends.{at-silent}
 use Rattle.node_connections.proofs.Heard.{unheard-same}
 use Rattle.node_connections.proofs.Lives.{admits-none}
@@ -69,7 +70,7 @@ module _ {P A : Type 0} (gave took : P → Option (List ℕ)) (counts : P → Co
   IsAlone clients = (t : ℕ) → get clients.table t ≡ None
 
   -- a node without clients does nothing for them
-  has-answered : {x y : NodeView} (serves : Became IsOfClient x y) → serves.deeds ≡ [] → IsAlone old → HasAnswered gave took counts serves old old
+  abbrev has-answered : {x y : NodeView} (serves : Became IsOfClient x y) → serves.deeds ≡ [] → IsAlone old → HasAnswered gave took counts serves old old
   has-answered serves none alone = record {
     came = old;
     admits = admits-none old;
@@ -79,6 +80,8 @@ module _ {P A : Type 0} (gave took : P → Option (List ℕ)) (counts : P → Co
     heard = λ t. ([], unheard-same gave old old refl t);
     said = nothing-still gave took counts old new a b;
     reads = λ t few. read-gone gave took counts (get old.table t) (get old.table t) (alone t);
+    may_have_more = false;
+    pieces = gave-alone gave took counts old alone;
     ends = λ t. at-silent gave took counts (get old.table t) (get old.table t) (answers_of old t) (answers_of old t) refl refl;
   }
 
@@ -91,7 +94,7 @@ module _ {P A : Type 0} (gave took : P → Option (List ℕ)) (counts : P → Co
 
   -- a turn in which nothing is said
   turn-quiet : (ticked : Ticked) (now : ℕ) (m w : Moment P) (n o : NotesView) (did : TurnIsNoted gave took counts ticked now m w n o) → did.turns.listens.serves.deeds ≡ [] → did.turns.acts.leaves.deeds ≡ []
-      → did.turns.leaves.deeds ≡ [] → ticked.act ≡ Quiet → IsAlone old → NoneWaits old → TurnSays gave took counts ticked now m w n o old old
+      → did.turns.leaves.deeds ≡ [] → ticked.act ≡ Quiet → IsAlone old → NoneWaits old → TurnSays gave took counts ticked now m w n o old old false
   turn-quiet ticked now m w n o did served gone last quiet alone none = record {
     did = did;
     heard = old;
@@ -101,32 +104,34 @@ module _ {P A : Type 0} (gave took : P → Option (List ℕ)) (counts : P → Co
     writes = writes-nothing gave took counts old new a b old none;
     gone = all-of_none (IsLeaveOfGone (is_connected old)) did.turns.acts.leaves.deeds gone;
     gone_at_last = all-of_none (IsLeaveOfGone (is_connected old)) did.turns.leaves.deeds last;
+    more = λ some. some;
   }
 
   attend-quiet : (now : ℕ) (m w : Moment P) (n o : NotesView) (did : AttendIsNoted gave took counts now m w n o) → did.attends.listens.serves.deeds ≡ [] → did.attends.leaves.deeds ≡ []
-      → IsAlone old → NoneWaits old → AttendSays gave took counts now m w n o old old
+      → IsAlone old → NoneWaits old → AttendSays gave took counts now m w n o old old false
   attend-quiet now m w n o did served last alone none = record {
     did = did;
     heard = old;
     answers = has-answered did.attends.listens.serves served alone;
     writes = writes-nothing gave took counts old new a b old none;
     gone = all-of_none (IsLeaveOfGone (is_connected old)) did.attends.leaves.deeds last;
+    more = λ some. some;
   }
 
-  listens-alone : (m w : Moment P) (n o : NotesView) (did : DidListen gave took counts m w n o) → did.listens.serves.deeds ≡ [] → IsAlone old → ListensTo gave took counts m w n o old old
-  listens-alone m w n o did served alone = record { did = did; answers = has-answered did.listens.serves served alone }
+  listens-alone : (m w : Moment P) (n o : NotesView) (did : DidListen gave took counts m w n o) → did.listens.serves.deeds ≡ [] → IsAlone old → ListensTo gave took counts m w n o old old false
+  listens-alone m w n o did served alone = record { did = did; answers = has-answered did.listens.serves served alone; more = λ some. some }
 
   -- a connected client's ticket does not leave after the tick
-  attend_not-left : (now : ℕ) (m w : Moment P) (n o : NotesView) → is_connected new 3 ≡ true → (x : AttendSays gave took counts now m w n o old new) → x.did.attends.leaves.deeds ≡ Leaves 3 ∷ [] → ⊥
-  attend_not-left now m w n o there x leaves =
+  attend_not-left : (now : ℕ) (m w : Moment P) (n o : NotesView) (has_more : Bool) → is_connected new 3 ≡ true → (x : AttendSays gave took counts now m w n o old new has_more) → x.did.attends.leaves.deeds ≡ Leaves 3 ∷ [] → ⊥
+  attend_not-left now m w n o has_more there x leaves =
       let gone : is_connected new 3 ≡ false = All-head (IsLeaveOfGone (is_connected new)) (Leaves 3) [] (subst (λ ds. All (IsLeaveOfGone (is_connected new)) ds) leaves x.gone) in
       both_ways (is_connected new 3) gone there
 
   module _ (was : get old.table 3 ≡ Some a) (is : get new.table 3 ≡ Some b) (before : took a.pipe ≡ Some []) (after : took b.pipe ≡ Some []) (waits : answers_of old 3 ≡ []) where
     -- what was said in a turn
-    said-in : (ticked : Ticked) (now : ℕ) (m w : Moment P) (n o : NotesView) (text : List ℕ) → ((x y : Clients P A) → IsReported ticked.act x y → IsSaid took text 3 x y) → (x : TurnSays gave took counts ticked now m w n o old new)
+    said-in : (ticked : Ticked) (now : ℕ) (m w : Moment P) (n o : NotesView) (has_more : Bool) (text : List ℕ) → ((x y : Clients P A) → IsReported ticked.act x y → IsSaid took text 3 x y) → (x : TurnSays gave took counts ticked now m w n o old new has_more)
         → answers_of new 3 ≡ answers_to (site_in x.did.turns.listens.heard) 3 (lines_of 3 x.answers.services (state_of x.did.turns.listens.heard)) ++ text
-    said-in ticked now m w n o text reports x =
+    said-in ticked now m w n o has_more text reports x =
         let told = answers_to (site_in x.did.turns.listens.heard) 3 (lines_of 3 x.answers.services (state_of x.did.turns.listens.heard)) in
         let came = x.answers.came in
         let there : is_connected old 3 ≡ true = rw was refl in
@@ -138,16 +143,16 @@ module _ {P A : Type 0} (gave took : P → Option (List ℕ)) (counts : P → Co
         waits-said gave took counts old new a b was is before after waits (told ++ text) (subst (λ all. IsSaid took all 3 old new) (append-nil (told ++ text)) (is-said-join took (told ++ text) [] 3 old x.acted new reported (x.writes.says_nothing 3)))
 
     -- a client that lost the lock hears so
-    turn_not-silent : (ticked : Ticked) (now : ℕ) (m w : Moment P) (n o : NotesView) → ticked.act ≡ Lost 3 → answers_of new 3 ≡ [] → ¬ TurnSays gave took counts ticked now m w n o old new
-    turn_not-silent ticked now m w n o lost silent x =
-        let all = said-in ticked now m w n o (codes "lost\n") (λ c d reported. (reported-said took (codes "lost\n") 3 c d (subst (λ act. IsReported act c d) lost reported)).0) x in
+    turn_not-silent : (ticked : Ticked) (now : ℕ) (m w : Moment P) (n o : NotesView) (has_more : Bool) → ticked.act ≡ Lost 3 → answers_of new 3 ≡ [] → ¬ TurnSays gave took counts ticked now m w n o old new has_more
+    turn_not-silent ticked now m w n o has_more lost silent x =
+        let all = said-in ticked now m w n o has_more (codes "lost\n") (λ c d reported. (reported-said took (codes "lost\n") 3 c d (subst (λ act. IsReported act c d) lost reported)).0) x in
         not-nothing (answers_to (site_in x.did.turns.listens.heard) 3 (lines_of 3 x.answers.services (state_of x.did.turns.listens.heard))) 108 (codes "ost\n") (sym all ∙ silent)
 
     -- no client hears that it has the lock if no loan began
-    turn_not-granted : (ticked : Ticked) (now : ℕ) (m w : Moment P) (n o : NotesView) → ticked.act ≡ Quiet → answers_of new 3 ≡ codes "granted\n" → ¬ TurnSays gave took counts ticked now m w n o old new
-    turn_not-granted ticked now m w n o quiet text x =
+    turn_not-granted : (ticked : Ticked) (now : ℕ) (m w : Moment P) (n o : NotesView) (has_more : Bool) → ticked.act ≡ Quiet → answers_of new 3 ≡ codes "granted\n" → ¬ TurnSays gave took counts ticked now m w n o old new has_more
+    turn_not-granted ticked now m w n o has_more quiet text x =
         let same = λ (c d : Clients P A) (reported : IsReported ticked.act c d). subst (λ act. IsReported act c d) quiet reported in
-        let all = said-in ticked now m w n o [] (λ c d reported. nothing-same took c d (ap (λ z. z.table) (same c d reported)) (ap (λ z. z.answers) (same c d reported)) 3) x in
+        let all = said-in ticked now m w n o has_more [] (λ c d reported. nothing-same took c d (ap (λ z. z.table) (same c d reported)) (ap (λ z. z.answers) (same c d reported)) 3) x in
         let lines = lines_of 3 x.answers.services (state_of x.did.turns.listens.heard) in
         let site = site_in x.did.turns.listens.heard in
         not-granted site lines (sym (append-nil (answers_to site 3 lines)) ∙ (sym all ∙ text))

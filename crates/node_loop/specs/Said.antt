@@ -1,5 +1,5 @@
 -- What clients are answered in a turn, and between two: just that, and nothing else, is said to them.
-use Rattle.std.specs.Prelude.{◌≡◌, ℕ, List, All, Option, map}
+use Rattle.std.specs.Prelude.{◌≡◌, ℕ, Bool, true, List, All, Option, map}
 use Rattle.slab.specs.Slab.{get}
 use Rattle.node_core.specs.View.{NodeView, site_in, state_of}
 use Rattle.node_core.specs.declared.ticked.Ticked.{Ticked}
@@ -12,6 +12,7 @@ use Rattle.node_connections.specs.Lives.{Admits, AllRead}
 use Rattle.node_loop.specs.Moments.{Moment}
 use Rattle.node_loop.specs.Noting.{AttendIsNoted, DidListen, TurnIsNoted}
 use Rattle.node_service.specs.NotesView.{NotesView}
+use Rattle.node_service.specs.Pieces.{GivePieces}
 use Rattle.node_service.specs.Serving.{answers_to}
 use Rattle.node_service.specs.Services.{AreGone, deeds_of_all, lines_of, Service}
 use Rattle.node_connections.specs.Said.{IsHeard, IsSaid, WritesOut}
@@ -19,7 +20,8 @@ use Rattle.node_connections.specs.Said.{IsHeard, IsSaid, WritesOut}
 module _ {P A : Type 0} (gave took : P → Option (List ℕ)) (counts : P → Counts) where
   -- Clients came, or none did; and then each was read, and served by these deeds of the node: its lines are
   -- those that the bytes from its pipe ended, and the answers to them, and nothing else, were said to it. One
-  -- that was closed has a cause: a read said that it is gone, or there was no room for an answer.
+  -- that was closed has a cause: a read said that it is gone, or there was no room for an answer. Each gave at
+  -- most a piece, and some may have more if one gave a whole piece, and only then.
   pub record HasAnswered {before after : NodeView} (deeds : Became IsOfClient before after)
       (old new : Clients P A) : Type 0 where
     pub came : Clients P A
@@ -33,31 +35,36 @@ module _ {P A : Type 0} (gave took : P → Option (List ℕ)) (counts : P → Co
         → IsSaid took (answers_to (site_in before) t (lines_of t services (state_of before)))
         t came new
     pub reads : AllRead gave took counts came new
+    pub may_have_more : Bool
+    pub pieces : GivePieces gave took counts may_have_more came new
     pub ends : (t : ℕ)
         → EndsAt gave took counts (get came.table t) (answers_of came t) (get new.table t) (answers_of new t)
         (map (λ asked. asked.0) (lines_of t services (state_of before)))
         (answers_to (site_in before) t (lines_of t services (state_of before)))
 
-  -- the first part of a turn, in which clients were answered
+  -- The first part of a turn, in which clients were answered. If some may have more, there is more to do at once.
   pub record ListensTo (old new : Moment P) (noted notes : NotesView) (before after : Clients P A)
-      : Type 0 where
+      (has_more : Bool) : Type 0 where
     pub did : DidListen gave took counts old new noted notes
     pub answers : HasAnswered did.listens.serves before after
+    pub more : answers.may_have_more ≡ true → has_more ≡ true
 
   -- What is done between two turns: clients were answered, and then answers were written. Then only
-  -- tickets of clients left that are gone.
+  -- tickets of clients left that are gone. If clients may have more, there is more to do at once.
   pub record AttendSays (now : ℕ) (old new : Moment P) (noted notes : NotesView)
-      (before after : Clients P A) : Type 0 where
+      (before after : Clients P A) (has_more : Bool) : Type 0 where
     pub did : AttendIsNoted gave took counts now old new noted notes
     pub heard : Clients P A
     pub answers : HasAnswered did.attends.listens.serves before heard
     pub writes : WritesOut gave took counts heard after
     pub gone : All (IsLeaveOfGone (is_connected after)) did.attends.leaves.deeds
+    pub more : answers.may_have_more ≡ true → has_more ≡ true
 
   -- A turn: clients were answered; then the client whose loan the tick began or ended heard of it; and then
-  -- answers were written. After the tick only tickets of clients left that are gone.
+  -- answers were written. After the tick only tickets of clients left that are gone. If clients may have more,
+  -- there is more to do at once.
   pub record TurnSays (says : Ticked) (now : ℕ) (old new : Moment P) (noted notes : NotesView)
-      (before after : Clients P A) : Type 0 where
+      (before after : Clients P A) (has_more : Bool) : Type 0 where
     pub did : TurnIsNoted gave took counts says now old new noted notes
     pub heard : Clients P A
     pub acted : Clients P A
@@ -66,3 +73,4 @@ module _ {P A : Type 0} (gave took : P → Option (List ℕ)) (counts : P → Co
     pub writes : WritesOut gave took counts acted after
     pub gone : All (IsLeaveOfGone (is_connected acted)) did.turns.acts.leaves.deeds
     pub gone_at_last : All (IsLeaveOfGone (is_connected after)) did.turns.leaves.deeds
+    pub more : answers.may_have_more ≡ true → has_more ≡ true

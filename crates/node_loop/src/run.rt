@@ -138,11 +138,12 @@ impl<D: Doors, S: Store + Drop, A: Allocator + Copy> NodeRun<D, S, A> {
         // else was sent, and no byte is lost: its pipe took it, or it waits. None waits at the end without
         // a write: its pipe took some, or takes none now.
         // Only tickets of clients that are gone leave without a line. A client that is no longer connected
-        // closed, or failed a read or a write, or had no room for an answer.
+        // closed, or failed a read or a write, or had no room for an answer. At most a piece of each client
+        // was read; if one gave a whole piece, the next turn does not wait.
         ensures says { TurnSays D.P.gave D.P.took D.P.counts result.ticked now
             (moment_of self.old.node self.old.ports.items self.old.pace self.old.let_go)
             (moment_of self.new.node self.new.ports.items self.new.pace self.new.let_go)
-            notes.old notes.new self.old.clients self.new.clients }
+            notes.old notes.new self.old.clients self.new.clients self.new.has_more }
         // In each 256th turn, and in no other, the state is stored as it is at the turn's end.
         ensures saves { IsSome result.saved ↔ (self.old.turns ≡ 255) }
         ensures counts { self.new.turns ≡ (self.old.turns + 1) % 256 }
@@ -170,7 +171,7 @@ impl<D: Doors, S: Store + Drop, A: Allocator + Copy> NodeRun<D, S, A> {
         ensures says { TurnSays D.P.gave D.P.took D.P.counts result now
             (moment_of self.old.node self.old.ports.items self.old.pace self.old.let_go)
             (moment_of self.new.node self.new.ports.items self.new.pace self.new.let_go)
-            notes.old notes.new self.old.clients self.new.clients }
+            notes.old notes.new self.old.clients self.new.clients self.new.has_more }
         ensures rest { (self.new.net ≡ self.old.net) × (self.new.turns ≡ self.old.turns)
             × (self.new.store ≡ self.old.store) }
     {
@@ -204,10 +205,11 @@ impl<D: Doors, S: Store + Drop, A: Allocator + Copy> NodeRun<D, S, A> {
         // that its pipe gave, and nothing else. No answer waits at the end without a write: the client's
         // pipe took some, or takes none now. Only tickets of clients that are gone leave without a line. A
         // client that is no longer connected closed, or failed a read or a write, or had no room for an answer.
+        // At most a piece of each client was read; if one gave a whole piece, the next turn does not wait.
         ensures says { AttendSays D.P.gave D.P.took D.P.counts now
             (moment_of self.old.node self.old.ports.items self.old.pace self.old.let_go)
             (moment_of self.new.node self.new.ports.items self.new.pace self.new.let_go)
-            notes.old notes.new self.old.clients self.new.clients }
+            notes.old notes.new self.old.clients self.new.clients self.new.has_more }
         // Its network stays, and it stores nothing.
         ensures rest { (self.new.net ≡ self.old.net) × (self.new.turns ≡ self.old.turns)
             × (self.new.store ≡ self.old.store) }

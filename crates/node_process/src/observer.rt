@@ -1,9 +1,16 @@
 //! What watches a node while it runs.
-ghost use Rattle.std.specs.Prelude.{◌≡◌, ◌↔◌, None, IfOk, IfSome, IsSome, IsTrue, false, not, is_some};
+ghost use Rattle.std.specs.Prelude.{◌≡◌, ◌≢◌, ◌↔◌, ◌<◌, ℕ, None, Some, IfOk, IfSome, IsSome, IsTrue};
+ghost use Rattle.std.specs.Prelude.{false, not, is_some, slice_get};
 ghost use Rattle.look_window.specs.turn_watch.Turns.{turn_ended};
 ghost use Rattle.look_window.specs.turn_watch.Loans.{desk_seen};
+ghost use Rattle.look_window.specs.turn_watch.Links.{link_seen, link_of};
+ghost use Rattle.look_window.specs.turn_watch.Notes.{next_of};
+ghost use Rattle.look_window.specs.turn_watch.Rounds.{machine_seen};
+ghost use Rattle.look_window.specs.turn_watch.declared.links.LinkSight.{LinkSight};
+ghost use Rattle.look_window.specs.Counted.{counted_machine};
 ghost use Rattle.node_journal.specs.Said.{LogsTurn};
-ghost use Rattle.node_loop.specs.node_core.View.{state_of};
+ghost use Rattle.node_loop.specs.node_connections.LinkSights.{link_at};
+ghost use Rattle.node_loop.specs.node_core.View.{site_in, state_of};
 ghost use Rattle.node_loop.specs.node_service.Answers.{grants};
 ghost use Rattle.record_files.specs.Noted.{HasTurn};
 
@@ -88,13 +95,30 @@ impl<'a, 'w, R: Files<File = File> + Clock + Eprint + AllocGlobal> Observer<'a, 
         now: u64,
     ) -> Turned
         ensures looks { IsSome result.saved ↔ (run.old.turns ≡ 255) }
-        // What lookers are shown has the turn, and the loan that stands after it.
+        // What lookers are shown has the turn, and the loan that stands after it, and a round of the token if
+        // the node's machine moved.
         ensures turns { self.new.window.notes.turns ≡ turn_ended self.old.window.notes.limit
             self.new.watch.last self.old.window.notes.turns }
         ensures loans { self.new.window.notes.loans ≡ desk_seen self.new.watch.last (record {
           has_granted = grants result.ticked.act;
           lends = is_some (state_of run.new.node).desk.lent;
         }) self.old.window.notes.loans }
+        ensures rounds { self.new.window.notes.rounds
+            ≡ machine_seen (counted_machine (site_in run.new.node) (state_of run.new.node))
+            self.old.window.notes.rounds }
+        // It has the link that was next, as it stands after the turn, and the others as they were.
+        ensures link { (sight : LinkSight) → self.old.window.notes.next < 64
+            → link_at (slice_get run.new.ports.items self.old.window.notes.next) ≡ Some sight
+            → link_of self.new.window.notes.links self.old.window.notes.next
+            ≡ link_seen sight self.new.watch.last
+            (link_of self.old.window.notes.links self.old.window.notes.next) }
+        ensures other_links { (other : ℕ) → other ≢ self.old.window.notes.next
+            → link_of self.new.window.notes.links other
+            ≡ link_of self.old.window.notes.links other }
+        ensures rest { (self.new.window.notes.limit ≡ self.old.window.notes.limit)
+            × (self.new.window.notes.next
+            ≡ next_of run.new.net.nodes self.old.window.notes.next)
+            × (self.new.window.said ≡ self.old.window.said) }
         ensures others { (self.new.tape ≡ self.old.tape) × (self.new.journal ≡ self.old.journal) }
     {
         let turned = run.turn(now, &mut self.notes);

@@ -3,5 +3,6 @@ pub mod Answers
 pub mod Clients
 pub mod NotesView
 pub mod Noting
+pub mod Pieces
 pub mod Services
 pub mod Serving

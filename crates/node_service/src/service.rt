@@ -12,6 +12,7 @@ ghost use Rattle.node_connections.specs.Ends.{EndsByWrite};
 ghost use Rattle.node_connections.specs.Lives.{AllGoOut, AllRead, IsReadAt, LiveOn, OthersStay};
 ghost use Rattle.node_service.specs.Noting.{after_all, Did, DidAct};
 ghost use Rattle.node_connections.specs.Heard.{NothingHeard};
+ghost use Rattle.node_service.specs.Pieces.{GivePieces, GivesPiece};
 ghost use Rattle.node_connections.specs.Said.{IsLineAlone, IsServed, IsServedAlone, NothingSaid};
 ghost use Rattle.node_service.specs.Serving.{Serves};
 
@@ -76,7 +77,8 @@ fn reply<P: Pipe, A: Allocator + Copy>(
     }
 }
 
-/// Reads each client once, and serves its lines. Returns whether some client may have more.
+/// Reads each client once, and serves its lines. Returns whether some client may have more: one gave
+/// a whole piece.
 pub fn serve_all<P: Pipe, A: Allocator + Copy>(
     node: &mut Node<A>,
     notes: &mut Notes<A>,
@@ -89,6 +91,8 @@ pub fn serve_all<P: Pipe, A: Allocator + Copy>(
         node.old node.new notes.old notes.new clients.old clients.new }
     // Each client that is still there was read.
     ensures reads { AllRead P.gave P.took P.counts clients.old clients.new }
+    // Each gave at most a piece. Some may have more if one gave a whole piece, and only then.
+    ensures pieces { GivePieces P.gave P.took P.counts result clients.old clients.new }
 {
     if clients.is_empty() {
         return false;
@@ -116,6 +120,10 @@ fn serve<P: Pipe, A: Allocator + Copy>(
     // It was read, if it is still there.
     ensures reads { IsReadAt P.gave P.took P.counts (get clients.old.table ticket)
         (get clients.new.table ticket) }
+    // It gave at most a piece, and may have more if that was a whole one, and only then.
+    ensures piece { GivesPiece P.gave P.took P.counts result (get clients.old.table ticket)
+        (get clients.new.table ticket) }
+    ensures others { OthersStay ticket clients.old clients.new }
 {
     let mut bytes = [0; PIECE];
     match clients.read(ticket, &mut bytes) {
@@ -149,6 +157,7 @@ fn serve_bytes<P: Pipe, A: Allocator + Copy>(
     ensures serves { Serves P.took
         (IsServedAlone P.gave P.took P.counts clients.old clients.new ticket bytes.now)
         node.old node.new notes.old notes.new clients.old clients.new }
+    ensures others { OthersStay ticket clients.old clients.new }
 {
     for byte in bytes {
         if let Some(line) = clients.push(ticket, *byte) {

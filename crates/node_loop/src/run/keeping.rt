@@ -33,6 +33,7 @@ impl<D: Doors, S: Store + Drop, A: Allocator + Copy> NodeRun<D, S, A> {
             × (self.new.net ≡ self.old.net) }
         ensures ports { (self.new.ports ≡ self.old.ports) × (self.new.pace ≡ self.old.pace)
             × (self.new.let_go ≡ self.old.let_go) }
+        ensures more { self.new.has_more ≡ self.old.has_more }
     {
         self.turns = self.turns.wrapping_add(1);
         if self.turns != 0 {

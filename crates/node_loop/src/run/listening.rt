@@ -25,7 +25,7 @@ impl<D: Doors, S: Store + Drop, A: Allocator + Copy> NodeRun<D, S, A> {
         ensures listens { ListensTo D.P.gave D.P.took D.P.counts
             (moment_of self.old.node self.old.ports.items self.old.pace self.old.let_go)
             (moment_of self.new.node self.new.ports.items self.new.pace self.new.let_go)
-            (emptied notes.old) notes.new self.old.clients self.new.clients }
+            (emptied notes.old) notes.new self.old.clients self.new.clients self.new.has_more }
         ensures connected { AreConnected self.new.clients self.new.node }
         ensures lives { StillLive D.P.gave D.P.took D.P.counts self.old.clients self.new.clients }
         ensures pace { Remembers self.old.pace self.new.pace }

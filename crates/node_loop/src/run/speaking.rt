@@ -46,6 +46,7 @@ impl<D: Doors, S: Store + Drop, A: Allocator + Copy> NodeRun<D, S, A> {
         ensures pace { Remembers self.old.pace self.new.pace }
         ensures rest { (self.new.net ≡ self.old.net) × (self.new.turns ≡ self.old.turns)
             × (self.new.store ≡ self.old.store) }
+        ensures more { self.new.has_more ≡ self.old.has_more }
     {
         let before = sight::values(&self.node, &self.net);
         let ticked = service::tick(&mut self.node, notes, &mut self.clients);
@@ -74,6 +75,7 @@ impl<D: Doors, S: Store + Drop, A: Allocator + Copy> NodeRun<D, S, A> {
             (get self.old.clients.table t) (get self.new.clients.table t) }
         ensures rest { (self.new.net ≡ self.old.net) × (self.new.turns ≡ self.old.turns)
             × (self.new.store ≡ self.old.store) }
+        ensures more { self.new.has_more ≡ self.old.has_more }
     {
         for id in 0..self.net.nodes() {
             let _accepted = self.speak_to(id, offers[id as usize], now, notes);
@@ -106,6 +108,7 @@ impl<D: Doors, S: Store + Drop, A: Allocator + Copy> NodeRun<D, S, A> {
         ensures clients { self.new.clients ≡ self.old.clients }
         ensures rest { (self.new.net ≡ self.old.net) × (self.new.turns ≡ self.old.turns)
             × (self.new.store ≡ self.old.store) }
+        ensures more { self.new.has_more ≡ self.old.has_more }
     {
         if !self.node.is_neighbour(id) {
             return false;

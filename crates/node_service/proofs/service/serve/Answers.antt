@@ -9,6 +9,7 @@ use Rattle.node_connections.proofs.Heard.{heard-got, heard-later, unheard-one}
 use Rattle.node_connections.proofs.Lives.{got-at, later-at, live-one, live-join, live-gone, others-join, closed-gone, nobody}
 use Rattle.node_connections.proofs.Saying.{answers-same, nothing-read}
 use Rattle.node_connections.proofs.Served.{served-all, served-none}
+use Rattle.node_service.proofs.Pieces.{piece-gone, piece-got, piece-later}
 use Rattle.node_service.proofs.Serving.{serves-gone, serves-join, serves-none}
 use Rattle.node_service.proofs.service.serve.Given as given
 use Rattle.node_service.proofs.service.serve.Goals as goal
@@ -133,3 +134,42 @@ pub returns-in-Failed-clause-reads : goal.returns-in-Failed-clause-reads
 returns-in-Failed-clause-reads g c =
     let now = get c.dismiss-in-Failed.new.clients.table c.args.ticket in
     read-gone g.P.Pipe.gave g.P.Pipe.took g.P.Pipe.counts (get c.args.clients.now.table c.args.ticket) now (nobody now (has-failed g c))
+
+pub returns-in-Got-clause-piece : goal.returns-in-Got-clause-piece
+returns-in-Got-clause-piece g c =
+    let t = c.args.ticket in
+    let n = c.in-Got.count in
+    let new = c.serve_bytes.new.clients in
+    let served = c.serve_bytes.ensures.serves in
+    let heard = (served.lines_are t).0.0 refl in
+    piece-got g.P.Pipe.gave g.P.Pipe.took g.P.Pipe.counts n c.read.new.bytes (take n c.read.new.bytes) _ (get c.args.clients.now.table t) (get c.read.new.self.table t) (get new.table t)
+    (rw c.in-Got.is at c.read.ensures.within) (rw c.in-Got.is at c.read.ensures.reads) heard
+
+pub returns-in-Later-clause-piece : goal.returns-in-Later-clause-piece
+returns-in-Later-clause-piece g c =
+    let t = c.args.ticket in
+    piece-later g.P.Pipe.gave g.P.Pipe.took g.P.Pipe.counts c.read.new.bytes (get c.args.clients.now.table t) (get c.read.new.self.table t) (rw c.in-Later.is at c.read.ensures.reads)
+
+pub returns-in-Closed-clause-piece : goal.returns-in-Closed-clause-piece
+returns-in-Closed-clause-piece g c =
+    let t = c.args.ticket in
+    let now = get c.dismiss.new.clients.table t in
+    piece-gone g.P.Pipe.gave g.P.Pipe.took g.P.Pipe.counts c.read.result c.read.new.bytes (get c.args.clients.now.table t) (get c.read.new.self.table t) now (rw c.in-Closed.is tt) c.read.ensures.reads (nobody now (is-closed g c))
+
+pub returns-in-Failed-clause-piece : goal.returns-in-Failed-clause-piece
+returns-in-Failed-clause-piece g c =
+    let t = c.args.ticket in
+    let now = get c.dismiss-in-Failed.new.clients.table t in
+    piece-gone g.P.Pipe.gave g.P.Pipe.took g.P.Pipe.counts c.read.result c.read.new.bytes (get c.args.clients.now.table t) (get c.read.new.self.table t) now (rw c.in-Failed.is tt) c.read.ensures.reads (nobody now (has-failed g c))
+
+pub returns-in-Got-clause-others : goal.returns-in-Got-clause-others
+returns-in-Got-clause-others g c = others-join c.args.ticket c.args.clients.now c.read.new.self c.serve_bytes.new.clients c.read.ensures.others c.serve_bytes.ensures.others
+
+pub returns-in-Later-clause-others : goal.returns-in-Later-clause-others
+returns-in-Later-clause-others g c = c.read.ensures.others
+
+pub returns-in-Closed-clause-others : goal.returns-in-Closed-clause-others
+returns-in-Closed-clause-others g c = closed-others g c
+
+pub returns-in-Failed-clause-others : goal.returns-in-Failed-clause-others
+returns-in-Failed-clause-others g c = failed-others g c

@@ -9,7 +9,7 @@ use Rattle.node_connections.specs.Clients.{is_connected}
 use Rattle.node_connections.specs.Heard.{HeardAt}
 use Rattle.node_connections.specs.Said.{IsLineAlone, IsServedAlone}
 use Rattle.node_service.specs.Serving.{Serves}
-use Rattle.node_connections.proofs.Lives.{stay, live-join}
+use Rattle.node_connections.proofs.Lives.{stay, live-join, others-join}
 use Rattle.node_connections.proofs.Saying.{nothing-same}
 use Rattle.node_connections.proofs.Served.{served-alone-join, served-alone-none, served-byte, served-line}
 use Rattle.node_service.proofs.Serving.{serves-join, serves-none}
@@ -22,6 +22,7 @@ loop-byte-init g c =
       serves-none g.P.Pipe.took (IsServedAlone g.P.Pipe.gave g.P.Pipe.took g.P.Pipe.counts clients clients c.args.ticket []) c.args.node.now c.args.notes.now clients clients
           (served-alone-none g.P.Pipe.gave g.P.Pipe.took g.P.Pipe.counts c.args.ticket clients) (nothing-same g.P.Pipe.took clients clients refl refl),
       stay g.P.Pipe.gave g.P.Pipe.took g.P.Pipe.counts clients clients refl,
+      λ u other. refl,
     )
 
 pub loop-byte-preserved : goal.loop-byte-preserved
@@ -33,6 +34,7 @@ loop-byte-preserved g c =
     let notes = c.loop-byte.notes in
     let lives = live-join g.P.Pipe.gave g.P.Pipe.took g.P.Pipe.counts old mid pushed c.loop-byte.invariant.1 c.push.ensures.lives in
     let t = c.args.ticket in
+    let others = others-join t old mid pushed c.loop-byte.invariant.2 c.push.ensures.others in
     let bytes = c.args.bytes.now in
     let at = c.loop-byte.byte-index in
     let byte = get_or bytes at 0 in
@@ -59,6 +61,7 @@ loop-byte-preserved g c =
                 (served-alone-join g.P.Pipe.gave g.P.Pipe.took g.P.Pipe.counts t read (byte ∷ []) old mid new c.loop-byte.invariant.1)
                 c.args.node.now node w.serve_line.new.node c.args.notes.now notes w.serve_line.new.notes old mid new c.loop-byte.invariant.0 served),
             live-join g.P.Pipe.gave g.P.Pipe.took g.P.Pipe.counts old pushed new lives w.serve_line.ensures.lives,
+            others-join t old pushed new others (λ u other. (w.serve_line.ensures.reported.1 u other).1),
           )
       | in_default w ↦
           let heard = served-byte g.P.Pipe.gave g.P.Pipe.took g.P.Pipe.counts t byte mid pushed
@@ -71,6 +74,7 @@ loop-byte-preserved g c =
                 c.args.node.now node node c.args.notes.now notes notes old mid pushed c.loop-byte.invariant.0
                 (serves-none g.P.Pipe.took (IsServedAlone g.P.Pipe.gave g.P.Pipe.took g.P.Pipe.counts mid pushed t (byte ∷ [])) node notes mid pushed heard c.push.ensures.nothing)),
             lives,
+            others,
           )
     ]
 
@@ -80,3 +84,6 @@ returns-clause-serves g c =
     let new = c.loop-byte.clients in
     subst (λ read. Serves g.P.Pipe.took (IsServedAlone g.P.Pipe.gave g.P.Pipe.took g.P.Pipe.counts old new c.args.ticket read) c.args.node.now c.loop-byte.node c.args.notes.now c.loop-byte.notes old new)
     (take_all c.loop-byte.byte-index c.args.bytes.now (let end = c.loop-byte-test.false in omega (arith, end))) c.loop-byte.invariant.0
+
+pub returns-clause-others : goal.returns-clause-others
+returns-clause-others g c = c.loop-byte.invariant.2

@@ -1,4 +1,4 @@
-use Rattle.std.proofs.Common.{ap, refl}
+use Rattle.std.proofs.Common.{ap, refl, ◌∙◌}
 use Rattle.node_connections.proofs.Lives.{still-join}
 use Rattle.node_loop.specs.Moments.{moment_of}
 use Rattle.node_service.specs.Noting.{emptied}
@@ -51,4 +51,5 @@ returns-clause-says g c = record {
   writes = record { lives = c.speak.ensures.lives; hears_nothing = c.speak.ensures.heard; says_nothing = c.speak.ensures.nothing; goes_out = c.speak.ensures.out; ends = c.speak.ensures.ends };
   gone = c.tick-ticked.ensures.node.kinds;
   gone_at_last = c.speak.ensures.spoken.kinds;
+  more = λ some. c.speak.ensures.more ∙ (c.tick-ticked.ensures.more ∙ c.listen.ensures.listens.more some);
 }

@@ -1,4 +1,5 @@
-use Rattle.std.proofs.Common.{refl}
+use Rattle.std.proofs.Common.{refl, ◌∙◌}
+use Rattle.std.proofs.lemmas.Bool.{or_left}
 use Rattle.node_connections.proofs.Lives.{still-join}
 use Rattle.node_loop.specs.Moments.{moment_of}
 use Rattle.node_service.specs.Noting.{emptied}
@@ -39,4 +40,5 @@ returns-clause-says g c = record {
   answers = c.listen.ensures.listens.answers;
   writes = record { lives = c.speak.ensures.lives; hears_nothing = c.speak.ensures.heard; says_nothing = c.speak.ensures.nothing; goes_out = c.speak.ensures.out; ends = c.speak.ensures.ends };
   gone = c.speak.ensures.spoken.kinds;
+  more = λ some. or_left _ c.plan-plan.result.ticks (c.speak.ensures.more ∙ c.listen.ensures.listens.more some);
 }

@@ -13,6 +13,8 @@ use Rattle.node_service.proofs.Noting.{grown}
 use Rattle.node_loop.proofs.Remembering.{remembers-equal, remembers-join}
 use Rattle.node_connections.proofs.Saying.{nothing-same}
 use Rattle.node_service.proofs.Serving.{serves-goes, serves-join}
+use Rattle.node_service.specs.Pieces.{GivePieces}
+use Rattle.std.proofs.lemmas.Bool.{or_right}
 use Rattle.node_loop.proofs.run.NodeRun.listen.Goals as goal
 
 pub returns-clause-listens : goal.returns-clause-listens
@@ -67,7 +69,10 @@ returns-clause-listens g c =
         ends = λ t. (serves.lines_are t).1;
         said = serves.said;
         reads = subst (λ x. AllRead g.D.P.Pipe.gave g.D.P.Pipe.took g.D.P.Pipe.counts x answered) same c.serve_all.ensures.reads;
+        may_have_more = c.serve_all.result;
+        pieces = subst (λ x. GivePieces g.D.P.Pipe.gave g.D.P.Pipe.took g.D.P.Pipe.counts c.serve_all.result x answered) same c.serve_all.ensures.pieces;
       };
+      more = λ some. or_right _ c.serve_all.result some;
     }
 
 pub returns-clause-lives : goal.returns-clause-lives

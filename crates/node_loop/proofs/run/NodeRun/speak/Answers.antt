@@ -20,6 +20,7 @@ loop-id-init g c = (
   refl,
   refl,
   refl,
+  refl,
   record { spoken = spoken-start g.D.P.Pipe.gave g.D.P.Pipe.took g.D.P.Pipe.counts c.args.offers.now c.args.now _; noted = refl },
 )
 
@@ -35,9 +36,10 @@ loop-id-preserved g c =
       reported.rest.1 ∙ before.2,
       reported.rest.2 ∙ before.3,
       reported.clients ∙ before.4,
+      reported.more ∙ before.5,
       record {
-        spoken = spoken-next g.D.P.Pipe.gave g.D.P.Pipe.took g.D.P.Pipe.counts c.args.offers.now c.args.now _ _ _ c.loop-id.id c.speak_to-accepted.result before.5.spoken reported.node reported.let_go reported.spoken reported.silent reported.known reported.others reported.pace;
-        noted = grown before.5.spoken.sends (sends c.args.self.now.node) c.args.notes.now mid new before.5.noted (subst (λ x. new ≡ after_all (sends x) mid) before.0 reported.noted);
+        spoken = spoken-next g.D.P.Pipe.gave g.D.P.Pipe.took g.D.P.Pipe.counts c.args.offers.now c.args.now _ _ _ c.loop-id.id c.speak_to-accepted.result before.6.spoken reported.node reported.let_go reported.spoken reported.silent reported.known reported.others reported.pace;
+        noted = grown before.6.spoken.sends (sends c.args.self.now.node) c.args.notes.now mid new before.6.noted (subst (λ x. new ≡ after_all (sends x) mid) before.0 reported.noted);
       },
     )
 
@@ -46,7 +48,7 @@ returns-clause-spoken g c =
     let self = c.args.self.now in
     let nodes : self.node.registers.ranges.nodes ≡ self.net.nodes = ap (λ s. s.ranges.nodes) self.wired in
     let all : self.node.registers.ranges.nodes ≤ c.loop-id.id = let end = c.loop-id-test.false in let count = c.nodes-id-end.ensures.nodes in omega arith in
-    let spoken = c.loop-id.invariant.5 in
+    let spoken = c.loop-id.invariant.6 in
     let mid = c.loop-id.notes in
     let new = c.write_all.new.notes in
     let left = subst (λ x. Did (IsLeaveOfGone (is_connected c.write_all.new.clients)) x c.write_all.new.node mid new) c.loop-id.invariant.0 c.write_all.ensures.node in
@@ -73,3 +75,6 @@ returns-clause-heard g c = subst (λ x. NothingHeard g.D.P.Pipe.gave x c.write_a
 pub returns-clause-ends : goal.returns-clause-ends
 returns-clause-ends g c =
     subst (λ x. AllEndByWrite g.D.P.Pipe.gave g.D.P.Pipe.took g.D.P.Pipe.counts x c.write_all.new.clients) c.loop-id.invariant.4 c.write_all.ensures.ends
+
+pub returns-clause-more : goal.returns-clause-more
+returns-clause-more g c = c.loop-id.invariant.5

@@ -13,3 +13,15 @@ returns-clause-loans g c =
 
 pub returns-clause-others : goal.returns-clause-others
 returns-clause-others g c = (refl, refl)
+
+pub returns-clause-rounds : goal.returns-clause-rounds
+returns-clause-rounds g c = rw c.node.ensures at c.turn_ended.ensures.rounds
+
+pub returns-clause-link : goal.returns-clause-link
+returns-clause-link g c sight within seen = rw c.now-ended.ensures.said (c.turn_ended.ensures.link sight within (rw c.ports.ensures seen))
+
+pub returns-clause-other_links : goal.returns-clause-other_links
+returns-clause-other_links g c = c.turn_ended.ensures.others
+
+pub returns-clause-rest : goal.returns-clause-rest
+returns-clause-rest g c = let rest = c.turn_ended.ensures.rest in (rest.0, rw (c.nodes.ensures.nodes, c.net.ensures) at rest.1, rest.2)
