@@ -1,5 +1,5 @@
 -- Small examples of the words that start a node, and of what is said of one that ended, and some that fail.
-use Rattle.std.proofs.Common.{◌≡◌, Some, None, [], ◌∷◌, refl, codes, map}
+use Rattle.std.proofs.Common.{◌≡◌, Some, None, [], ◌∷◌, refl, codes, map, arith}
 use Rattle.std.specs.Fmt.{digits}
 use Rattle.std.specs.Process.{status_bits}
 use Rattle.std.specs.declared.process.status.ExitStatus.{ExitStatus}
@@ -8,7 +8,9 @@ use Rattle.node_log.specs.declared.event.Level.TheVariants.{Notice}
 use Rattle.process_parts.specs.declared.rights.Rights.TheVariants.{Usual, GroupLocks}
 use Rattle.up_process.specs.declared.left.LastLine.TheVariants.{Left, Gone}
 use Rattle.up_process.specs.Children.{rights_options, log_options, record_options, child_options, child_words, end_of}
+use Rattle.up_process.specs.Extents.{IsOfNetwork}
 use Rattle.up_process.specs.Texts.{last_end, last_line}
+use Rattle.topology.proofs.Rows.{two, two-accepted}
 
 -- what is said
 says-left : last_end Unstarted ≡ codes "cannot be started"
@@ -57,3 +59,13 @@ module _ (s : ExitStatus) where
 
   ended_not-stopped : status_bits s ≡ 4991 → end_of s ≡ Unknown
   ended_not-stopped bits = rw bits refl
+
+-- a network of two nodes; none has one, and no link holds so many frames
+extent-two : IsOfNetwork (record { nodes = 2; capacity = 1 })
+extent-two = (two, two-accepted, refl, refl)
+
+extent_not-one : IsOfNetwork (record { nodes = 1; capacity = 1 }) → ⊥
+extent_not-one (net, accepted, nodes, capacity) = let least = accepted.limits.two in let few : 1 ≡ net.nodes = nodes in omega (arith, least, few)
+
+extent_not-wide : IsOfNetwork (record { nodes = 2; capacity = 5000 }) → ⊥
+extent_not-wide (net, accepted, nodes, capacity) = let most = accepted.limits.most_capacity in let wide : 5000 ≡ net.capacity = capacity in omega (arith, most, wide)

@@ -1,2 +1,3 @@
 pub mod Children
+pub mod Extents
 pub mod Texts

@@ -1,5 +1,5 @@
 //! `up FILE DIR`: runs all nodes of a network as processes, until it is asked to end.
-ghost use Rattle.std.specs.Prelude.{◌≡◌, ◌≢◌, ◌⊎◌, ◌++◌, ◌∷◌, [], true, None, Some};
+ghost use Rattle.std.specs.Prelude.{◌≡◌, ◌≢◌, ◌⊎◌, ◌≤◌, ◌++◌, ◌∷◌, [], true, None, Some};
 ghost use Rattle.std.specs.Prelude.{OnOk, IfOk, IfErr};
 ghost use Rattle.std.specs.Prelude.{codes, decimal, length};
 ghost use Rattle.std.specs.List.{list_any};
@@ -12,6 +12,9 @@ ghost use Rattle.process_parts.specs.node_keeping.declared.keeper.KeeperDeed.The
 ghost use Rattle.process_parts.specs.node_texts.Thousandths.{millis_text};
 ghost use Rattle.up_process.specs.Children.{child_options, rights_options, log_options, record_options};
 ghost use Rattle.up_process.specs.Children.{child_words, end_of};
+ghost use Rattle.up_process.specs.Extents.{IsOfNetwork};
+ghost use Rattle.topology.specs.Network.{IsAcceptedNetwork};
+ghost use Rattle.process_parts.specs.node_texts.Names.{longest_socket_name};
 ghost use Rattle.process_parts.specs.Start.{may_end};
 ghost use Rattle.process_parts.specs.declared.fault.NodeFault.TheVariants.{Lock, Running};
 ghost use Rattle.process_parts.specs.declared.fault.NodeFault.TheVariants.{UpLock, UpRunning, Memory};
@@ -366,6 +369,10 @@ fn check_network<R: Files + AllocGlobal>(
 ) -> Result<Extent, NodeFault>
     requires { stage.old ≡ Begun }
     ensures ok { IfOk result (λ _. stage.new ≡ Checked) }
+    // It is that of a network, and no socket of its nodes has too long a name.
+    ensures network { IfOk result IsOfNetwork }
+    ensures names { IfOk result
+        (λ extent. length (longest_socket_name dir.now extent.nodes) ≤ 107) }
     ensures err { IfErr result (λ fault. (may_end Begun fault ≡ true) × (stage.new ≡ Begun)) }
 {
     let extent = match read_network(rt, file) {
@@ -379,7 +386,8 @@ fn check_network<R: Files + AllocGlobal>(
 
 /// What `up` has to know of this network.
 fn extent_of(net: &Net) -> Extent
-    ensures { (result.nodes ≡ net.now.nodes) × (result.capacity ≡ net.now.capacity) }
+    ensures same { (result.nodes ≡ net.now.nodes) × (result.capacity ≡ net.now.capacity) }
+    ensures network { IsAcceptedNetwork net.now }
 {
     Extent {
         nodes: net.nodes(),
