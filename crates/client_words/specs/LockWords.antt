@@ -6,9 +6,9 @@ use Rattle.clap.specs.declared.parser.matches.Found.{Found}
 use Rattle.command_grammar.specs.Given.{IsFlag, IsGiven, IsRefused}
 use Rattle.lock_command.specs.declared.lock.Request.{Request}
 use Rattle.lock_command.specs.declared.seconds.Seconds.{Seconds}
-use Rattle.lock_words.specs.Needed.{whole_texts}
-use Rattle.lock_words.specs.Words.{limit_of, text_if}
-use Rattle.lock_words.specs.declared.whole.StandIns.{StandIns}
+use Rattle.client_words.specs.Needed.{whole_texts}
+use Rattle.client_words.specs.Words.{limit_of, text_if}
+use Rattle.client_words.specs.declared.whole.StandIns.{StandIns}
 use Rattle.command_words.specs.Refused.{IsIdRefused, IsMissing}
 use Rattle.client_words.specs.declared.lock.OmittedWords.{OmittedWords}
 use Rattle.command_words.specs.declared.refusal.Refusal.{Refusal}

@@ -7,7 +7,7 @@ use Rattle.clap.specs.declared.parser.matches.Found.{Found}
 use Rattle.command_grammar.specs.Given.{IsFlag}
 use Rattle.command_grammar.specs.declared.words.WordFault.TheVariants.{NoNumber}
 use Rattle.command_faults.specs.declared.fault.Fault.TheVariants.{Memory}
-use Rattle.lock_words.specs.Words.{texts}
+use Rattle.client_words.specs.Words.{texts}
 use Rattle.client_words.specs.Interval.{interval}
 use Rattle.command_words.specs.declared.refusal.Refusal.{Refusal}
 use Rattle.command_words.specs.declared.refusal.Refusal.TheVariants.{Word, Fault}

@@ -1,5 +1,6 @@
 //! The words of the commands that ask running nodes: what `lock`, `status` and `stop` take, their
-//! help, and what they do with their words. Each has a file here.
+//! help, and what they do with their words. Each has a file here. Others have what is read of `lock`'s words
+//! in front of its command: which are left out, what stands in for them, and for how long it waits.
 //!
 //! ```
 //! let status = run_words(rt, &["tokentree", "status", "run"]); // prints, status 0
@@ -14,8 +15,11 @@
 #![tactic(auto)]
 
 mod commands;
+mod limit;
 pub mod lock;
+mod reading;
 pub mod status;
 pub mod stop;
+mod whole;
 
 pub use commands::run_words;

@@ -2,19 +2,20 @@
 ghost use Rattle.std.specs.Prelude.{◌≡◌, IfOk, IfErr, map};
 ghost use Rattle.clap.specs.Matches.{found_of};
 ghost use Rattle.command_faults.specs.declared.fault.Fault.TheVariants.{Memory};
-ghost use Rattle.lock_words.specs.Words.{texts};
+ghost use Rattle.client_words.specs.Words.{texts};
 ghost use Rattle.command_words.specs.declared.refusal.Refusal.TheVariants as refused;
 ghost use Rattle.command_words.specs.Refused.{IsIdRefused};
 ghost use Rattle.client_words.specs.LockWords.{AreWhole, IsLockRefused, IsNodeAsked, IsRequestOf};
 ghost use Rattle.client_words.specs.LockWords.{IsRequestRefused, IsWaitOf, IsWaitRefused, command_words, guard_words};
 
+use crate::limit::limit_of;
+use crate::whole::{StandIns, whole_words};
 use clap::ArgMatches;
 use command_faults::Fault;
 use command_grammar::{FREE, Grammar, Number, Parameter, given_number, word};
 use command_words::program::{DIR, ID, Runtime};
 use command_words::refusal::Refusal;
 use lock_command::{Request, Seconds, guard, lock};
-use lock_words::{StandIns, limit_of, whole_words};
 use std::alloc::Global;
 use std::convert::AsStr;
 use std::env;

@@ -11,7 +11,7 @@ use command_words::refusal::Refusal;
 use command_words::{ends, is_of_service, matches_of};
 use network_words::{bound, network};
 use node_process::NodeProcess;
-use process_line::{node, up};
+use process_words::{node, up};
 use std::convert::AsStr;
 use std::process::ExitCode;
 
@@ -70,7 +70,7 @@ pub fn run_words<R: Runtime, S: AsStr>(rt: &R, words: &[S], on_terminal: bool) -
 fn run_part<R: Runtime, S: AsStr>(rt: &R, words: &[S]) -> ExitCode {
     match words {
         [_, name, ..] if is_of_networks(name.as_str()) => network_words::run_words(rt, words),
-        [_, name, ..] if is_of_nodes(name.as_str()) => process_line::run_words(
+        [_, name, ..] if is_of_nodes(name.as_str()) => process_words::run_words(
             rt,
             words,
             &NodeProcess,

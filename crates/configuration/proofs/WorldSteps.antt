@@ -3,7 +3,7 @@ use Rattle.std.proofs.Common.{◌≡◌, ◌∙◌, ◌/◌, sym, ap, Bool, true
 use Rattle.std.proofs.lemmas.Grind.{common_steps}
 use Rattle.run_model.specs.link_model.declared.item.Item.{Item}
 use Rattle.run_model.specs.link_model.declared.item.Item.TheVariants as item
-use Rattle.run_model.specs.link_port.Port.{frame_of}
+use Rattle.run_model.specs.data_link.Port.{frame_of}
 use Rattle.run_model.specs.node_core.Site.{site_of}
 use Rattle.run_model.specs.node_core.Step.{taken, ticked}
 use Rattle.run_model.specs.node_core.View.{NodeView, site_in, state_of}

@@ -1,5 +1,4 @@
 pub use Rattle.run_model.specs.data_link as data_link
-pub use Rattle.run_model.specs.link_port as link_port
 pub use Rattle.run_model.specs.link_model as link_model
 pub use Rattle.run_model.specs.node_core as node_core
 pub use Rattle.run_model.specs as run_model

@@ -8,7 +8,7 @@ use Rattle.topology.specs.Ranges.{ranges_of, payload_fits}
 use Rattle.topology.specs.declared.frame.Ranges.{Ranges}
 use Rattle.topology.specs.declared.frame.Payload.{Payload}
 use Rattle.topology.specs.Laws.{JoinedBack, JoinedAreNodes, NeighboursAreJoined}
-use Rattle.tree_convergence.specs.link_port.Port.{PortState, port_fits}
+use Rattle.tree_convergence.specs.data_link.Port.{PortState, port_fits}
 use Rattle.k_state.specs.Machine as machine
 use Rattle.k_state.specs.Laws.{OneItemIsPrivileged}
 use Rattle.k_state.specs.Ring.{IsGood, IsRing}

@@ -5,7 +5,7 @@ use Rattle.std.specs.Prelude.{◌&&◌, ◌==◌, if◌then◌else◌, not, All}
 use Rattle.std.proofs.lemmas.Bool.{false≢true}
 use Rattle.std.proofs.lemmas.List.Elements.{All-nil, All-cons}
 use Rattle.topology.specs.Network.{Network, are_joined}
-use Rattle.tree_convergence.specs.link_port.Port.{port_fits}
+use Rattle.tree_convergence.specs.data_link.Port.{port_fits}
 use Rattle.tree_convergence.specs.lock_desk.Desk.{DeskState, no_desk}
 use Rattle.run_model.specs.World.{World, IsWorldInRange, site, item_fits}
 use Rattle.run_model.specs.Run.{run, has_damage, IsUndamaged}

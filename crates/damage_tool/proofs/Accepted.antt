@@ -9,7 +9,7 @@ use Rattle.topology.specs.Ranges.{ranges_of, parent_fits, payload_fits, frame_fi
 use Rattle.topology.specs.declared.frame.Payload.{Payload}
 use Rattle.topology.specs.declared.frame.Ranges.{Ranges}
 use Rattle.run_model.specs.link_model.declared.item.Item.{Item}
-use Rattle.run_model.specs.link_port.Port.{counters_fit}
+use Rattle.run_model.specs.data_link.Port.{counters_fit}
 use Rattle.run_model.specs.lock_desk.Desk.{waits}
 use Rattle.run_model.specs.World.{World, item_fits}
 use Rattle.run_model.specs.Step.{refusal, step, changed, harmed, link_fault}

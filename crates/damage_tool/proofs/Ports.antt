@@ -6,7 +6,7 @@ use Rattle.std.proofs.lemmas.List.{at_drop_more}
 use Rattle.rand_pcg.specs.Lcg.{Lcg}
 use Rattle.topology.specs.At.{at}
 use Rattle.topology.specs.declared.frame.Ranges.{Ranges}
-use Rattle.run_model.specs.link_port.Port.{PortState}
+use Rattle.run_model.specs.data_link.Port.{PortState}
 use Rattle.run_model.specs.node_core.State.{LocalState}
 use Rattle.run_model.specs.node_core.Writes.{with_port}
 use Rattle.damage_tool.specs.declared.draws.PortDraw.{PortDraw}

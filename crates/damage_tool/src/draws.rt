@@ -1,7 +1,7 @@
 //! Numbers, payloads and ports, drawn from a generator.
 ghost use Rattle.std.specs.Prelude.{◌≡◌, ◌<◌, ◌≤◌, ◌+◌, IsTrue};
 ghost use Rattle.topology.specs.Ranges.{payload_fits, parent_fits};
-ghost use Rattle.run_model.specs.link_port.Port.{counters_fit};
+ghost use Rattle.run_model.specs.data_link.Port.{counters_fit};
 ghost use Rattle.damage_tool.specs.Draws.{draw, draw_parent, draw_payload, draw_port};
 
 use rand_core::utils::NextWord;

@@ -2,7 +2,7 @@
 ghost use Rattle.std.specs.Prelude.{◌≡◌, ◌<◌, IsTrue, Contains};
 ghost use Rattle.topology.specs.Network.{neighbours_of};
 ghost use Rattle.topology.specs.Ranges.{payload_fits, ranges_of};
-ghost use Rattle.run_model.specs.link_port.Port.{counters_fit};
+ghost use Rattle.run_model.specs.data_link.Port.{counters_fit};
 ghost use Rattle.run_model.specs.node_core.Site.{site_of};
 ghost use Rattle.run_model.specs.node_core.View.{site_in, state_of};
 ghost use Rattle.damage_tool.specs.Scrambled.{node_scrambled, port_written};

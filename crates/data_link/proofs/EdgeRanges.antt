@@ -7,8 +7,8 @@ use Rattle.link_model.specs.topology.declared.frame.Frame.{Frame}
 use Rattle.link_model.specs.topology.declared.frame.Payload.{Payload}
 use Rattle.link_model.specs.declared.item.Item.{Item}
 use Rattle.link_model.specs.declared.item.Item.TheVariants as item
-use Rattle.link_port.specs.k_state.Ring.{IsRing}
-use Rattle.link_port.specs.Port.{PortState, frame_of, port_after}
+use Rattle.k_state.specs.Ring.{IsRing}
+use Rattle.data_link.specs.Port.{PortState, frame_of, port_after}
 use Rattle.data_link.specs.Edge.{EdgeState, EdgeEvent, SendOut, SendBack, TakeOut, TakeBack, LoseOut, LoseBack, Elsewhere, IsPortBelow, IsItemBelow, IsEdgeInRange, modulus_of, port_taking, edge_step, edge_run, newest_first, link_ring}
 use Rattle.data_link.proofs.UnderWay.{All-put, All-rest, All-remove, All-join, length-put, length-rest, length-remove}
 

@@ -5,8 +5,8 @@ use Rattle.link_model.specs.topology.declared.frame.Frame.{Frame}
 use Rattle.link_model.specs.topology.declared.frame.Payload.{Payload}
 use Rattle.link_model.specs.declared.item.Item.{Item}
 use Rattle.link_model.specs.declared.item.Item.TheVariants as item
-use Rattle.link_port.specs.k_state.Ring.{tail_of}
-use Rattle.link_port.specs.Port.{frame_of, port_acked}
+use Rattle.k_state.specs.Ring.{tail_of}
+use Rattle.data_link.specs.Port.{frame_of, port_acked}
 use Rattle.data_link.specs.Edge.{EdgeState, EdgeEvent, SendOut, SendBack, TakeOut, TakeBack, LoseOut, LoseBack, Elsewhere, port_taking, edge_step, edge_run, modulus_of, link_ring, newest_first}
 use Rattle.data_link.specs.Sweep.{Takes, act_out, act_back, list_after, Origin, Before, Sent, takes_sent, hands_over_sent, IsSweep}
 use Rattle.data_link.proofs.LinkSteps.{heard-last}

@@ -8,4 +8,6 @@ pub mod Known
 pub mod SixSweeps
 pub mod Refresh
 pub mod Strict
+mod PortRange
 mod Rows
+mod RowsPort

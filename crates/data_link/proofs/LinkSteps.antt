@@ -5,9 +5,9 @@ use Rattle.link_model.specs.topology.declared.frame.Frame.{Frame}
 use Rattle.link_model.specs.topology.declared.frame.Payload.{Payload}
 use Rattle.link_model.specs.declared.item.Item.{Item}
 use Rattle.link_model.specs.declared.item.Item.TheVariants as item
-use Rattle.link_port.specs.k_state.Machine.{root_moved}
-use Rattle.link_port.specs.k_state.Ring.{Change, Copied, Written, Removed, Further, Dropped, Step, Stays, Moves, Changes, last_of, but_last}
-use Rattle.link_port.specs.Port.{PortState, frame_of, port_acked, port_heard}
+use Rattle.k_state.specs.Machine.{root_moved}
+use Rattle.k_state.specs.Ring.{Change, Copied, Written, Removed, Further, Dropped, Step, Stays, Moves, Changes, last_of, but_last}
+use Rattle.data_link.specs.Port.{PortState, frame_of, port_acked, port_heard}
 use Rattle.data_link.specs.Edge.{EdgeState, EdgeEvent, SendOut, SendBack, TakeOut, TakeBack, LoseOut, LoseBack, Elsewhere, port_taking, edge_step_with, acked_by, moves, newest_first, link_ring}
 
 -- ---- changes at a place

@@ -3,7 +3,7 @@ use Rattle.std.proofs.Common.{◌≡◌, ℕ, arith}
 use Rattle.link_model.specs.declared.item.Item.TheVariants as item
 use Rattle.link_model.specs.Acts.{list_after}
 pub use Rattle.link_model.proofs.Marks.{IsMarked, marked-start, marked-length, marked-after, IsFirstGood, marked-taken, by_taken}
-use Rattle.link_port.specs.Port.{frame_of}
+use Rattle.data_link.specs.Port.{frame_of}
 use Rattle.data_link.specs.Edge.{EdgeState, EdgeEvent, edge_step}
 use Rattle.data_link.specs.Sweep.{act_out, act_back}
 

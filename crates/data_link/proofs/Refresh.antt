@@ -8,10 +8,10 @@ use Rattle.link_model.specs.topology.declared.frame.Frame.{Frame}
 use Rattle.link_model.specs.topology.declared.frame.Payload.{Payload}
 use Rattle.link_model.specs.declared.item.Item.{Item}
 use Rattle.link_model.specs.declared.item.Item.TheVariants as item
-use Rattle.link_port.specs.k_state.Ring.{HasFront, IsFrontThen}
-use Rattle.link_port.specs.k_state.Laws.{GoodHasFront}
+use Rattle.k_state.specs.Ring.{HasFront, IsFrontThen}
+use Rattle.k_state.specs.Laws.{GoodHasFront}
 use Rattle.data_link.specs.Refreshing.{StagedPasses}
-use Rattle.link_port.specs.Port.{PortState, frame_of, port_after}
+use Rattle.data_link.specs.Port.{PortState, frame_of, port_after}
 use Rattle.data_link.specs.Edge.{EdgeState, EdgeEvent, SendOut, SendBack, TakeOut, TakeBack, LoseOut, LoseBack, Elsewhere, CarriesItsPayload, IsEdgeInRange, IsStable, modulus_of, edge_step, edge_run, link_ring, moves, moves_in, newest_first, payload_under, port_taking}
 use Rattle.data_link.specs.Sweep.{Takes, act_out, list_after, Origin, Before, Sent, takes_sent, hands_over_sent, IsSweep, PresentPasses, Sweeps}
 use Rattle.data_link.proofs.UnderWay.{All-append, frames-newest, OfItem, OfAll, all-stays}

@@ -5,7 +5,7 @@ use Rattle.link_model.specs.topology.declared.frame.Frame.{Frame}
 use Rattle.link_model.specs.topology.declared.frame.Payload.{Payload}
 use Rattle.link_model.specs.declared.item.Item.{Item}
 use Rattle.link_model.specs.declared.item.Item.TheVariants as item
-use Rattle.link_port.specs.Port.{PortState}
+use Rattle.data_link.specs.Port.{PortState}
 use Rattle.data_link.specs.Edge.{EdgeState, EdgeEvent, SendOut, SendBack, TakeOut, TakeBack, LoseOut, IsStable, IsStableWith, edge_run, edge_step_with, moves_in}
 use Rattle.data_link.specs.Sweep.{IsSweep, is_out_renewed, is_back_renewed}
 

@@ -3,9 +3,9 @@
 use Rattle.std.proofs.Common.{◌≡◌, ℕ, ◌+◌, ◌*◌, ◌<◌, ◌≤◌, ◌⊎◌, inl, inr, List, [], ◌∷◌, ◌++◌, sym, ◌∙◌, ap, subst, arith}
 use Rattle.std.proofs.lemmas.Bool.{cases_lt}
 use Rattle.std.proofs.lemmas.Grind.{common_steps}
-use Rattle.link_port.specs.k_state.Ring.{IsFresh, tail_of}
-use Rattle.link_port.specs.k_state.Ages.{age}
-use Rattle.link_port.specs.k_state.Laws.{AgeGoesOn, AgeOfStart, FreshHasFront, FrontStaysOrTurnsGood, GoodHasFront, GoodStays, MovesFromFirst, SomeValueIsFresh}
+use Rattle.k_state.specs.Ring.{IsFresh, tail_of}
+use Rattle.k_state.specs.Ages.{age}
+use Rattle.k_state.specs.Laws.{AgeGoesOn, AgeOfStart, FreshHasFront, FrontStaysOrTurnsGood, GoodHasFront, GoodStays, MovesFromFirst, SomeValueIsFresh}
 use Rattle.data_link.specs.Edge.{EdgeState, EdgeEvent, IsEdgeInRange, IsStable, modulus_of, edge_step, edge_run, moves, moves_in, link_ring}
 use Rattle.data_link.specs.SixSweeps.{StableAfterSixSweeps}
 use Rattle.data_link.proofs.UnderWay.{All-weaker, near-stays}

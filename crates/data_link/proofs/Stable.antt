@@ -4,11 +4,11 @@ use Rattle.std.proofs.Math.Nat.{mod-eq_of_lt, mod_self}
 use Rattle.std.proofs.lemmas.Bool.{cases_lt}
 use Rattle.std.proofs.lemmas.Grind.{common_steps}
 use Rattle.link_model.specs.topology.declared.frame.Payload.{Payload}
-use Rattle.link_port.specs.k_state.Machine.{root_moved}
-use Rattle.link_port.specs.k_state.Ring.{HasFront, IsFresh, Step, moves_until}
-use Rattle.link_port.specs.k_state.Laws.{FreshHasFront, FrontStaysOrTurnsGood, GoodHasFront, GoodStays, MovesFromFirst, SomeValueIsFresh}
+use Rattle.k_state.specs.Machine.{root_moved}
+use Rattle.k_state.specs.Ring.{HasFront, IsFresh, Step, moves_until}
+use Rattle.k_state.specs.Laws.{FreshHasFront, FrontStaysOrTurnsGood, GoodHasFront, GoodStays, MovesFromFirst, SomeValueIsFresh}
 use Rattle.data_link.specs.Laws.{StableStays, StableOutlastsRuns}
-use Rattle.link_port.specs.Port.{PortState}
+use Rattle.data_link.specs.Port.{PortState}
 use Rattle.data_link.specs.Edge.{EdgeState, EdgeEvent, IsEdgeInRange, IsStable, modulus_of, edge_step, edge_run, moves, moves_in, link_ring, payload_under}
 use Rattle.data_link.proofs.LinkSteps.{event-step}
 use Rattle.data_link.proofs.UnderWay.{OfAll, near-stays, all-stays, all-weaker, all-both, all-ring}

@@ -2,7 +2,7 @@
 use Rattle.std.proofs.Common.{◌≡◌, ℕ, ◌+◌, ◌<◌, ◌≤◌, ◌||◌, nat_lt, zero, suc, List, [], ◌∷◌, ◌++◌, length, map, remove, Bool, true, false, refl, ap, subst, arith}
 use Rattle.link_model.specs.declared.item.Item.{Item}
 use Rattle.link_model.specs.declared.item.Item.TheVariants as item
-use Rattle.link_port.specs.Port.{frame_of}
+use Rattle.data_link.specs.Port.{frame_of}
 use Rattle.data_link.specs.Edge.{EdgeState, EdgeEvent, IsEdgeInRange, edge_step}
 use Rattle.data_link.specs.Sweep.{LinkAct, Puts, Takes, Loses, Rests, act_out, act_back, list_after, Origin, Before, Sent, takes_item, takes_sent, hands_over_sent, handed_out, handed_back, IsStrictSweep, IsSweep}
 use Rattle.data_link.proofs.LinkSteps.{by_test}

@@ -3,7 +3,7 @@ use Rattle.std.proofs.Common.{◌≡◌, ◌≢◌, ℕ, ◌+◌, ◌*◌, ◌<�
 use Rattle.std.proofs.lemmas.Grind.{common_steps}
 use Rattle.link_model.specs.declared.item.Item.{Item}
 use Rattle.link_model.specs.declared.item.Item.TheVariants as item
-use Rattle.link_port.specs.Port.{frame_of}
+use Rattle.data_link.specs.Port.{frame_of}
 use Rattle.data_link.specs.Edge.{EdgeState, EdgeEvent, SendOut, SendBack, TakeOut, TakeBack, LoseOut, LoseBack, Elsewhere}
 use Rattle.data_link.specs.Edge.{acked_by, edge_step, edge_run, moves, moves_in}
 use Rattle.data_link.specs.Sweep.{Takes, act_back, list_after, Origin, Before, Sent, takes_sent, hands_over_sent, IsSweep, Sweeps}

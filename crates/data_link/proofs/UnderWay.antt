@@ -9,7 +9,7 @@ use Rattle.link_model.specs.declared.item.Item.{Item}
 use Rattle.link_model.specs.declared.item.Item.TheVariants as item
 use Rattle.link_model.specs.Acts.{put_last}
 pub use Rattle.link_model.proofs.Lists.{All-push, All-remove, length-remove}
-use Rattle.link_port.specs.Port.{PortState, port_after}
+use Rattle.data_link.specs.Port.{PortState, port_after}
 use Rattle.data_link.specs.Edge.{EdgeState, EdgeEvent, SendOut, SendBack, TakeOut, TakeBack, LoseOut, LoseBack, Elsewhere, port_taking, edge_step, moves, newest_first}
 use Rattle.data_link.proofs.LinkSteps.{by_test}
 

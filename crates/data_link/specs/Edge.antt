@@ -7,8 +7,8 @@ use Rattle.link_model.specs.topology.declared.frame.Payload.{Payload}
 use Rattle.link_model.specs.declared.item.Item.{Item}
 use Rattle.link_model.specs.declared.item.Item.TheVariants as item
 use Rattle.link_model.specs.Acts.{put_last}
-use Rattle.link_port.specs.k_state.Ring.{IsGood}
-use Rattle.link_port.specs.Port.{PortState, frame_of, port_after}
+use Rattle.k_state.specs.Ring.{IsGood}
+use Rattle.data_link.specs.Port.{PortState, frame_of, port_after}
 
 -- the ports of the two nodes to each other, and the items under way, oldest first: out from near to
 -- far, and back

@@ -8,8 +8,8 @@ use Rattle.link_model.specs.topology.declared.frame.Payload.{Payload}
 use Rattle.link_model.specs.topology.declared.frame.Ranges.{Ranges}
 use Rattle.link_model.specs.declared.item.Item.{Item}
 use Rattle.link_model.specs.declared.item.Item.TheVariants as item
-use Rattle.link_port.specs.k_state.Ring.{Step}
-use Rattle.link_port.specs.Port.{PortState, port_after, port_fits}
+use Rattle.k_state.specs.Ring.{Step}
+use Rattle.data_link.specs.Port.{PortState, port_after, port_fits}
 use Rattle.data_link.specs.Edge.{EdgeState, EdgeEvent, TakeOut, TakeBack, IsEdgeInRange, IsStable, edge_run, edge_step, edge_step_with, link_ring, moves, moves_in}
 use Rattle.data_link.specs.Sweep.{IsStrictSweep, IsSweep, PresentPasses, Sweeps}
 

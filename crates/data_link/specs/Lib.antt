@@ -1,7 +1,9 @@
 pub use Rattle.link_model.specs.topology as topology
 pub use Rattle.link_model.specs as link_model
-pub use Rattle.link_port.specs.k_state as k_state
-pub use Rattle.link_port.specs as link_port
+pub use Rattle.k_state.specs as k_state
+pub mod Port
+pub mod Heard
+pub mod PortLaws
 pub mod Edge
 pub mod Sweep
 pub mod SixSweeps

@@ -1,6 +1,6 @@
-//! The laws of one edge, each the contract of a function that does nothing. A proof that needs one
+//! The laws of a port and of one edge, each the contract of a function that does nothing. A proof that needs one
 //! calls it and cites its clauses. They hold for every capacity, and whatever payloads are handed
-//! in as present. Each speaks of one direction; the other is the same edge seen from its other end.
+//! in as present. Those of an edge speak of one direction; the other is the same edge seen from its other end.
 ghost use Rattle.data_link.specs.Refreshing.{SweepCopiesStaged};
 ghost use Rattle.data_link.specs.Laws.{CopyIsStaged, EventIsStep, MoveRefreshesStaged};
 ghost use Rattle.data_link.specs.Laws.{PayloadsKeep, RangeStays};
@@ -8,10 +8,16 @@ ghost use Rattle.data_link.specs.Laws.{StableAfterMoves, StableAfterSweeps, Stab
 ghost use Rattle.data_link.specs.Laws.{StableStays, StagedIsPresent, StrictSweepIsSweep};
 ghost use Rattle.data_link.specs.Laws.{SweepRefreshesCopy, SweepsMove, TakenIsCopied};
 ghost use Rattle.data_link.specs.Laws.{ThreeSweepsRefresh, TwoSweepsMove};
+ghost use Rattle.data_link.specs.PortLaws.{PortStaysInRange};
 ghost use Rattle.data_link.specs.SixSweeps.{StableAfterSixSweeps};
 
-use link_port::k_state::laws as k_state_laws;
-pub use link_port::laws::ports;
+use k_state::laws as k_state_laws;
+pub use link_model::topology::laws::neighbours;
+
+/// A port in range stays in range, whatever frame in range it takes. Whoever keeps ports needs it.
+pub fn ports()
+    ensures { PortStaysInRange }
+{}
 
 /// One event: a step of the link ring, and an edge in range stays in range.
 pub fn events()

@@ -7,7 +7,7 @@ use Rattle.std.proofs.lemmas.Option.{slice_get_within, get_or_from_slice_get}
 use Rattle.topology.specs.declared.frame.Payload.{Payload}
 use Rattle.configuration.specs.link_model.declared.item.Item.{Item}
 use Rattle.configuration.specs.data_link.Edge.{CarriesItsPayload, payload_under}
-use Rattle.configuration.specs.link_port.Port.{PortState}
+use Rattle.configuration.specs.data_link.Port.{PortState}
 use Rattle.layers.specs.declared.payload_reading.PayloadReading.{PayloadReading}
 use Rattle.layers.specs.PayloadReading.{Admits, IsAlso}
 

@@ -3,7 +3,7 @@ ghost use Rattle.std.specs.Prelude.{◌≡◌, ◌↔◌, ◌<◌, ℕ, List, �
 ghost use Rattle.std.specs.List.{AllByRecursion};
 ghost use Rattle.configuration.specs.ConfigurationView.{world_of};
 ghost use Rattle.configuration.specs.data_link.Edge.{newest_first, CarriesItsPayload};
-ghost use Rattle.configuration.specs.link_port.Port.{PortState};
+ghost use Rattle.configuration.specs.data_link.Port.{PortState};
 ghost use Rattle.topology.specs.declared.frame.Payload.{Payload};
 ghost use Rattle.layers.specs.Numbers.{number_of, numbers_of};
 ghost use Rattle.layers.specs.PayloadReading.{Admits};

@@ -1,7 +1,7 @@
 //! The payloads of a link, read one by one.
 ghost use Rattle.std.specs.Prelude.{◌≡◌, ◌↔◌, IsTrue};
 ghost use Rattle.configuration.specs.data_link.Edge.{payload_under};
-ghost use Rattle.configuration.specs.link_port.Port.{PortState};
+ghost use Rattle.configuration.specs.data_link.Port.{PortState};
 ghost use Rattle.topology.specs.declared.frame.Payload.{Payload};
 ghost use Rattle.layers.specs.PayloadReading.{Admits};
 

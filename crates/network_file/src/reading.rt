@@ -10,7 +10,7 @@ use std::{fs, io};
 use topology::{Net, NetFault};
 
 /// The most bytes that a network file may have.
-const MOST_BYTES: u64 = 1_048_576;
+pub const MOST_BYTES: u64 = 1_048_576;
 
 /// Reads the network of a file.
 ///

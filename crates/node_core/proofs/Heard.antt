@@ -6,7 +6,7 @@ use Rattle.registers.specs.topology.Ranges.{frame_fits}
 use Rattle.registers.specs.topology.declared.frame.Frame.{Frame}
 use Rattle.registers.specs.topology.declared.frame.Payload.{Payload}
 use Rattle.registers.specs.Registers.{RegistersView, port_of, value_of}
-use Rattle.registers.specs.link_port.Port.{PortState, port_acked, port_heard, port_after}
+use Rattle.registers.specs.data_link.Port.{PortState, port_acked, port_heard, port_after}
 use Rattle.data_link.specs.link_model.declared.item.Item.TheVariants as item
 use Rattle.node_core.specs.Machines.{payload_for}
 use Rattle.node_core.specs.Step.{heard, taken}

@@ -1,7 +1,7 @@
 -- A node's state is in its range, as its parts are.
 use Rattle.std.proofs.Common.{◌≡◌, ◌<◌, IsTrue, length, get_or, arith}
 use Rattle.registers.specs.Registers.{RegistersView, IsRegisters}
-use Rattle.registers.specs.link_port.Port.{default_port}
+use Rattle.registers.specs.data_link.Port.{default_port}
 use Rattle.lock_desk.specs.Desk.{desk_fits}
 use Rattle.node_core.specs.State.{IsNodeInRange}
 use Rattle.node_core.specs.View.{NodeView, IsOwnInRange, site_in, state_of}

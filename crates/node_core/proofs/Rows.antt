@@ -5,7 +5,7 @@ use Rattle.registers.specs.topology.Network.{Network}
 use Rattle.registers.specs.topology.Ranges.{ranges_of}
 use Rattle.registers.specs.topology.declared.frame.Frame.{Frame}
 use Rattle.data_link.specs.link_model.declared.item.Item.TheVariants as item
-use Rattle.registers.specs.link_port.Port.{default_port}
+use Rattle.registers.specs.data_link.Port.{default_port}
 use Rattle.lock_desk.specs.Desk.{no_desk}
 use Rattle.node_core.specs.Site.{Site, site_of}
 use Rattle.node_core.specs.State.{LocalState, default_node}

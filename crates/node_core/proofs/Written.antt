@@ -2,7 +2,7 @@
 use Rattle.std.proofs.Common.{◌≡◌, ℕ, Result, Ok, Err, OnOk, OnErr, refl, ap}
 use Rattle.registers.specs.topology.At.{at}
 use Rattle.registers.specs.Registers.{RegistersView, port_of, value_of}
-use Rattle.registers.specs.link_port.Port.{PortState}
+use Rattle.registers.specs.data_link.Port.{PortState}
 use Rattle.node_core.specs.View.{NodeView, site_in, state_of}
 use Rattle.node_core.specs.Writes.{with_port}
 use Rattle.node_core.proofs.Same.{same_state}

@@ -1,7 +1,6 @@
 pub use Rattle.data_link.specs.link_model as link_model
 pub use Rattle.lock_desk.specs as lock_desk
 pub use Rattle.data_link.specs as data_link
-pub use Rattle.registers.specs.link_port as link_port
 pub use Rattle.registers.specs as registers
 pub use Rattle.euler_ring.specs as euler_ring
 pub use Rattle.bfs_tree.specs as bfs_tree
@@ -15,3 +14,5 @@ pub mod Rewire
 pub mod Status
 pub mod OnRegisters
 pub mod View
+pub mod Deeds
+pub mod Laws

@@ -2,7 +2,7 @@
 use Rattle.std.specs.Prelude.{ℕ, ◌<◌, ◌≤◌, Option, None, IsTrue, All}
 use Rattle.registers.specs.topology.Ranges.{parent_fits}
 use Rattle.registers.specs.topology.declared.frame.Ranges.{Ranges}
-use Rattle.registers.specs.link_port.Port.{PortState, port_fits, default_port}
+use Rattle.registers.specs.data_link.Port.{PortState, port_fits, default_port}
 use Rattle.lock_desk.specs.Desk.{DeskState, desk_fits, no_desk}
 use Rattle.node_core.specs.Site.{Site}
 

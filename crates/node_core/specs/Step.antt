@@ -7,7 +7,7 @@ use Rattle.registers.specs.topology.declared.frame.Frame.{Frame}
 use Rattle.registers.specs.topology.declared.frame.Ranges.{Ranges}
 use Rattle.data_link.specs.link_model.declared.item.Item.{Item}
 use Rattle.data_link.specs.link_model.declared.item.Item.TheVariants as item
-use Rattle.registers.specs.link_port.Port.{port_after}
+use Rattle.registers.specs.data_link.Port.{port_after}
 use Rattle.bfs_tree.specs.Step.{new_distance, new_parent}
 use Rattle.lock_desk.specs.Desk.{desk_ticked}
 use Rattle.node_core.specs.Site.{Site}

@@ -3,7 +3,7 @@ use Rattle.std.specs.Prelude.{ℕ, Bool, ◌&&◌, nat_le, Option}
 use Rattle.registers.specs.topology.At.{at}
 use Rattle.registers.specs.topology.Ranges.{parent_fits}
 use Rattle.registers.specs.topology.declared.frame.Ranges.{Ranges}
-use Rattle.registers.specs.link_port.Port.{PortState}
+use Rattle.registers.specs.data_link.Port.{PortState}
 use Rattle.node_core.specs.State.{LocalState}
 
 -- a distance is at most the number of nodes, and a parent is none or a node

@@ -1,4 +1,7 @@
-//! The laws of a node's parts that the crates above cite: of its tree step, its desk, its edges.
+//! The laws of a node's account, each the contract of a function that does nothing; and those of its parts that the crates
+//! above cite: of its tree step, its desk, its edges.
+ghost use Rattle.node_core.specs.Laws.{AccountsJoin, OneEnd, FramesJoin};
+
 pub use bfs_tree::laws::step_in_range;
 pub use data_link::laws::{payloads, ports, six_sweeps, stays_stable, sweeps, turns_stable};
 pub use euler_ring::laws::{round_a_node, the_tour, true_view};
@@ -6,3 +9,12 @@ pub use lock_desk::laws::{
     loans_need_privilege, one_loan_a_stay, only_ticks_lend, ranges_are_kept,
     waiting_tickets_are_served,
 };
+
+/// Two accounts of a node, the second from where the first led, are one account, which says of each
+/// neighbour what the first says and then what the second says; and an account leads to one state
+/// alone. So the accounts of many turns are strung together to one.
+pub fn accounts()
+    ensures join { AccountsJoin }
+    ensures one_end { OneEnd }
+    ensures frames { FramesJoin }
+{}

@@ -16,6 +16,11 @@
 //! elsewhere. Every state in range is a possible start, so no call rests on how the state came
 //! about.
 //!
+//! A node's *account* is the list of what it did, in order: it took and sent frames, it ticked, and its
+//! clients asked and left. Nothing computes one: the contracts of code that drives a node name it, and
+//! the account of many turns is that of the first, then that of the second, and so on
+//! (`laws::accounts`). A send is the moment at which the link accepts the frame, whole.
+//!
 //! The traps: what a node says to a neighbour is what it had to say *before* the frame that it
 //! takes; and a node that lends does not let the token go, so its machines stand still until a tick
 //! after which it lends to nobody.

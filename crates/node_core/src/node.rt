@@ -5,7 +5,7 @@ ghost use Rattle.std.specs.Prelude.{length, take, drop};
 ghost use Rattle.registers.specs.topology.At.{at};
 ghost use Rattle.registers.specs.topology.Network.{neighbours_of};
 ghost use Rattle.registers.specs.topology.Ranges.{frame_fits, payload_fits, parent_fits, ranges_of};
-ghost use Rattle.registers.specs.link_port.Port.{counters_fit, frame_of};
+ghost use Rattle.registers.specs.data_link.Port.{counters_fit, frame_of};
 ghost use Rattle.lock_desk.specs.Desk.{ask_fault, asked, is_stranger, after_leave, loan_fits};
 ghost use Rattle.lock_desk.specs.Desk.{with_loan};
 ghost use Rattle.lock_desk.specs.Act.{desk_act};

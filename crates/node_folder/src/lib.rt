@@ -29,7 +29,7 @@ mod sights;
 
 pub use doors::ProcessDoors;
 pub use names::{Name, NameFiles, Names, Whom};
-pub use network_news::FileNews;
+pub use network_file::FileNews;
 pub use node_state_file::{FileStore, Started, Store, start};
 pub use note::{Note, NoteLine};
 pub use opening::{FolderOpener, Opener};

@@ -3,7 +3,7 @@ ghost use Rattle.std.specs.Prelude.{◌≡◌, ◌↔◌, true, false, IfOk, IsE
 ghost use Rattle.process_parts.specs.Rights.{own_mode, clients_mode};
 
 use crate::doors::ProcessDoors;
-use network_news::FileNews;
+use network_file::FileNews;
 use process_parts::{
     Complaint, FileId, FileSight, FolderPlace, Lost, NodePaths, Rights, bind_again, sight_at,
 };

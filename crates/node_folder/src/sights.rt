@@ -1,13 +1,13 @@
 //! What a node sees of its files while it runs, and which of them it removes.
 ghost use Rattle.std.specs.Prelude.{◌≡◌, false};
 ghost use Rattle.process_parts.specs.node_keeping.AfterSave.{looks_for_stop};
-ghost use Rattle.network_news.specs.News.{found_in, news_then};
+ghost use Rattle.network_file.specs.News.{found_in, news_then};
 ghost use Rattle.process_parts.specs.node_keeping.declared.saved.StopSight.TheVariants.{Absent};
 
 use crate::doors::ProcessDoors;
 use crate::names::Names;
 use held_signals::state_now;
-use network_news::{FileNews, found_in, news_line};
+use network_file::{FileNews, found_in, news_line};
 use process_parts::{
     AfterSave, NetworkFault, NodePaths, NodeWords, Sights, StopSight, looks_for_stop, remove,
 };

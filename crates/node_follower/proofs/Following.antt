@@ -2,13 +2,13 @@
 use Rattle.std.proofs.Common.{◌≡◌, sym, subst, refl, List, [], ◌∷◌, ◌++◌}
 use Rattle.std.proofs.lemmas.Grind.{flat_map-append}
 use Rattle.flight_records.specs.declared.entry.Deed.{Deed}
-use Rattle.accounts.specs.Deeds as account
-use Rattle.accounts.specs.Laws.{AccountsJoin, OneEnd}
+use Rattle.node_core.specs.Deeds as account
+use Rattle.node_core.specs.Laws.{AccountsJoin, OneEnd}
 use Rattle.link_model.specs.declared.item.Item.TheVariants as item
 use Rattle.lock_desk.specs.Desk.{after_leave}
-use Rattle.accounts.specs.node_core.Site.{Site}
-use Rattle.accounts.specs.node_core.Step.{taken, ticked}
-use Rattle.accounts.specs.node_core.State.{LocalState}
+use Rattle.node_core.specs.Site.{Site}
+use Rattle.node_core.specs.Step.{taken, ticked}
+use Rattle.node_core.specs.State.{LocalState}
 use Rattle.node_follower.specs.Following.{account_of, account_of_one}
 
 pub followed : AccountsJoin → (site here : Site) (ds : List Deed) (d : Deed) (s m l : LocalState)

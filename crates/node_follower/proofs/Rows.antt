@@ -5,9 +5,9 @@ use Rattle.topology.specs.Network.{Network}
 use Rattle.topology.specs.declared.frame.Frame.{Frame}
 use Rattle.flight_records.specs.declared.entry.Deed.TheVariants.{Ticks, Takes, Asks, Connects}
 use Rattle.flight_records.specs.declared.entry.StatePart.TheVariants.{Start, Own, Waits, Loan, Whole}
-use Rattle.accounts.specs.Deeds as account
-use Rattle.accounts.specs.node_core.Site.{Site}
-use Rattle.accounts.specs.node_core.State.{LocalState, default_node}
+use Rattle.node_core.specs.Deeds as account
+use Rattle.node_core.specs.Site.{Site}
+use Rattle.node_core.specs.State.{LocalState, default_node}
 use Rattle.topology.specs.declared.frame.Ranges.{Ranges}
 use Rattle.node_follower.specs.Following.{account_of, FitsNetwork, LeadElsewhere}
 use Rattle.node_follower.specs.Parts.{state_parts}

@@ -4,10 +4,10 @@ use Rattle.flight_records.specs.declared.entry.Deed.{Deed}
 use Rattle.flight_records.specs.declared.entry.Deed.TheVariants.{Ticks, Takes, TakesAgain, Sends}
 use Rattle.flight_records.specs.declared.entry.Deed.TheVariants.{SendsAgain, Asks, Leaves, Joins}
 use Rattle.flight_records.specs.declared.entry.Deed.TheVariants.{Parts, Connects, Disconnects}
-use Rattle.accounts.specs.Deeds as account
+use Rattle.node_core.specs.Deeds as account
 use Rattle.topology.specs.Network.{Network, neighbours_of}
-use Rattle.accounts.specs.node_core.Site.{Site, site_of}
-use Rattle.accounts.specs.node_core.State.{LocalState}
+use Rattle.node_core.specs.Site.{Site, site_of}
+use Rattle.node_core.specs.State.{LocalState}
 
 -- The account of a deed as a record has it, and of deeds: a connection is no deed of the node itself, a
 -- short form does not name its frame, and a node whose edges change begins another account.

@@ -2,8 +2,8 @@
 use Rattle.std.specs.Prelude.{ℕ, List, [], ◌∷◌, ◌++◌, map}
 use Rattle.flight_records.specs.declared.entry.StatePart.{StatePart}
 use Rattle.flight_records.specs.declared.entry.StatePart.TheVariants.{Start, Own, Port, Waits, Loan, Whole}
-use Rattle.accounts.specs.node_core.Site.{Site}
-use Rattle.accounts.specs.node_core.State.{LocalState}
+use Rattle.node_core.specs.Site.{Site}
+use Rattle.node_core.specs.State.{LocalState}
 
 -- distance and parent
 abbrev pub own_part : LocalState → StatePart

@@ -1,19 +1,19 @@
 //! A second node.
 ghost use Rattle.std.specs.Prelude.{◌≡◌, ◌<◌, ◌≤◌, ◌↔◌, true, false, IfOk, IsTrue, Contains, []};
 ghost use Rattle.std.specs.Prelude.{All, ◌∷◌, length};
-ghost use Rattle.accounts.specs.Deeds.{Leads};
-ghost use Rattle.accounts.specs.node_core.Site.{site_of};
-ghost use Rattle.accounts.specs.node_core.State.{default_node, LocalState};
-ghost use Rattle.accounts.specs.node_core.View.{site_in, state_of};
+ghost use Rattle.node_core.specs.Deeds.{Leads};
+ghost use Rattle.node_core.specs.Site.{site_of};
+ghost use Rattle.node_core.specs.State.{default_node, LocalState};
+ghost use Rattle.node_core.specs.View.{site_in, state_of};
 ghost use Rattle.topology.specs.Ranges.{ranges_of};
 ghost use Rattle.flight_records.specs.declared.entry.Deed.TheVariants as flight_deed;
-ghost use Rattle.accounts.specs.Deeds.{after_ask};
+ghost use Rattle.node_core.specs.Deeds.{after_ask};
 ghost use Rattle.lock_desk.specs.Desk.{after_leave};
 ghost use Rattle.node_follower.specs.Following.{account_of, is_own_account, FitsNetwork};
 ghost use Rattle.node_follower.specs.Following.{AreSame, AreSameAlone, AreSameAt};
 
-use accounts::{Frame, Item, Node, Payload};
 use flight_records::Deed;
+use node_core::{Frame, Item, Node, Payload};
 use std::alloc::{AllocError, Allocator, Global};
 use std::marker::Model;
 use topology::Net;
@@ -25,7 +25,7 @@ pub struct Follower<A: Allocator + Copy = Global> {
 }
 
 impl<A: Allocator + Copy> Model for Follower<A> {
-    ghost use Rattle.accounts.specs.node_core.View.{NodeView};
+    ghost use Rattle.node_core.specs.View.{NodeView};
 
     ghost Value = { NodeView };
 
@@ -63,7 +63,7 @@ impl<A: Allocator + Copy> Follower<A> {
             → ¬ Leads (site_in self.old) (account_of deeds.now) (state_of self.old) last }
         ensures site { site_in self.new ≡ site_in self.old }
     {
-        accounts::laws::accounts();
+        node_core::laws::accounts();
         for deed in deeds {
             if !self.does(deed) {
                 return false;

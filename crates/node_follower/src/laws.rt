@@ -1,2 +1,2 @@
 //! The law of what a node did, by deeds, for the crates above.
-pub use accounts::laws::accounts;
+pub use node_core::laws::accounts;

@@ -28,6 +28,6 @@ mod follower;
 pub mod laws;
 mod parts;
 
-pub use accounts::Node;
 pub use follower::Follower;
+pub use node_core::Node;
 pub use parts::{loan_part, own_part, port_part, start_part};

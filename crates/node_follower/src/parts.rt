@@ -1,11 +1,11 @@
 //! The parts of a node's state, as a record begins with them.
 ghost use Rattle.std.specs.Prelude.{◌≡◌, Contains};
 ghost use Rattle.flight_records.specs.declared.entry.StatePart.TheVariants.{Start};
-ghost use Rattle.accounts.specs.node_core.View.{site_in, state_of};
+ghost use Rattle.node_core.specs.View.{site_in, state_of};
 ghost use Rattle.node_follower.specs.Parts.{loan_part, own_part, port_part};
 
-use accounts::Node;
 use flight_records::StatePart;
+use node_core::Node;
 use std::alloc::Allocator;
 
 /// The start of a node's state. `network` is the number of its network.

@@ -3,7 +3,7 @@ use Rattle.std.proofs.Common.{◌≡◌, ◌≢◌, ℕ, zero, suc, Bool, Option
 use Rattle.std.specs.List.{slice_index_or}
 use Rattle.node_core.specs.lock_desk.declared.act.DeskAct.TheVariants as act
 use Rattle.node_core.specs.State.{LocalState}
-use Rattle.node_core.specs.registers.link_port.Port.{PortState}
+use Rattle.node_core.specs.registers.data_link.Port.{PortState}
 use Rattle.process_parts.specs.node_log.Rate.{new_rate}
 use Rattle.process_parts.specs.node_log.declared.event.NodeEvent.TheVariants as event
 use Rattle.process_parts.specs.node_log.declared.event.Level.TheVariants.{Notice, Info}
@@ -12,7 +12,7 @@ use Rattle.process_parts.specs.node_log.declared.place.PlaceSeen.TheVariants.{Ri
 use Rattle.unix_doors.specs.node_connections.declared.port.NodePort.{NodePort}
 use Rattle.node_journal.specs.Places.{same_id, is_in_place}
 use Rattle.node_journal.specs.Said.{rates_then, stands_at, turn_events, HasSeen, SawTheSame}
-use Rattle.node_core.specs.link_port.topology.Network.{Network}
+use Rattle.node_core.specs.data_link.topology.Network.{Network}
 
 -- a line of three nodes
 line : Network

@@ -1,7 +1,7 @@
 -- Whether a node is in its place on the tree.
 use Rattle.std.specs.Prelude.{ℕ, Bool, true, false, ◌==◌, ◌&&◌, nat_lt, Option, None, Some}
-use Rattle.node_core.specs.link_port.topology.Network.{Network}
-use Rattle.node_core.specs.link_port.topology.Tree.{distance_of, parent_of}
+use Rattle.node_core.specs.data_link.topology.Network.{Network}
+use Rattle.node_core.specs.data_link.topology.Tree.{distance_of, parent_of}
 use Rattle.node_core.specs.State.{LocalState}
 
 -- two ids, or two times none

@@ -4,7 +4,7 @@ use Rattle.std.specs.List.{slice_index_or}
 use Rattle.node_core.specs.lock_desk.declared.act.DeskAct.{DeskAct}
 use Rattle.node_core.specs.State.{LocalState}
 use Rattle.node_core.specs.View.{NodeView, site_in, state_of}
-use Rattle.node_core.specs.link_port.topology.Network.{Network}
+use Rattle.node_core.specs.data_link.topology.Network.{Network}
 use Rattle.process_parts.specs.node_log.Places.{by_place, place_after}
 use Rattle.process_parts.specs.node_log.Turns.{gave_back, by_act, by_link, by_desk, by_crowd}
 use Rattle.process_parts.specs.node_log.Turns.{rate_then, full_after, crowded_after, next_of}

@@ -11,7 +11,7 @@ use Rattle.topology.specs.Network.{Network, IsAcceptedNetwork}
 use Rattle.topology.specs.Laws.{NeighboursAreJoined, Limits}
 use Rattle.topology.specs.declared.frame.Payload.{Payload}
 use Rattle.topology.specs.declared.frame.Frame.{Frame}
-use Rattle.node_core.specs.link_port.Port.{frame_of}
+use Rattle.node_core.specs.data_link.Port.{frame_of}
 use Rattle.node_core.specs.Site.{Site, site_of}
 use Rattle.node_core.specs.Machines.{payload_for}
 use Rattle.node_core.specs.View.{NodeView, site_in, state_of}

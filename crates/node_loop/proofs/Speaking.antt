@@ -4,7 +4,7 @@ use Rattle.std.proofs.lemmas.Grind.{common_steps}
 use Rattle.std.proofs.lemmas.List.Elements.{All-append, All-cons, All-nil}
 use Rattle.std.proofs.lemmas.Bool.{cases_lt}
 use Rattle.topology.specs.declared.frame.Frame.{Frame}
-use Rattle.node_core.specs.link_port.Port.{frame_of}
+use Rattle.node_core.specs.data_link.Port.{frame_of}
 use Rattle.node_core.specs.View.{site_in, state_of}
 use Rattle.pace.specs.Plans.{port_of}
 use Rattle.node_connections.specs.socket_links.Counts.{Counts}

@@ -4,7 +4,7 @@ use Rattle.std.specs.Prelude.{◌≡◌, ℕ, ◌<◌, Bool, false, nat_lt, is_s
 use Rattle.topology.specs.declared.frame.Frame.{Frame}
 use Rattle.byte_lines.specs.Lines.{newline}
 use Rattle.frame_codec.specs.Spelling.{spelling}
-use Rattle.node_core.specs.link_port.Port.{frame_of}
+use Rattle.node_core.specs.data_link.Port.{frame_of}
 use Rattle.node_core.specs.View.{NodeView, site_in, state_of}
 use Rattle.node_core.specs.Machines.{payload_for}
 use Rattle.pace.specs.Ports.{given_port, is_due}

@@ -7,7 +7,7 @@ use Rattle.flight_recorder.specs.flight_records.declared.entry.StatePart.TheVari
 use Rattle.flight_recorder.specs.flight_records.declared.entry.Deed.{Deed}
 use Rattle.flight_recorder.specs.View.{RecorderView}
 use Rattle.flight_recorder.specs.Recorder.{after_note, is_at_start}
-use Rattle.node_follower.specs.accounts.Deeds.{Leads}
+use Rattle.node_follower.specs.node_core.Deeds.{Leads}
 use Rattle.node_follower.specs.node_core.Site.{Site}
 use Rattle.node_follower.specs.node_core.State.{LocalState}
 use Rattle.node_follower.specs.node_core.View.{NodeView, site_in, state_of}

@@ -1,7 +1,7 @@
 //! The recorder of a node.
 ghost use Rattle.std.specs.Prelude.{◌≡◌, ◌<◌, ◌⊎◌, IfOk, IsTrue, length, true, false};
 ghost use Rattle.node_recorder.specs.Backlog.{first_instant, has_room, nothing};
-ghost use Rattle.node_follower.specs.accounts.Deeds.{Leads};
+ghost use Rattle.node_follower.specs.node_core.Deeds.{Leads};
 ghost use Rattle.node_follower.specs.node_core.Site.{site_of};
 ghost use Rattle.node_follower.specs.node_core.View.{site_in, state_of};
 ghost use Rattle.flight_recorder.specs.Recorder.{after_failure, after_write, fills};

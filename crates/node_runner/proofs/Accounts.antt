@@ -9,9 +9,9 @@ use Rattle.weaving.specs.declared.journal.JournalEntry.{JournalEntry}
 use Rattle.weaving.specs.Woven.{AreRising}
 use Rattle.link_model.specs.declared.item.Item.{Item}
 use Rattle.link_model.specs.declared.item.Item.TheVariants.{Noise, Frame}
-use Rattle.accounts.specs.Deeds.{Deed, Ticks}
-use Rattle.accounts.specs.Deeds as deeds
-use Rattle.accounts.proofs.Joined.{joins}
+use Rattle.node_core.specs.Deeds.{Deed, Ticks}
+use Rattle.node_core.specs.Deeds as deeds
+use Rattle.node_core.proofs.Joined.{joins}
 use Rattle.weaving.specs.Account.{Note, Ticked, Sent, Took, entry_of, sent_to, taken_from, deeds_in, send_first, take_first, AreOverLinks, Leads}
 
 links-on : (net : Network) (v : ℕ) (ns ms : List Note) → AreOverLinks net v ns → AreOverLinks net v ms → AreOverLinks net v (ns ++ ms)

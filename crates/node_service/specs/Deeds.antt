@@ -4,7 +4,7 @@ use Rattle.lock_desk.specs.Act.{desk_act}
 use Rattle.node_core.specs.Step.{ticked}
 use Rattle.node_core.specs.View.{NodeView, site_in, state_of}
 use Rattle.node_core.specs.declared.ticked.Ticked.{Ticked}
-pub use Rattle.accounts.specs.Deeds.{Deed, after_ask, Leads, taken_from, sent_to, Takes, Asks, Leaves, Ticks, Sends}
+pub use Rattle.node_core.specs.Deeds.{Deed, after_ask, Leads, taken_from, sent_to, Takes, Asks, Leaves, Ticks, Sends}
 
 -- how many ticks there are among the deeds
 abbrev pub ticks_in : List Deed → ℕ

@@ -9,7 +9,7 @@
 //! ```
 //!
 //! Neighbours are not served here: the crate `node_loop` has the rest of a turn. The contracts name
-//! the deeds of the node's account (`accounts`), and the notes hold just these, as far as there is room.
+//! the deeds of the node's account (`node_core`), and the notes hold just these, as far as there is room.
 //!
 //! The trap: a client is closed if there is no room for its answer, and its ticket leaves then. So a
 //! client that sends lines and reads no answers loses the lock.

@@ -9,7 +9,7 @@ use Rattle.topology.specs.Network.{Network, neighbours_of, IsAcceptedNetwork}
 use Rattle.topology.specs.Ranges.{parent_fits, ranges_of}
 use Rattle.topology.specs.declared.frame.Ranges.{Ranges}
 use Rattle.topology.specs.Laws.{Limits}
-use Rattle.state_writing.specs.node_core.link_port.Port.{PortState, port_fits}
+use Rattle.state_writing.specs.node_core.data_link.Port.{PortState, port_fits}
 use Rattle.state_writing.specs.node_core.lock_desk.Desk.{no_desk}
 use Rattle.state_writing.specs.node_core.registers.Rewire.{is_among, rewired_ports, rewired_values}
 use Rattle.state_writing.specs.node_core.State.{LocalState}

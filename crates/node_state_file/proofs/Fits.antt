@@ -2,7 +2,7 @@
 use Rattle.std.proofs.Common.{◌<◌, arith, IsTrue, List}
 use Rattle.topology.specs.Ranges.{payload_fits}
 use Rattle.topology.specs.declared.frame.Ranges.{Ranges}
-use Rattle.state_writing.specs.node_core.link_port.Port.{counters_fit}
+use Rattle.state_writing.specs.node_core.data_link.Port.{counters_fit}
 use Rattle.node_state_file.specs.declared.saved.SavedPort.{SavedPort}
 use Rattle.state_writing.specs.node_core.Writes.{own_fits}
 use Rattle.std.specs.List.{list_all}

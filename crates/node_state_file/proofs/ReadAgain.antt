@@ -6,7 +6,7 @@ use Rattle.byteorder.specs.Endian.{big_bytes}
 use Rattle.byteorder.specs.Numbers.{big_number-reads_back}
 use Rattle.topology.specs.Ranges.{parent_fits, payload_fits}
 use Rattle.topology.specs.declared.frame.Ranges.{Ranges}
-use Rattle.state_writing.specs.node_core.link_port.Port.{port_fits}
+use Rattle.state_writing.specs.node_core.data_link.Port.{port_fits}
 use Rattle.state_writing.specs.node_core.State.{LocalState}
 use Rattle.node_state_file.specs.declared.saved.SavedPort.{SavedPort}
 use Rattle.state_writing.specs.Spelling.{parent_number, port_numbers}

@@ -7,7 +7,7 @@ use Rattle.std.proofs.lemmas.Bool.{cases_Bool, eqb-true}
 use Rattle.std.proofs.lemmas.List.Folds.{list_any-append}
 use Rattle.topology.specs.At.{at}
 use Rattle.topology.specs.declared.frame.Ranges.{Ranges}
-use Rattle.state_writing.specs.node_core.link_port.Port.{PortState, default_port}
+use Rattle.state_writing.specs.node_core.data_link.Port.{PortState, default_port}
 use Rattle.state_writing.specs.node_core.registers.Rewire.{is_among, stays}
 use Rattle.state_writing.specs.node_core.State.{LocalState, default_node}
 use Rattle.state_writing.specs.node_core.Rewire.{rewired}

@@ -2,7 +2,7 @@
 use Rattle.std.proofs.Common.{◌≡◌, ◌≢◌, ℕ, ◌+◌, true, false, List, [], ◌∷◌, Some, None, Err, refl, arith}
 use Rattle.topology.specs.Ranges.{ranges_of}
 use Rattle.topology.specs.declared.frame.Payload.{Payload}
-use Rattle.state_writing.specs.node_core.link_port.Port.{default_port}
+use Rattle.state_writing.specs.node_core.data_link.Port.{default_port}
 use Rattle.node_state_file.specs.declared.fault.FileFault.TheVariants.{Short, Magic, Range}
 use Rattle.state_writing.specs.declared.layout.Layout.TheVariants.{Tkt1, Tkt2}
 use Rattle.node_state_file.specs.declared.saved.Header.{Header}

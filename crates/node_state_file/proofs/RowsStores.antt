@@ -2,7 +2,7 @@
 use Rattle.std.proofs.Common.{◌≡◌, ℕ, ◌<◌, IsTrue, List, [], ◌∷◌, ◌++◌, subst, Some, None, Ok, Err, refl, arith}
 use Rattle.std.proofs.lemmas.List.Elements.{All-nil, All-cons}
 use Rattle.topology.specs.Ranges.{ranges_of}
-use Rattle.state_writing.specs.node_core.link_port.Port.{port_fits}
+use Rattle.state_writing.specs.node_core.data_link.Port.{port_fits}
 use Rattle.state_writing.specs.node_core.lock_desk.Desk.{no_desk}
 use Rattle.state_writing.specs.node_core.Rewire.{rewired}
 use Rattle.state_writing.specs.node_core.State.{LocalState, default_node}

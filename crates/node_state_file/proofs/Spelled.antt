@@ -11,7 +11,7 @@ use Rattle.byteorder.specs.Endian.{big_bytes, big_number}
 use Rattle.topology.specs.Network.{Network, neighbours_of}
 use Rattle.topology.specs.Ranges.{ranges_of}
 use Rattle.topology.specs.declared.frame.Ranges.{Ranges}
-use Rattle.state_writing.specs.node_core.link_port.Port.{port_fits}
+use Rattle.state_writing.specs.node_core.data_link.Port.{port_fits}
 use Rattle.state_writing.specs.node_core.lock_desk.Desk.{no_desk}
 use Rattle.state_writing.specs.node_core.registers.Rewire.{is_among}
 use Rattle.state_writing.specs.node_core.State.{LocalState}

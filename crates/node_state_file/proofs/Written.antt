@@ -3,7 +3,7 @@ use Rattle.std.proofs.Common.{◌≡◌, ◌∙◌, ap, Result, Ok, Err, IsOk, O
 use Rattle.std.proofs.Math.Path.{fun_ext}
 use Rattle.std.proofs.lemmas.Grind.{common_steps}
 use Rattle.topology.specs.At.{at}
-use Rattle.state_writing.specs.node_core.link_port.Port.{PortState}
+use Rattle.state_writing.specs.node_core.data_link.Port.{PortState}
 use Rattle.state_writing.specs.node_core.State.{LocalState}
 use Rattle.state_writing.specs.node_core.Writes.{with_port}
 use Rattle.node_state_file.specs.declared.saved.SavedPort.{SavedPort}

@@ -3,7 +3,7 @@ use Rattle.std.specs.Prelude.{◌≡◌, ℕ, ◌<◌, ◌≤◌, ◌&&◌, IsTr
 use Rattle.std.specs.List.{list_all}
 use Rattle.topology.specs.Network.{Network, neighbours_of, IsAcceptedNetwork}
 use Rattle.topology.specs.Ranges.{ranges_of}
-use Rattle.state_writing.specs.node_core.link_port.Port.{port_fits}
+use Rattle.state_writing.specs.node_core.data_link.Port.{port_fits}
 use Rattle.state_writing.specs.node_core.lock_desk.Desk.{no_desk}
 use Rattle.state_writing.specs.node_core.State.{LocalState}
 use Rattle.state_writing.specs.node_core.Writes.{own_fits}

@@ -7,7 +7,7 @@ use Rattle.topology.specs.Network.{Network, neighbours_of}
 use Rattle.topology.specs.Ranges.{payload_fits, ranges_of}
 use Rattle.topology.specs.declared.frame.Payload.{Payload}
 use Rattle.topology.specs.declared.frame.Ranges.{Ranges}
-use Rattle.state_writing.specs.node_core.link_port.Port.{PortState, counters_fit, default_port}
+use Rattle.state_writing.specs.node_core.data_link.Port.{PortState, counters_fit, default_port}
 use Rattle.state_writing.specs.node_core.lock_desk.Desk.{no_desk}
 use Rattle.state_writing.specs.node_core.State.{LocalState}
 use Rattle.state_writing.specs.node_core.Writes.{own_fits}

@@ -1,22 +1,22 @@
-//! The words of `node` and `up`: what they take, their help, and what their words ask for. Each has a
-//! file here. So have the options that they share.
+//! The words of `node` and `up`: what they take, their help, and what they do with their words. Each has
+//! a file here. So have the options that they share.
 //!
 //! ```
-//! let words = node::asked(&given)?;           // of `node ring.toml 1 run`: the file, the id, the folder ..
-//! let status = ended(rt, words.file, words.dir, words.id, done);
+//! let words = ["tokentree", "node", "ring.toml", "1", "run"];
+//! let status = run_words(rt, &words, &NodeProcess); // runs until the node ends
 //! ```
 //!
-//! The work of the two is in `node_process` and `up_process`; `process_line` has it done with these
-//! words; `command_words` has what the lines of all commands share.
+//! The work of `up` is in `up_process`. What runs a node is a parameter, so that this crate does not stand
+//! on all that a node is; programs hand in `node_process::NodeProcess`. `command_words` has what the lines
+//! of all commands share.
 //!
-//! The trap: the parser decides which words a command takes, and no contract covers it; tests try
-//! command lines.
+//! The traps: a node runs until it is stopped, and `up` until it is asked to end. And the parser decides
+//! which words a command takes, and no contract covers it; tests try command lines.
 #![tactic(auto)]
 
+mod commands;
 pub mod node;
 pub mod options;
 pub mod up;
 
-pub use command_words::program::Runtime;
-pub use command_words::refusal::Refusal;
-pub use command_words::{asks_for_version, ends, matches_of, say_version};
+pub use commands::run_words;

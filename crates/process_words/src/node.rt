@@ -2,14 +2,16 @@
 ghost use Rattle.std.specs.Prelude.{IfOk, IfErr};
 ghost use Rattle.clap.specs.Matches.{found_of};
 ghost use Rattle.process_words.specs.NodeWords.{IsNodeOf, AreNodeWordsRefused};
+ghost use Rattle.command_words.specs.command_faults.Ends.{DoneMeansZeroOr};
 
-use crate::options::{DIR, OPTIONS};
+use crate::options::{DIR, OPTIONS, ended};
 use crate::up;
 use clap::ArgMatches;
 use command_grammar::{FREE, Grammar, Parameter, given_number};
-use command_words::program::{FILE, ID, VERSION};
+use command_words::program::{FILE, ID, Runtime, VERSION};
 use command_words::refusal::Refusal;
-use process_parts::NodeWords;
+use process_parts::{NodeWords, NodeWork};
+use std::process::ExitCode;
 
 /// What `node` takes.
 pub const NODE: Grammar<'static> = Grammar {
@@ -111,4 +113,21 @@ pub fn asked<'a>(given: &ArgMatches<'a>) -> Result<NodeWords<'a>, Refusal>
         record_size: words.record_size,
         is_child: given.get_flag("child"),
     })
+}
+
+/// Does what the words of `node` say: `nodes` runs the node.
+///
+/// # Errors
+/// If a word spells no number, or no time, in its range.
+pub fn run<R: Runtime, N: NodeWork<R>>(
+    rt: &R,
+    given: &ArgMatches,
+    nodes: &N,
+) -> Result<ExitCode, Refusal>
+    ensures ok { DoneMeansZeroOr 1 result }
+    ensures err { IfErr result (AreNodeWordsRefused (found_of given.now)) }
+{
+    let words = asked(given)?;
+    let done = nodes.run(rt, &words);
+    Ok(ended(rt, words.file, words.dir, words.id, done))
 }

@@ -2,13 +2,16 @@
 ghost use Rattle.std.specs.Prelude.{IfOk, IfErr};
 ghost use Rattle.clap.specs.Matches.{found_of};
 ghost use Rattle.process_words.specs.NodeWords.{AreUpWordsRefused, IsUpOf};
+ghost use Rattle.command_words.specs.command_faults.Ends.{DoneMeansZeroOr};
 
-use crate::options::{DIR, OPTIONS, late_after, log_level, manner, record_size, rights};
+use crate::options::{DIR, OPTIONS, ended, late_after, log_level, manner, record_size, rights};
 use clap::ArgMatches;
 use command_grammar::{FREE, Grammar, word};
-use command_words::program::FILE;
+use command_words::program::{FILE, Runtime};
 use command_words::refusal::Refusal;
 use process_parts::UpWords;
+use std::process::ExitCode;
+use up_process::OwnProgram;
 
 /// What `up` takes.
 pub const UP: Grammar<'static> = Grammar {
@@ -66,4 +69,20 @@ pub fn asked<'a>(given: &ArgMatches<'a>) -> Result<UpWords<'a>, Refusal>
         log: log_level(given)?,
         record_size: record_size(given)?,
     })
+}
+
+/// Does what the words of `up` say.
+///
+/// # Errors
+/// If a word spells no number, or no time, in its range.
+pub fn run<R: Runtime>(rt: &R, given: &ArgMatches) -> Result<ExitCode, Refusal>
+    ensures ok { DoneMeansZeroOr 1 result }
+    ensures err { IfErr result (AreUpWordsRefused (found_of given.now)) }
+{
+    let words = asked(given)?;
+    let done = match OwnProgram::new(rt, words) {
+        Ok(program) => up_process::run(rt, &program, words.file, words.dir),
+        Err(fault) => Err(fault),
+    };
+    Ok(ended(rt, words.file, words.dir, 0, done))
 }

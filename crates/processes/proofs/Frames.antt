@@ -3,7 +3,7 @@ use Rattle.std.proofs.Common.{◌≡◌, ℕ, List, [], ◌∷◌, ◌++◌, ref
 use Rattle.std.proofs.lemmas.Grind.{common_steps}
 use Rattle.topology.specs.declared.frame.Frame.{Frame}
 use Rattle.topology.specs.declared.frame.Ranges.{Ranges}
-use Rattle.accounts.specs.Deeds.{Deed, Ticks, Sends, Takes, Asks, Leaves, taken_from, sent_to}
+use Rattle.node_core.specs.Deeds.{Deed, Ticks, Sends, Takes, Asks, Leaves, taken_from, sent_to}
 use Rattle.processes.specs.Accounts.{Timed, deeds}
 use Rattle.processes.specs.Links.{Act, Accepts, Gives, Loses, the_accepts, the_gives, accept_at, give_at, accepts_in, gives_in}
 use Rattle.processes.specs.Connections.{accepted_frames, given_frames, AreInRange, Ended, all_lost, history_over, left_after}

@@ -8,7 +8,7 @@ use Rattle.topology.specs.Laws.{JoinedAreNodes}
 use Rattle.lock_desk.specs.Desk.{lends}
 use Rattle.node_core.specs.Site.{Site, site_of}
 use Rattle.node_core.specs.State.{LocalState}
-use Rattle.accounts.specs.Deeds.{Deed, Ticks, Sends, Takes, Asks, Leaves}
+use Rattle.node_core.specs.Deeds.{Deed, Ticks, Sends, Takes, Asks, Leaves}
 use Rattle.recovery_times.specs.declared.premises.Premises.{Premises}
 use Rattle.recovery_times.specs.Times.{full_of, window_of}
 use Rattle.processes.specs.Accounts.{Timed, AreInTime}

@@ -3,7 +3,7 @@ use Rattle.std.proofs.Common.{◌≡◌, ℕ, ◌≤◌, List, [], ◌∷◌, �
 use Rattle.std.proofs.lemmas.Grind.{common_steps}
 use Rattle.std.proofs.lemmas.List.{append_assoc}
 use Rattle.std.specs.List.{AllByRecursion}
-use Rattle.accounts.specs.Deeds.{Ticks, Sends, Takes, Asks, Leaves}
+use Rattle.node_core.specs.Deeds.{Ticks, Sends, Takes, Asks, Leaves}
 use Rattle.processes.specs.Accounts.{Timed}
 use Rattle.processes.specs.Links.{Act, the_accepts, the_gives, accept_at, give_at, accepts_in, gives_in, moment}
 use Rattle.processes.specs.Marks.{Mark, Does, Drops, mark_moment, AreOrdered, done_by, account_of, act_on, history_of}

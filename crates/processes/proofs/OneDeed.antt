@@ -1,11 +1,11 @@
 -- One deed of an account: what it asks of the node, and what it makes of it.
 use Rattle.std.proofs.Common.{◌≡◌, List, ◌∷◌, IsTrue}
 use Rattle.std.specs.List.{Contains}
-use Rattle.data_link.specs.link_port.Port.{frame_of}
+use Rattle.data_link.specs.Port.{frame_of}
 use Rattle.lock_desk.specs.Desk.{is_number}
 use Rattle.node_core.specs.Site.{Site}
 use Rattle.node_core.specs.State.{LocalState}
-use Rattle.accounts.specs.Deeds.{Deed, Ticks, Sends, Takes, Asks, Leaves, Leads}
+use Rattle.node_core.specs.Deeds.{Deed, Ticks, Sends, Takes, Asks, Leaves, Leads}
 use Rattle.processes.specs.Timing.{after_deed}
 
 -- the deed is one that a node in this state can do

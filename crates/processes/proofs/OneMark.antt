@@ -2,7 +2,7 @@
 use Rattle.std.proofs.Common.{◌≡◌, ◌≢◌, ℕ, List, ◌∷◌, arith}
 use Rattle.std.proofs.lemmas.Grind.{common_steps}
 use Rattle.topology.specs.declared.frame.Frame.{Frame}
-use Rattle.accounts.specs.Deeds.{Deed, Sends, Takes}
+use Rattle.node_core.specs.Deeds.{Deed, Sends, Takes}
 use Rattle.processes.specs.Links.{Accepts, Gives, Loses}
 use Rattle.processes.specs.Marks.{Mark, Does, Drops, account_of, history_of}
 

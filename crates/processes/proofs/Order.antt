@@ -6,7 +6,7 @@ use Rattle.std.specs.List.{AllByRecursion}
 use Rattle.topology.specs.Network.{are_joined}
 use Rattle.topology.specs.Laws.{JoinedAreNodes}
 use Rattle.run_model.specs.declared.event.Event.{Event}
-use Rattle.accounts.specs.Deeds.{Deed, Ticks, Sends, Takes, Asks, Leaves}
+use Rattle.node_core.specs.Deeds.{Deed, Ticks, Sends, Takes, Asks, Leaves}
 use Rattle.processes.specs.Accounts.{Timed, AreInTime}
 use Rattle.processes.specs.Links.{Act, Accepts, Gives, Loses, the_losses, IsBefore, AreInOrder}
 use Rattle.processes.specs.Marks.{Mark, Does, Drops, event_of, mark_moment, AreOrdered, done_by, account_of, act_on, history_of, IsOrderOf}

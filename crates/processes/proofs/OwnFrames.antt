@@ -10,7 +10,7 @@ use Rattle.topology.specs.Ranges.{frame_fits, ranges_of}
 use Rattle.topology.specs.declared.frame.Frame.{Frame}
 use Rattle.topology.specs.declared.frame.Ranges.{Ranges}
 use Rattle.link_model.specs.declared.item.Item.TheVariants as item
-use Rattle.data_link.specs.link_port.Port.{PortState, frame_of, port_fits}
+use Rattle.data_link.specs.Port.{PortState, frame_of, port_fits}
 use Rattle.node_core.specs.Site.{site_of}
 use Rattle.node_core.specs.State.{LocalState, IsNodeInRange}
 use Rattle.node_core.specs.Step.{heard, item_fits, taken}
@@ -19,7 +19,7 @@ use Rattle.run_model.specs.Step.{step}
 use Rattle.run_model.specs.World.{World, IsWorldInRange, with_link, with_node}
 use Rattle.run_model.specs.declared.event.Event.{Event}
 use Rattle.run_model.specs.declared.event.Event.TheVariants.{Ask, Leave, Take, Tick}
-use Rattle.accounts.specs.Deeds.{Deed, Ticks, Sends, Takes, Asks, Leaves, Leads, sent_to}
+use Rattle.node_core.specs.Deeds.{Deed, Ticks, Sends, Takes, Asks, Leaves, Leads, sent_to}
 use Rattle.processes.specs.Connections.{AreInRange}
 use Rattle.processes.specs.Timing.{after_deed}
 use Rattle.run_model.proofs.Changed.{at-each, at-here, at_pair-each, at_pair-here}

@@ -14,7 +14,7 @@ use Rattle.run_model.specs.declared.event.Event.{Event}
 use Rattle.run_model.specs.declared.event.Event.TheVariants.{Send, Take, Lose, Tick, Ask, Leave, Damage}
 use Rattle.convergence.specs.Sharp.{SharpHeadline, WorldConvergesSooner}
 use Rattle.convergence.specs.Service.{WaitingAreServed}
-use Rattle.accounts.specs.Deeds.{Leads}
+use Rattle.node_core.specs.Deeds.{Leads}
 use Rattle.processes.specs.Accounts.{Timed, deeds}
 use Rattle.processes.specs.Links.{Act, Plays, the_losses, accepts_in, gives_in}
 use Rattle.processes.specs.Marks.{history_of, IsOrderOf}

@@ -3,7 +3,7 @@ use Rattle.std.proofs.Common.{◌≡◌, ℕ, List, [], ◌∷◌, ◌++◌, Non
 use Rattle.topology.specs.declared.frame.Frame.{Frame}
 use Rattle.link_model.specs.declared.item.Item.{Item}
 use Rattle.link_model.specs.declared.item.Item.TheVariants as item
-use Rattle.accounts.specs.Deeds.{Ticks, Sends, Takes, Asks}
+use Rattle.node_core.specs.Deeds.{Ticks, Sends, Takes, Asks}
 use Rattle.processes.specs.Accounts.{Timed, AreInTime}
 use Rattle.processes.specs.Links.{Act, Accepts, Gives, Loses, the_accepts, the_gives, accepts_in, gives_in, AreInOrder, Plays, IsHistory}
 use Rattle.topology.specs.declared.frame.Ranges.{Ranges}

@@ -6,7 +6,7 @@ use Rattle.topology.specs.declared.frame.Frame.{Frame}
 use Rattle.lock_desk.specs.Desk.{DeskState, lends}
 use Rattle.node_core.specs.Site.{Site}
 use Rattle.node_core.specs.State.{LocalState}
-use Rattle.accounts.specs.Deeds.{Ticks, Leaves}
+use Rattle.node_core.specs.Deeds.{Ticks, Leaves}
 use Rattle.recovery_times.specs.declared.premises.Premises.{Premises}
 use Rattle.processes.specs.Accounts.{Timed, AreInTime}
 use Rattle.processes.specs.Links.{Act, Accepts, Gives}

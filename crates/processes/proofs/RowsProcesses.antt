@@ -4,7 +4,7 @@ use Rattle.std.proofs.lemmas.Grind.{common_steps}
 use Rattle.topology.specs.Network.{are_joined, bound_of}
 use Rattle.topology.specs.Eccentricity.{sharp_of}
 use Rattle.topology.specs.declared.frame.Frame.{Frame}
-use Rattle.data_link.specs.link_port.Port.{frame_of}
+use Rattle.data_link.specs.Port.{frame_of}
 use Rattle.lock_desk.specs.Desk.{DeskState, no_desk}
 use Rattle.node_core.specs.Site.{site_of}
 use Rattle.run_model.specs.World.{World}
@@ -14,7 +14,7 @@ use Rattle.run_model.specs.declared.event.Event.TheVariants.{Send, Take, Ask}
 use Rattle.convergence.specs.Service.{IsAtPlace}
 use Rattle.run_model.proofs.RowsTwo.{two_nodes, each-node, each-link, calm, forged}
 use Rattle.run_model.proofs.RowsServing.{calm-serves}
-use Rattle.accounts.specs.Deeds.{Ticks, Sends, Takes, Asks, Leads}
+use Rattle.node_core.specs.Deeds.{Ticks, Sends, Takes, Asks, Leads}
 use Rattle.processes.specs.Accounts.{Timed, deeds, AreInTime}
 use Rattle.processes.specs.Links.{Act, Accepts, Gives, the_losses, accepts_in, gives_in, IsHistory}
 use Rattle.processes.specs.Marks.{Mark, Does, Drops, event_of, AreOrdered, account_of, history_of, IsOrderOf}

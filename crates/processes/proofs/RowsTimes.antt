@@ -5,13 +5,13 @@ use Rattle.std.specs.List.{AllByRecursion, Contains}
 use Rattle.topology.specs.Network.{are_joined}
 use Rattle.topology.specs.declared.frame.Frame.{Frame}
 use Rattle.topology.specs.declared.frame.Ranges.{Ranges}
-use Rattle.data_link.specs.link_port.Port.{frame_of}
+use Rattle.data_link.specs.Port.{frame_of}
 use Rattle.link_model.specs.declared.item.Item.TheVariants as item
 use Rattle.lock_desk.specs.Desk.{lends}
 use Rattle.node_core.specs.Site.{site_of}
 use Rattle.run_model.specs.declared.event.Event.TheVariants.{Send, Take, Ask, Leave, Lose, Tick}
 use Rattle.run_model.proofs.RowsTwo.{two_nodes, each-node, each-link, calm}
-use Rattle.accounts.specs.Deeds.{Ticks, Sends, Takes, Asks, Leaves}
+use Rattle.node_core.specs.Deeds.{Ticks, Sends, Takes, Asks, Leaves}
 use Rattle.recovery_times.specs.declared.premises.Premises.{Premises}
 use Rattle.processes.specs.Accounts.{Timed}
 use Rattle.processes.specs.Connections.{accepted_frames, given_frames, left_after, left_over, all_lost, CarryActs}

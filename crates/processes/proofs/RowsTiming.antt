@@ -5,7 +5,7 @@ use Rattle.topology.specs.declared.frame.Frame.{Frame}
 use Rattle.node_core.specs.Site.{Site}
 use Rattle.node_core.specs.State.{LocalState}
 use Rattle.node_core.specs.Step.{ticked}
-use Rattle.accounts.specs.Deeds.{Ticks, Leaves}
+use Rattle.node_core.specs.Deeds.{Ticks, Leaves}
 use Rattle.processes.specs.Links.{Accepts, Gives, Loses}
 use Rattle.processes.specs.Timing.{passages, passes_in, ticks_fully_in}
 use Rattle.processes.specs.Turns.{Turn, Pace, TurnsOften, GivesOften, Arrives}

@@ -6,7 +6,7 @@ use Rattle.topology.specs.Laws.{NeighboursAreJoined, JoinedBack}
 use Rattle.run_model.specs.World.{World}
 use Rattle.run_model.specs.Step.{step}
 use Rattle.run_model.specs.Run.{run}
-use Rattle.accounts.specs.Deeds.{Ticks, Sends, Takes, Asks, Leaves}
+use Rattle.node_core.specs.Deeds.{Ticks, Sends, Takes, Asks, Leaves}
 use Rattle.processes.specs.Marks.{Mark, Does, Drops, event_of}
 use Rattle.processes.specs.Through.{GoesThrough}
 use Rattle.processes.proofs.Steps.{Holds, GoesOn, AreNodes, ticks, sends, takes, asks, leaves, drops}

@@ -8,7 +8,7 @@ use Rattle.topology.specs.Laws.{NeighboursAreJoined, JoinedBack}
 use Rattle.topology.specs.declared.frame.Frame.{Frame}
 use Rattle.link_model.specs.declared.item.Item.{Item}
 use Rattle.link_model.specs.declared.item.Item.TheVariants as item
-use Rattle.data_link.specs.link_port.Port.{frame_of}
+use Rattle.data_link.specs.Port.{frame_of}
 use Rattle.lock_desk.specs.Desk.{ask_fault, is_number, is_stranger, after_leave}
 use Rattle.lock_desk.specs.declared.fault.AskFault.{AskFault}
 use Rattle.node_core.specs.Site.{site_of}
@@ -19,7 +19,7 @@ use Rattle.run_model.specs.Step.{refusal, step, changed, handed_over, has_room, 
 use Rattle.run_model.specs.declared.event.Event.{Event}
 use Rattle.run_model.specs.declared.event.Event.TheVariants.{Send, Take, Lose, Tick, Ask, Leave}
 use Rattle.run_model.specs.declared.event.EventFault.TheVariants.{Stranger}
-use Rattle.accounts.specs.Deeds.{Deed, Ticks, Sends, Takes, Asks, Leaves, after_ask, Leads}
+use Rattle.node_core.specs.Deeds.{Deed, Ticks, Sends, Takes, Asks, Leaves, after_ask, Leads}
 use Rattle.processes.specs.Timing.{after_deed}
 use Rattle.processes.proofs.OneDeed.{IsOwn, first-deed}
 use Rattle.processes.specs.Accounts.{Timed, deeds}

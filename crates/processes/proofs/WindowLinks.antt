@@ -9,7 +9,7 @@ use Rattle.link_model.specs.declared.item.Item.TheVariants as item
 use Rattle.link_model.specs.Acts as link
 use Rattle.link_model.specs.Acts.{Origin, Before, Sent, LinkAct, list_after, takes_sent, hands_over_sent}
 use Rattle.run_model.specs.Sweep.{link_act}
-use Rattle.accounts.specs.Deeds.{Ticks, Sends, Takes, Asks, Leaves}
+use Rattle.node_core.specs.Deeds.{Ticks, Sends, Takes, Asks, Leaves}
 use Rattle.processes.specs.Links.{Act, Accepts, Gives, Loses, Plays, moment}
 use Rattle.processes.specs.Marks.{Mark, Does, Drops, event_of, mark_moment, act_on, history_of}
 use Rattle.processes.specs.Timing.{passages, is_in, is_since, passes_in}

@@ -10,7 +10,7 @@ use Rattle.run_model.specs.World.{World}
 use Rattle.run_model.specs.Step.{step}
 use Rattle.run_model.specs.Run.{run}
 use Rattle.run_model.specs.Sweep.{is_full_tick, has_full_tick}
-use Rattle.accounts.specs.Deeds.{Deed, Ticks, Sends, Takes, Asks, Leaves}
+use Rattle.node_core.specs.Deeds.{Deed, Ticks, Sends, Takes, Asks, Leaves}
 use Rattle.processes.specs.Marks.{Mark, Does, Drops, event_of, mark_moment, account_of}
 use Rattle.processes.specs.Timing.{after_deed, is_in, is_full, ticks_fully_in}
 use Rattle.processes.proofs.Lists.{left-or, right-or}

@@ -1,7 +1,7 @@
 -- The account of a node over a stretch of time: what it did, deed by deed, and when.
 use Rattle.std.specs.Prelude.{ℕ, ◌≤◌, List, [], ◌∷◌, map}
 use Rattle.std.specs.List.{AllByRecursion}
-use Rattle.accounts.specs.Deeds.{Deed}
+use Rattle.node_core.specs.Deeds.{Deed}
 
 -- A deed, and the instant at which it was done. Instants are numbers that never fall as time goes
 -- on, in any unit; they are the reader's, and no node need know them.

@@ -7,7 +7,7 @@ use Rattle.byte_lines.specs.Lines.{half_line}
 use Rattle.frame_codec.specs.Laws.{AreNarrow}
 use Rattle.frame_codec.specs.Lines.{good_lines}
 use Rattle.socket_links.specs.Links.{HasPulled}
-use Rattle.accounts.specs.Deeds.{taken_from, sent_to}
+use Rattle.node_core.specs.Deeds.{taken_from, sent_to}
 use Rattle.link_model.specs.declared.item.Item.{Item}
 use Rattle.processes.specs.Accounts.{Timed, deeds}
 use Rattle.processes.specs.Links.{Act, Plays, accepts_in, gives_in, IsHistory}

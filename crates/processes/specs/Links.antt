@@ -4,7 +4,7 @@ use Rattle.std.specs.List.{AllByRecursion, remove}
 use Rattle.topology.specs.declared.frame.Frame.{Frame}
 use Rattle.link_model.specs.declared.item.Item.{Item}
 use Rattle.link_model.specs.declared.item.Item.TheVariants as item
-use Rattle.accounts.specs.Deeds.{Deed, Sends, Takes}
+use Rattle.node_core.specs.Deeds.{Deed, Sends, Takes}
 use Rattle.processes.specs.Accounts.{Timed}
 
 -- at an instant the link accepts a frame of its sender, gives a frame to its receiver, or loses the

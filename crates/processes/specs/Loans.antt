@@ -11,7 +11,7 @@ use Rattle.run_model.specs.World.{World, IsWorldInRange}
 use Rattle.run_model.specs.Headline.{IsServing}
 use Rattle.run_model.specs.declared.event.Event.{Event}
 use Rattle.convergence.specs.Service.{IsAtPlace, gives_up, is_lent_once}
-use Rattle.accounts.specs.Deeds.{Ticks}
+use Rattle.node_core.specs.Deeds.{Ticks}
 use Rattle.processes.specs.Accounts.{Timed, AreInTime}
 use Rattle.processes.specs.Links.{Act}
 use Rattle.processes.specs.Marks.{Mark, event_of, IsOrderOf}

@@ -11,7 +11,7 @@ use Rattle.node_core.specs.Site.{Site, site_of}
 use Rattle.node_core.specs.State.{LocalState}
 use Rattle.node_core.specs.Step.{taken, ticked}
 use Rattle.run_model.specs.World.{World}
-use Rattle.accounts.specs.Deeds.{Deed, Ticks, Sends, Takes, Asks, Leaves, after_ask}
+use Rattle.node_core.specs.Deeds.{Deed, Ticks, Sends, Takes, Asks, Leaves, after_ask}
 use Rattle.processes.specs.Accounts.{Timed}
 use Rattle.processes.specs.Links.{Act, Accepts, Gives, Loses}
 

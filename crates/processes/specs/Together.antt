@@ -4,7 +4,7 @@ use Rattle.topology.specs.Network.{are_joined}
 use Rattle.topology.specs.declared.frame.Frame.{Frame}
 use Rattle.node_core.specs.Site.{site_of}
 use Rattle.run_model.specs.World.{World}
-use Rattle.accounts.specs.Deeds.{Leads}
+use Rattle.node_core.specs.Deeds.{Leads}
 use Rattle.processes.specs.Accounts.{Timed, deeds, AreInTime}
 use Rattle.topology.specs.Ranges.{ranges_of}
 use Rattle.frame_codec.specs.Lines.{good_lines}

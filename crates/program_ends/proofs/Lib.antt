@@ -1,1 +1,2 @@
 mod RowsFaults
+mod RowsKinds

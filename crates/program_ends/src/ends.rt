@@ -8,9 +8,9 @@ ghost use Rattle.command_faults.specs.Output.{output_fault};
 ghost use Rattle.program_ends.specs.Ends.{end_status};
 
 use crate::fault_line::FaultLine;
+use crate::mistakes::one_line;
 use clap::error::ErrorKind;
 use command_faults::{Fault, printed};
-use fault_hints::one_line;
 use std::alloc::AllocError;
 use std::io;
 use std::process::ExitCode;

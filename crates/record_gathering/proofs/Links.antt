@@ -7,7 +7,7 @@ use Rattle.topology.specs.Ranges.{ranges_of, frame_fits}
 use Rattle.topology.specs.declared.frame.Frame.{Frame}
 use Rattle.configuration.specs.link_model.declared.item.Item.{Item}
 use Rattle.configuration.specs.link_model.declared.item.Item.TheVariants as item
-use Rattle.configuration.specs.link_port.Port.{PortState, frame_of}
+use Rattle.configuration.specs.data_link.Port.{PortState, frame_of}
 use Rattle.configuration.specs.node_core.State.{LocalState}
 use Rattle.configuration.specs.node_core.Step.{taken}
 use Rattle.configuration.specs.node_core.Site.{site_of}

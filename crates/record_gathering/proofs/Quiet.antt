@@ -10,7 +10,7 @@ use Rattle.flight_records.specs.declared.entry.StatePart.{StatePart}
 use Rattle.flight_records.specs.declared.entry.StatePart.TheVariants as part
 use Rattle.configuration.specs.node_core.State.{LocalState}
 use Rattle.configuration.specs.node_core.lock_desk.Desk.{DeskState}
-use Rattle.configuration.specs.link_port.Port.{PortState, frame_of}
+use Rattle.configuration.specs.data_link.Port.{PortState, frame_of}
 use Rattle.configuration.specs.run_model.World.{World}
 use Rattle.configuration.specs.run_model.Step.{step}
 use Rattle.configuration.specs.run_model.Run.{has_damage, IsUndamaged}

@@ -11,7 +11,7 @@ use Rattle.flight_records.specs.Again.{same_node, same_payload}
 use Rattle.flight_records.specs.declared.entry.StatePart.{StatePart}
 use Rattle.flight_records.specs.declared.entry.StatePart.TheVariants as part
 use Rattle.configuration.specs.node_core.State.{LocalState}
-use Rattle.configuration.specs.link_port.Port.{PortState, port_fits, counters_fit}
+use Rattle.configuration.specs.data_link.Port.{PortState, port_fits, counters_fit}
 use Rattle.configuration.specs.run_model.World.{World, with_node}
 use Rattle.configuration.specs.run_model.Step.{step, with_port}
 use Rattle.configuration.specs.run_model.Run.{run}

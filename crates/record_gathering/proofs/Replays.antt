@@ -10,7 +10,7 @@ use Rattle.flight_records.specs.declared.entry.StatePart.{StatePart}
 use Rattle.flight_records.specs.declared.entry.StatePart.TheVariants as part
 use Rattle.configuration.specs.link_model.declared.item.Item.TheVariants as item
 use Rattle.configuration.specs.node_core.Step.{taken}
-use Rattle.configuration.specs.link_port.Port.{PortState}
+use Rattle.configuration.specs.data_link.Port.{PortState}
 use Rattle.configuration.specs.run_model.World.{World, IsWorldInRange, site}
 use Rattle.configuration.specs.run_model.Step.{has_room}
 use Rattle.configuration.specs.run_model.Run.{run}

@@ -10,7 +10,7 @@ use Rattle.configuration.specs.link_model.declared.item.Item.{Item}
 use Rattle.configuration.specs.link_model.declared.item.Item.TheVariants as item
 use Rattle.configuration.specs.node_core.Step.{taken}
 use Rattle.configuration.specs.node_core.lock_desk.Desk.{loan_fits, with_loan, asked, after_leave, is_stranger, ask_fault, is_number}
-use Rattle.configuration.specs.link_port.Port.{counters_fit, frame_of}
+use Rattle.configuration.specs.data_link.Port.{counters_fit, frame_of}
 use Rattle.configuration.specs.run_model.World.{World, site, with_link, with_node}
 use Rattle.configuration.specs.run_model.Step.{has_room, step, with_desk, with_port}
 use Rattle.configuration.specs.run_model.declared.event.Event.TheVariants.{Send, Take, Lose, Ask, Leave, Damage}

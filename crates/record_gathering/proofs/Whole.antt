@@ -16,7 +16,7 @@ use Rattle.node_follower.specs.Following.{AreSameAt, AreSame}
 use Rattle.node_follower.specs.Parts.{own_part, port_part, loan_part}
 use Rattle.configuration.specs.node_core.State.{LocalState, IsNodeInRange}
 use Rattle.configuration.specs.node_core.lock_desk.Desk.{DeskState, desk_fits}
-use Rattle.configuration.specs.link_port.Port.{port_fits}
+use Rattle.configuration.specs.data_link.Port.{port_fits}
 use Rattle.configuration.specs.run_model.World.{World, IsWorldInRange, site}
 use Rattle.configuration.specs.run_model.Step.{refusal, step}
 use Rattle.configuration.specs.run_model.Run.{run, has_damage, IsUndamaged}

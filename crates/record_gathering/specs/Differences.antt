@@ -5,7 +5,7 @@ use Rattle.topology.specs.declared.frame.Frame.{Frame}
 use Rattle.flight_records.specs.Again.{same_node, same_payload}
 use Rattle.configuration.specs.node_core.State.{LocalState}
 use Rattle.configuration.specs.node_core.lock_desk.Desk.{DeskState}
-use Rattle.configuration.specs.link_port.Port.{PortState}
+use Rattle.configuration.specs.data_link.Port.{PortState}
 use Rattle.configuration.specs.run_model.declared.event.Event.{Event}
 use Rattle.configuration.specs.run_model.declared.event.Event.TheVariants as event
 use Rattle.configuration.specs.run_model.declared.event.Harm.{Harm}

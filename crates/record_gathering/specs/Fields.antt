@@ -12,7 +12,7 @@ use Rattle.flight_records.specs.declared.entry.Deed.{Deed}
 use Rattle.flight_records.specs.declared.entry.Deed.TheVariants as deed
 use Rattle.configuration.specs.node_core.State.{LocalState}
 use Rattle.configuration.specs.node_core.lock_desk.Desk.{DeskState}
-use Rattle.configuration.specs.link_port.Port.{PortState}
+use Rattle.configuration.specs.data_link.Port.{PortState}
 use Rattle.configuration.specs.run_model.World.{World}
 use Rattle.record_gathering.specs.Differences.{same_truth}
 use Rattle.record_gathering.specs.Entries.{is_of_link}

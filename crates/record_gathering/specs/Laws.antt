@@ -6,7 +6,7 @@ use Rattle.flight_records.specs.declared.entry.Noted.TheVariants as noted
 use Rattle.flight_records.specs.declared.entry.StatePart.{StatePart}
 use Rattle.configuration.specs.link_model.declared.item.Item.TheVariants as item
 use Rattle.configuration.specs.node_core.Step.{taken}
-use Rattle.configuration.specs.link_port.Port.{frame_of}
+use Rattle.configuration.specs.data_link.Port.{frame_of}
 use Rattle.configuration.specs.run_model.World.{World, IsWorldInRange, site}
 use Rattle.configuration.specs.run_model.Step.{has_room}
 use Rattle.configuration.specs.run_model.Run.{run, has_damage, IsUndamaged}

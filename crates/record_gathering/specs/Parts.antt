@@ -3,7 +3,7 @@ use Rattle.std.specs.Prelude.{ℕ, ◌<◌, if◌then◌else◌}
 use Rattle.topology.specs.Network.{are_joined}
 use Rattle.flight_records.specs.declared.entry.StatePart.{StatePart}
 use Rattle.flight_records.specs.declared.entry.StatePart.TheVariants as part
-use Rattle.configuration.specs.link_port.Port.{PortState}
+use Rattle.configuration.specs.data_link.Port.{PortState}
 use Rattle.configuration.specs.run_model.World.{World}
 use Rattle.record_gathering.specs.declared.parts.PortNoted.{PortNoted}
 use Rattle.record_gathering.specs.declared.parts.PartNoted.{PartNoted}

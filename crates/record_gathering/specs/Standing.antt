@@ -6,7 +6,7 @@ use Rattle.flight_records.specs.declared.entry.StatePart.{StatePart}
 use Rattle.flight_records.specs.declared.entry.StatePart.TheVariants as part
 use Rattle.configuration.specs.node_core.State.{LocalState}
 use Rattle.configuration.specs.node_core.lock_desk.Desk.{desk_fits}
-use Rattle.configuration.specs.link_port.Port.{port_fits}
+use Rattle.configuration.specs.data_link.Port.{port_fits}
 use Rattle.configuration.specs.run_model.World.{World}
 
 -- the node stands so; `queue` is what was noted to wait

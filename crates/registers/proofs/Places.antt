@@ -4,11 +4,11 @@ use Rattle.std.proofs.Math.Path.{fun_ext}
 use Rattle.std.proofs.lemmas.Grind.{common_steps}
 use Rattle.std.proofs.lemmas.List.{length-set, set-get_or}
 use Rattle.std.proofs.lemmas.List.Elements.{All-set, All-contains}
-use Rattle.link_port.specs.topology.At.{at}
-use Rattle.link_port.specs.topology.declared.frame.Ranges.{Ranges}
-use Rattle.link_port.specs.topology.declared.frame.Frame.{Frame}
-use Rattle.link_port.specs.topology.declared.frame.Payload.{Payload}
-use Rattle.link_port.specs.Port.{PortState, PortView, port_after, port_fits}
+use Rattle.data_link.specs.topology.At.{at}
+use Rattle.data_link.specs.topology.declared.frame.Ranges.{Ranges}
+use Rattle.data_link.specs.topology.declared.frame.Frame.{Frame}
+use Rattle.data_link.specs.topology.declared.frame.Payload.{Payload}
+use Rattle.data_link.specs.Port.{PortState, PortView, port_after, port_fits}
 use Rattle.registers.specs.Registers.{RegistersView, IsPortOf, IsRegisters, port_of, value_of}
 
 -- the registers with another port at place w, and with another value there

@@ -10,8 +10,8 @@ use Rattle.std.proofs.lemmas.List.{get_or_past, get_or_default}
 use Rattle.std.proofs.lemmas.List.Folds.{Any-from_list_any, list_any_at}
 use Rattle.std.proofs.lemmas.List.Sums.{length-filter, count_by-le-length}
 use Rattle.std.proofs.lemmas.List.FromFn.{length-range_with_len}
-use Rattle.link_port.specs.topology.Network.{Network, are_joined, neighbours_of}
-use Rattle.link_port.specs.Port.{PortView, port_fits, default_port}
+use Rattle.data_link.specs.topology.Network.{Network, are_joined, neighbours_of}
+use Rattle.data_link.specs.Port.{PortView, port_fits, default_port}
 use Rattle.registers.specs.Registers.{RegistersView, IsPortOf, IsRegisters, port_of, port_or_new, value_of}
 use Rattle.registers.specs.Rewire.{is_among, rewired_ports, rewired_values}
 

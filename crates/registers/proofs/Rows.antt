@@ -1,7 +1,7 @@
 -- The registers of node 0 of two.
 use Rattle.std.proofs.Common.{◌≡◌, ℕ, ◌<◌, [], ◌∷◌, refl, arith}
-use Rattle.link_port.specs.topology.declared.frame.Ranges.{Ranges}
-use Rattle.link_port.specs.Port.{PortState, PortView, default_port}
+use Rattle.data_link.specs.topology.declared.frame.Ranges.{Ranges}
+use Rattle.data_link.specs.Port.{PortState, PortView, default_port}
 use Rattle.registers.specs.Registers.{RegistersView, IsRegisters, port_of, value_of}
 use Rattle.registers.specs.Rewire.{rewired_ports, rewired_values}
 

@@ -6,11 +6,11 @@ use Rattle.std.proofs.lemmas.Bool.{cases_lt}
 use Rattle.std.proofs.lemmas.List.{length-replicate, get_or-replicate, get_or_past}
 use Rattle.std.proofs.lemmas.List.Elements.{All-replicate, All-filter}
 use Rattle.std.proofs.lemmas.List.FromFn.{length-range_with_len, get_or-range_with_len}
-use Rattle.link_port.specs.topology.Network.{Network, IsAcceptedNetwork, are_joined, neighbours_of, ring_of}
-use Rattle.link_port.specs.topology.Laws.{NeighboursAscend}
-use Rattle.link_port.specs.topology.declared.frame.Ranges.{Ranges}
-use Rattle.link_port.specs.topology.Ranges.{ranges_of}
-use Rattle.link_port.specs.Port.{PortView, default_port}
+use Rattle.data_link.specs.topology.Network.{Network, IsAcceptedNetwork, are_joined, neighbours_of, ring_of}
+use Rattle.data_link.specs.topology.Laws.{NeighboursAscend}
+use Rattle.data_link.specs.topology.declared.frame.Ranges.{Ranges}
+use Rattle.data_link.specs.topology.Ranges.{ranges_of}
+use Rattle.data_link.specs.Port.{PortView, default_port}
 use Rattle.registers.specs.Registers.{RegistersView, IsPortOf, IsRegisters, port_of, value_of}
 
 abbrev pub default_view : Network → PortView

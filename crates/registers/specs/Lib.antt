@@ -1,5 +1,5 @@
-pub use Rattle.link_port.specs.topology as topology
-pub use Rattle.link_port.specs.k_state as k_state
-pub use Rattle.link_port.specs as link_port
+pub use Rattle.data_link.specs.topology as topology
+pub use Rattle.data_link.specs.k_state as k_state
+pub use Rattle.data_link.specs as data_link
 pub mod Registers
 pub mod Rewire

@@ -1,8 +1,8 @@
 -- The registers of a node: what it keeps of every other node, by that node's id.
 use Rattle.std.specs.Prelude.{◌≡◌, ℕ, ◌<◌, ◌≤◌, Bool, IsTrue, if◌then◌else◌, List, length, All, Contains, slice_index_or, slice_index}
 use Rattle.std.specs.List.Sorted.{IsStrictlyIncreasing}
-use Rattle.link_port.specs.topology.declared.frame.Ranges.{Ranges}
-use Rattle.link_port.specs.Port.{PortState, PortView, port_fits, default_port}
+use Rattle.data_link.specs.topology.declared.frame.Ranges.{Ranges}
+use Rattle.data_link.specs.Port.{PortState, PortView, port_fits, default_port}
 
 -- The ranges of all fields, the ids of the neighbours, ascending, and for each node id a port to
 -- that node and the value of the machine that comes in from it.

@@ -1,8 +1,8 @@
 -- What becomes of a node's registers if its neighbours change.
 use Rattle.std.specs.Prelude.{ℕ, Bool, ◌&&◌, ◌==◌, if◌then◌else◌, List}
 use Rattle.std.specs.List.{list_any}
-use Rattle.link_port.specs.topology.declared.frame.Ranges.{Ranges}
-use Rattle.link_port.specs.Port.{PortState, default_port}
+use Rattle.data_link.specs.topology.declared.frame.Ranges.{Ranges}
+use Rattle.data_link.specs.Port.{PortState, default_port}
 
 -- w is one of the neighbours
 abbrev pub is_among : List ℕ → ℕ → Bool

@@ -21,7 +21,7 @@
 
 mod registers;
 
-pub use link_port::{
+pub use data_link::{
     Frame, Heard, Net, OutOfRange, Payload, Ranges, copy_move, privileged, root_move,
 };
 pub use registers::Registers;

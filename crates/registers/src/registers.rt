@@ -3,17 +3,17 @@ ghost use Rattle.std.specs.Prelude.{◌≡◌, ◌↔◌, ◌<◌, ◌≤◌, �
 ghost use Rattle.std.specs.Prelude.{OnErr, Contains, length, nat_lt, not, ◌&&◌, if◌then◌else◌};
 ghost use Rattle.std.specs.Prelude.{replicate, slice_index, slice_index_or};
 ghost use Rattle.std.specs.Vec.{vec_capacity};
-ghost use Rattle.link_port.specs.topology.At.{at};
-ghost use Rattle.link_port.specs.topology.Network.{neighbours_of};
-ghost use Rattle.link_port.specs.topology.Ranges.{frame_fits, payload_fits, ranges_of};
-ghost use Rattle.link_port.specs.Heard.{heard_of};
-ghost use Rattle.link_port.specs.Port.{PortState, PortView, counters_fit, default_port, frame_of};
-ghost use Rattle.link_port.specs.Port.{port_after};
+ghost use Rattle.data_link.specs.topology.At.{at};
+ghost use Rattle.data_link.specs.topology.Network.{neighbours_of};
+ghost use Rattle.data_link.specs.topology.Ranges.{frame_fits, payload_fits, ranges_of};
+ghost use Rattle.data_link.specs.Heard.{heard_of};
+ghost use Rattle.data_link.specs.Port.{PortState, PortView, counters_fit, default_port, frame_of};
+ghost use Rattle.data_link.specs.Port.{port_after};
 ghost use Rattle.registers.specs.Registers.{RegistersView, IsRegisters, port_of, port_or_new};
 ghost use Rattle.registers.specs.Registers.{value_of};
 ghost use Rattle.registers.specs.Rewire.{is_among, rewired_ports, rewired_values};
 
-use link_port::{Frame, Heard, Net, OutOfRange, Payload, Port, Ranges, laws as link_port_laws};
+use data_link::{Frame, Heard, Net, OutOfRange, Payload, Port, Ranges, laws as data_link_laws};
 use std::alloc::{AllocError, Allocator, Global};
 use std::marker::Model;
 
@@ -61,7 +61,7 @@ impl<A: Allocator + Copy> Registers<A> {
         ensures ports { IfOk result (λ r. port_of r ≡ (λ w. default_port (ranges_of net.now))) }
         ensures values { IfOk result (λ r. value_of r ≡ (λ w. 0)) }
     {
-        link_port_laws::neighbours();
+        data_link_laws::neighbours();
         let neighbours = with_room(alloc, net.nodes(), net.neighbours(id))?;
         let ports = default_ports(alloc, net)?;
         let values = vec![in alloc; 0u16; usize::from(net.nodes())]?;
@@ -168,7 +168,7 @@ impl<A: Allocator> Registers<A> {
         ensures rest { self.new ≡ record self.old { ports = self.new.ports } }
         ensures heard { result ≡ heard_of (port_of self.old port) frame.now }
     {
-        link_port_laws::ports();
+        data_link_laws::ports();
         self.ports[port as usize].on_frame(frame, present)
     }
 
@@ -262,7 +262,7 @@ impl<A: Allocator> Registers<A> {
         ensures values { value_of self.new
             ≡ rewired_values self.old.neighbours (neighbours_of net.now id) (value_of self.old) }
     {
-        link_port_laws::neighbours();
+        data_link_laws::neighbours();
         let neighbours = net.neighbours(id);
         let nodes = net.nodes();
         write_ids(&mut self.neighbours, neighbours);

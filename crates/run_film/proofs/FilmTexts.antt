@@ -5,8 +5,8 @@ use Rattle.std.proofs.lemmas.Nat.{le-div}
 use Rattle.topology.specs.Network.{Network}
 use Rattle.run_recording.specs.run_model.declared.event.Event.{Event}
 use Rattle.run_recording.specs.declared.window.Window.{Window}
-use Rattle.run_recording.specs.film_stills.declared.still.Still.{Still}
-use Rattle.run_recording.specs.film_stills.Reels.{ReelView}
+use Rattle.run_recording.specs.declared.still.Still.{Still}
+use Rattle.run_recording.specs.Reels.{ReelView}
 use Rattle.run_recording.specs.Filmed.{room_of}
 use Rattle.run_recording.specs.Recordings.{IsRecorded, RecordingView}
 use Rattle.run_recording.specs.SimulatedText.{simulated_start}

@@ -4,7 +4,7 @@ use Rattle.std.proofs.lemmas.Grind.{common_steps}
 use Rattle.std.proofs.Math.Seq.{take-length}
 use Rattle.svg_drawing.specs.Drawn.{Shown as Drawn}
 use Rattle.svg_drawing.specs.Grouped.{Grouped, with_inside}
-use Rattle.run_recording.specs.film_stills.declared.still.Still.{Still}
+use Rattle.run_recording.specs.declared.still.Still.{Still}
 use Rattle.run_film.specs.Beats.{Film, beats_at}
 use Rattle.run_film.specs.Pages.{later_steps, step_shown, steps_to, steps_shown}
 

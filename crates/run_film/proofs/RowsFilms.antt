@@ -3,8 +3,8 @@ use Rattle.std.proofs.Common.{◌≡◌, ℕ, true, false, List, [], ◌∷◌, 
 use Rattle.run_recording.specs.run_model.declared.event.Event.{Event}
 use Rattle.run_recording.specs.run_model.declared.event.Event.TheVariants.{Damage, Lose, Send, Take, Tick}
 use Rattle.run_recording.specs.run_model.declared.event.Harm.TheVariants as harm
-use Rattle.run_recording.specs.film_stills.declared.look.Look.{Look}
-use Rattle.run_recording.specs.film_stills.declared.still.Still.{Still}
+use Rattle.run_recording.specs.declared.look.Look.{Look}
+use Rattle.run_recording.specs.declared.still.Still.{Still}
 use Rattle.run_film.specs.declared.track.Track.TheVariants.{Mark, Distance, Parent, Ticket, Strike, Edge, Frame, Waiting}
 use Rattle.run_film.specs.Beats.{Film, beats_at, beats_of, joins_in, last_of}
 use Rattle.run_film.specs.Tracks.{mark_code, value_of, values_of, waits_in}

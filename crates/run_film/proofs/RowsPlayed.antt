@@ -9,8 +9,8 @@ use Rattle.svg_drawing.specs.declared.canvas.Point.{Point}
 use Rattle.run_recording.specs.run_model.declared.event.Event.{Event}
 use Rattle.run_recording.specs.run_model.declared.event.Event.TheVariants.{Send}
 use Rattle.run_recording.specs.declared.window.Window.{Window}
-use Rattle.run_recording.specs.film_stills.declared.still.Still.{Still}
-use Rattle.run_recording.specs.film_stills.Reels.{ReelView, Shows}
+use Rattle.run_recording.specs.declared.still.Still.{Still}
+use Rattle.run_recording.specs.Reels.{ReelView, Shows}
 use Rattle.run_recording.specs.Filmed.{AreFilmed}
 use Rattle.run_recording.specs.Filmed.AreFilmed.{Start, Next}
 use Rattle.run_recording.specs.SimulatedText.{simulated_start}

@@ -3,7 +3,7 @@ use Rattle.std.proofs.Common.{◌≡◌, ◌∙◌, ap, sym, refl, subst, ℕ, z
 use Rattle.std.specs.List.{flat_map}
 use Rattle.std.proofs.lemmas.Grind.{common_steps, flat_map-append}
 use Rattle.std.proofs.lemmas.List.{append-nil, take_more}
-use Rattle.run_recording.specs.film_stills.declared.still.Still.{Still}
+use Rattle.run_recording.specs.declared.still.Still.{Still}
 use Rattle.run_film.specs.declared.track.Track.{Track}
 use Rattle.run_film.specs.Beats.{Film, beats_at, beats_of, last_or, later_beats}
 use Rattle.run_film.specs.Tracks.{value_of, values_of, more_values}

@@ -2,7 +2,7 @@
 use Rattle.std.specs.List.{list_any}
 use Rattle.topology.specs.Network.{are_joined}
 use Rattle.std.specs.Prelude.{Bool, ◌||◌, ℕ, ◌+◌, ◌/◌, ◌%◌, ◌==◌, nat_lt, if◌then◌else◌, List, [], ◌∷◌, ◌++◌, length, replicate}
-use Rattle.run_recording.specs.film_stills.declared.still.Still.{Still}
+use Rattle.run_recording.specs.declared.still.Still.{Still}
 use Rattle.run_film.specs.declared.pace.FilmPace.{FilmPace}
 use Rattle.run_film.specs.declared.pace.Shown.{Shown}
 

@@ -8,8 +8,8 @@ use Rattle.svg_drawing.specs.Spelling.{document_text, scene_text}
 use Rattle.svg_drawing.specs.Xml.{IsContent, IsDocument}
 use Rattle.run_recording.specs.run_model.declared.event.Event.{Event}
 use Rattle.run_recording.specs.declared.window.Window.{Window}
-use Rattle.run_recording.specs.film_stills.declared.still.Still.{Still}
-use Rattle.run_recording.specs.film_stills.Reels.{ReelView, Shows}
+use Rattle.run_recording.specs.declared.still.Still.{Still}
+use Rattle.run_recording.specs.Reels.{ReelView, Shows}
 use Rattle.run_recording.specs.Filmed.{AreFilmed}
 use Rattle.run_recording.specs.SimulatedText.{simulated_start}
 use Rattle.run_film.specs.declared.pace.FilmPace.{FilmPace}

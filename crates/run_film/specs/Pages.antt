@@ -5,7 +5,7 @@ use Rattle.svg_drawing.specs.Drawn.{Shown as Drawn, note_shown}
 use Rattle.svg_drawing.specs.Grouped.{Grouped}
 use Rattle.run_recording.specs.run_model.declared.event.Event.{Event}
 use Rattle.run_recording.specs.events_text.EventLaws.{event_words}
-use Rattle.run_recording.specs.film_stills.declared.still.Still.{Still}
+use Rattle.run_recording.specs.declared.still.Still.{Still}
 use Rattle.run_film.specs.Beats.{Film, beats_at}
 use Rattle.run_film.specs.Films.{ShowsFilm}
 use Rattle.topology.specs.Network.{Network}

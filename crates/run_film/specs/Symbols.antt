@@ -4,7 +4,7 @@ use Rattle.std.specs.List.{list_any}
 use Rattle.topology.specs.Network.{Network}
 use Rattle.svg_drawing.specs.Drawn.{Shown as Drawn}
 use Rattle.svg_drawing.specs.Grouped.{Grouped}
-use Rattle.run_recording.specs.film_stills.declared.still.Still.{Still}
+use Rattle.run_recording.specs.declared.still.Still.{Still}
 use Rattle.run_recording.specs.run_model.declared.event.Event.{Event}
 use Rattle.run_recording.specs.run_model.declared.event.Event.TheVariants.{Send, Take, Lose}
 use Rattle.run_film.specs.declared.frames.FrameDeed.{FrameDeed}

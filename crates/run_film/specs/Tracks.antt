@@ -8,9 +8,9 @@ use Rattle.run_recording.specs.run_model.declared.event.Event.{Event}
 use Rattle.run_recording.specs.run_model.declared.event.Event.TheVariants.{Damage, Send, Take, Lose}
 use Rattle.run_recording.specs.run_model.declared.event.Harm.{Harm}
 use Rattle.run_recording.specs.run_model.declared.event.Harm.TheVariants as harm
-use Rattle.run_recording.specs.film_stills.declared.look.Look.{Look}
-use Rattle.run_recording.specs.film_stills.declared.look.Place.{Place}
-use Rattle.run_recording.specs.film_stills.declared.still.Still.{Still}
+use Rattle.run_recording.specs.declared.look.Look.{Look}
+use Rattle.run_recording.specs.declared.look.Place.{Place}
+use Rattle.run_recording.specs.declared.still.Still.{Still}
 use Rattle.run_film.specs.declared.pace.FilmPace.{FilmPace}
 use Rattle.run_film.specs.declared.track.Track.{Track}
 use Rattle.run_film.specs.declared.track.Track.TheVariants.{Mark, Distance, Parent, Ticket, Strike, Damage as Damaged, Sweeps, Edge, Frame, Waiting}

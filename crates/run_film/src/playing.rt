@@ -1,7 +1,7 @@
 //! A whole film.
 ghost use Rattle.std.specs.Prelude.{◌≡◌, ◌≤◌, Some, IfOk, OnOk, length};
-ghost use Rattle.run_recording.specs.film_stills.declared.still.Still.{Still};
-ghost use Rattle.run_recording.specs.film_stills.Reels.{ReelView};
+ghost use Rattle.run_recording.specs.declared.still.Still.{Still};
+ghost use Rattle.run_recording.specs.Reels.{ReelView};
 ghost use Rattle.svg_drawing.specs.Grouped.{scene_shown};
 ghost use Rattle.run_film.specs.Beats.{film_of};
 ghost use Rattle.run_film.specs.Films.{drawn, Keeps, ShowsFilm, ShowsParts};

@@ -9,7 +9,7 @@ use Rattle.link_model.specs.topology.Ranges.{ranges_of}
 use Rattle.link_model.specs.topology.Laws.{NeighboursAreJoined}
 use Rattle.link_model.specs.declared.item.Item.{Item}
 use Rattle.link_model.specs.declared.item.Item.TheVariants.{Frame, Noise}
-use Rattle.node_core.specs.link_port.Port.{PortState, port_fits}
+use Rattle.node_core.specs.data_link.Port.{PortState, port_fits}
 use Rattle.node_core.specs.data_link.Edge.{modulus_of, IsPortBelow, IsItemBelow, IsEdgeInRange}
 use Rattle.run_model.specs.World.{World, IsWorldInRange, item_fits}
 use Rattle.run_model.specs.Project.{edge_of}

@@ -11,7 +11,7 @@ use Rattle.link_model.specs.topology.Ranges.{ranges_of, frame_fits}
 use Rattle.link_model.specs.topology.declared.frame.Payload.{Payload}
 use Rattle.link_model.specs.declared.item.Item.{Item}
 use Rattle.link_model.specs.declared.item.Item.TheVariants.{Frame, Noise}
-use Rattle.node_core.specs.link_port.Port.{port_after}
+use Rattle.node_core.specs.data_link.Port.{port_after}
 use Rattle.node_core.specs.data_link.Edge.{TakeOut, TakeBack, edge_step}
 use Rattle.node_core.specs.Step.{heard}
 use Rattle.run_model.specs.World.{World, IsWorldInRange, item_fits, site, with_node, with_link}

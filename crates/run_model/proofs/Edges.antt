@@ -3,7 +3,7 @@ use Rattle.std.proofs.Common.{◌≡◌, ◌≢◌, ℕ, zero, suc, List, [], �
 use Rattle.std.proofs.lemmas.Grind.{common_steps}
 use Rattle.std.proofs.lemmas.Bool.{or_parts}
 use Rattle.link_model.specs.declared.item.Item.TheVariants.{Frame}
-use Rattle.node_core.specs.link_port.Port.{frame_of}
+use Rattle.node_core.specs.data_link.Port.{frame_of}
 use Rattle.node_core.specs.data_link.Edge.{edge_step, edge_run}
 use Rattle.node_core.specs.data_link.Sweep as edge
 use Rattle.link_model.specs.Acts.{list_after}

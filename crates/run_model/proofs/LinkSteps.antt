@@ -4,7 +4,7 @@ use Rattle.std.proofs.lemmas.Grind.{common_steps}
 use Rattle.link_model.specs.topology.Network.{are_joined}
 use Rattle.link_model.specs.declared.item.Item.TheVariants.{Frame}
 use Rattle.link_model.specs.Acts.{list_after}
-use Rattle.node_core.specs.link_port.Port.{frame_of}
+use Rattle.node_core.specs.data_link.Port.{frame_of}
 use Rattle.run_model.specs.World.{World}
 use Rattle.run_model.specs.Step.{step}
 use Rattle.run_model.specs.Run.{is_damage}

@@ -12,10 +12,10 @@ use Rattle.link_model.specs.topology.declared.frame.Frame.{Frame}
 use Rattle.link_model.specs.topology.declared.frame.Ranges.{Ranges}
 use Rattle.link_model.specs.declared.item.Item.{Item}
 use Rattle.link_model.specs.declared.item.Item.TheVariants as item
-use Rattle.node_core.specs.link_port.Port.{PortState, port_fits, port_after}
+use Rattle.node_core.specs.data_link.Port.{PortState, port_fits, port_after}
 use Rattle.node_core.specs.k_state.Machine.{root_moved}
 use Rattle.link_model.specs.topology.Laws.{NeighboursAreJoined}
-use Rattle.node_core.specs.link_port.Laws.{PortStaysInRange}
+use Rattle.node_core.specs.data_link.PortLaws.{PortStaysInRange}
 use Rattle.node_core.specs.bfs_tree.Laws.{StepDistanceFits, StepParentFits}
 use Rattle.node_core.specs.lock_desk.Laws.{TicksKeepRanges, AsksKeepRanges, LeavesKeepRanges, LoansKeepRanges}
 use Rattle.node_core.specs.euler_ring.Cycle.{is_on, is_tree_neighbour, highest, below, source_for}

@@ -13,7 +13,7 @@ use Rattle.link_model.specs.topology.Laws.{NeighboursAreJoined}
 use Rattle.link_model.specs.topology.declared.frame.Ranges.{Ranges}
 use Rattle.link_model.specs.declared.item.Item.{Item}
 use Rattle.link_model.specs.declared.item.Item.TheVariants.{Frame}
-use Rattle.node_core.specs.link_port.Port.{PortState, port_fits, frame_of, default_port}
+use Rattle.node_core.specs.data_link.Port.{PortState, port_fits, frame_of, default_port}
 use Rattle.node_core.specs.lock_desk.Desk.{DeskState, desk_fits, no_desk}
 use Rattle.node_core.specs.Site.{site_of}
 use Rattle.node_core.specs.State.{LocalState, IsNodeInRange}

@@ -6,7 +6,7 @@ use Rattle.std.proofs.lemmas.List.{map-append}
 use Rattle.link_model.specs.topology.Network.{are_joined}
 use Rattle.link_model.specs.declared.item.Item.{Item}
 use Rattle.link_model.specs.declared.item.Item.TheVariants.{Frame}
-use Rattle.node_core.specs.link_port.Port.{frame_of}
+use Rattle.node_core.specs.data_link.Port.{frame_of}
 use Rattle.link_model.specs.Acts.{Origin, Before, Sent, LinkAct, Takes, is_first_sent, takes_sent, list_after, hands_over_sent}
 use Rattle.link_model.proofs.Marks.{IsMarked, IsFirstGood, marked-start, marked-length, marked-after, marked-taken, by_taken}
 use Rattle.run_model.specs.World.{World}

@@ -12,7 +12,7 @@ use Rattle.link_model.specs.topology.Change.{join_fault, part_fault}
 use Rattle.link_model.specs.topology.Ranges.{ranges_of}
 use Rattle.link_model.specs.topology.Laws.{JoinedIsAccepted, PartedIsAccepted, WhoIsJoined, WhoIsParted, OthersStayAtJoin, OthersStayAtPart}
 use Rattle.link_model.specs.declared.item.Item.{Item}
-use Rattle.node_core.specs.link_port.Port.{PortState, port_fits, default_port}
+use Rattle.node_core.specs.data_link.Port.{PortState, port_fits, default_port}
 use Rattle.node_core.specs.registers.Rewire.{is_among, stays, rewired_ports, rewired_values}
 use Rattle.node_core.specs.Site.{site_of}
 use Rattle.node_core.specs.State.{LocalState, IsNodeInRange}

@@ -1,7 +1,7 @@
 -- Edges that join and go on a square whose nodes and links are not as at the start: what changes,
 -- what stays, and what is refused.
 use Rattle.std.proofs.Common.{◌≡◌, List, [], ◌∷◌, Some, None, true, false, refl, ap}
-use Rattle.node_core.specs.link_port.Port.{default_port}
+use Rattle.node_core.specs.data_link.Port.{default_port}
 use Rattle.link_model.specs.topology.Network.{Network, Edge, neighbours_of}
 use Rattle.link_model.specs.topology.Ranges.{ranges_of}
 use Rattle.link_model.specs.topology.Tree.{distance_of}

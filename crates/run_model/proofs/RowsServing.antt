@@ -3,7 +3,7 @@ use Rattle.std.proofs.Common.{◌≡◌, ◌≢◌, ℕ, ◌<◌, ◌≤◌, Lis
 use Rattle.std.proofs.lemmas.Bool.{false≢true}
 use Rattle.std.specs.Prelude.{◌==◌, if◌then◌else◌, IsSome}
 use Rattle.link_model.specs.topology.Network.{IsWalk, IsDistance, IsTrueParent}
-use Rattle.node_core.specs.link_port.Port.{PortState}
+use Rattle.node_core.specs.data_link.Port.{PortState}
 use Rattle.node_core.specs.lock_desk.Desk.{no_desk}
 use Rattle.node_core.specs.State.{LocalState}
 use Rattle.run_model.specs.World.{World}

@@ -11,7 +11,7 @@ use Rattle.link_model.specs.topology.Ranges.{ranges_of, payload_fits, parent_fit
 use Rattle.link_model.specs.topology.declared.frame.Payload.{Payload}
 use Rattle.link_model.specs.topology.declared.frame.Ranges.{Ranges}
 use Rattle.link_model.specs.declared.item.Item.{Item}
-use Rattle.node_core.specs.link_port.Port.{PortState, counters_fit, port_fits}
+use Rattle.node_core.specs.data_link.Port.{PortState, counters_fit, port_fits}
 use Rattle.node_core.specs.lock_desk.declared.fault.AskFault.{AskFault}
 use Rattle.node_core.specs.lock_desk.Desk.{is_number, ask_fault, asked, after_leave, loan_fits, with_loan}
 use Rattle.node_core.specs.Step.{ticked}

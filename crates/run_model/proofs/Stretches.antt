@@ -11,7 +11,7 @@ use Rattle.std.proofs.lemmas.List.{map-append}
 use Rattle.std.proofs.lemmas.List.Elements.{All-append, All-push, All-take, All-drop, All-from_recursion, recursion_from_All}
 use Rattle.link_model.specs.declared.item.Item.{Item}
 use Rattle.link_model.specs.declared.item.Item.TheVariants.{Frame}
-use Rattle.node_core.specs.link_port.Port.{frame_of}
+use Rattle.node_core.specs.data_link.Port.{frame_of}
 use Rattle.link_model.specs.Acts.{Origin, Before, Sent, LinkAct, Puts, Takes, Loses, Rests, takes_sent, list_after, hands_over_sent, put_last}
 use Rattle.link_model.proofs.Marks.{marked-start, marked-length, marked-after}
 use Rattle.run_model.specs.World.{World}

@@ -3,7 +3,6 @@ pub use Rattle.node_core.specs.lock_desk as lock_desk
 pub use Rattle.link_model.specs as link_model
 pub use Rattle.link_model.specs.topology as topology
 pub use Rattle.node_core.specs.data_link as data_link
-pub use Rattle.node_core.specs.link_port as link_port
 pub use Rattle.node_core.specs as node_core
 pub mod World
 pub mod Rewire

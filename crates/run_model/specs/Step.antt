@@ -6,7 +6,7 @@ use Rattle.link_model.specs.topology.Network.{are_joined}
 use Rattle.link_model.specs.topology.Ranges.{ranges_of, parent_fits, payload_fits}
 use Rattle.link_model.specs.declared.item.Item.{Item}
 use Rattle.link_model.specs.declared.item.Item.TheVariants.{Frame}
-use Rattle.node_core.specs.link_port.Port.{PortState, frame_of, counters_fit}
+use Rattle.node_core.specs.data_link.Port.{PortState, frame_of, counters_fit}
 use Rattle.node_core.specs.lock_desk.Desk.{DeskState, is_number, ask_fault, asked, is_stranger, after_leave, loan_fits, with_loan}
 use Rattle.node_core.specs.lock_desk.declared.fault.AskFault.{AskFault}
 use Rattle.node_core.specs.lock_desk.declared.fault.AskFault.TheVariants as ask

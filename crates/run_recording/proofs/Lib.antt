@@ -1,5 +1,7 @@
 pub mod Seconds
 pub mod Ends
+pub mod Stills
+mod RowsStills
 pub mod Marks
 pub mod Columns
 pub mod Strips

@@ -4,7 +4,7 @@ use Rattle.std.specs.List.{range_with_len}
 use Rattle.std.proofs.lemmas.Grind.{common_steps}
 use Rattle.std.proofs.lemmas.List.FromFn.{map-range_with_len_more}
 use Rattle.std.proofs.Math.Seq.{take-length}
-use Rattle.film_stills.specs.declared.look.Look.{Look}
+use Rattle.run_recording.specs.declared.look.Look.{Look}
 use Rattle.run_recording.specs.Seen.{mark_of_look}
 
 -- the first items, when the next one is written

@@ -18,7 +18,7 @@ use Rattle.run_recording.specs.declared.column.Column.{Column}
 use Rattle.run_recording.specs.declared.recording.Before.{Before}
 use Rattle.run_recording.specs.declared.window.Window.{Window}
 use Rattle.run_recording.specs.Strips.{Shows}
-use Rattle.film_stills.specs.declared.still.Still.{Still}
+use Rattle.run_recording.specs.declared.still.Still.{Still}
 use Rattle.run_recording.specs.Filmed.{still_of, take_of, filmed_if, ended_with, AreFilmed, IsReeled}
 use Rattle.run_recording.specs.Laned.{AreWorlds, IsLaned, world_if}
 use Rattle.run_recording.proofs.Strips.{as_empty}

@@ -18,8 +18,8 @@ use Rattle.world.specs.run_model.Step.{step}
 use Rattle.world.specs.run_model.declared.event.Event.TheVariants.{Send, Take, Lose, Tick, Ask, Leave, Damage}
 use Rattle.world.specs.run_model.declared.event.Harm.{Harm}
 use Rattle.world.specs.run_model.declared.event.Harm.TheVariants as harm
-use Rattle.film_stills.specs.declared.look.Look.{Look}
-use Rattle.film_stills.specs.declared.look.Place.{Place}
+use Rattle.run_recording.specs.declared.look.Look.{Look}
+use Rattle.run_recording.specs.declared.look.Place.{Place}
 use Rattle.run_recording.specs.declared.mark.Mark.{Mark}
 use Rattle.run_recording.specs.declared.mark.Mark.TheVariants.{Settled}
 use Rattle.run_recording.specs.declared.sight.NodesSight.{NodesSight}

@@ -6,8 +6,8 @@ use Rattle.world.specs.run_model.Run.{run, is_damage}
 use Rattle.world.specs.run_model.Count.{IsSweepCount}
 use Rattle.world.specs.run_model.declared.event.Event.{Event}
 use Rattle.world.specs.judge.Judging.{counted_up_to}
-use Rattle.film_stills.specs.declared.still.Still.{Still}
-use Rattle.film_stills.specs.Reels.{ReelView, Shows}
+use Rattle.run_recording.specs.declared.still.Still.{Still}
+use Rattle.run_recording.specs.Reels.{ReelView, Shows}
 use Rattle.run_recording.specs.declared.recording.Take.{Take}
 use Rattle.run_recording.specs.declared.window.Window.{Window}
 use Rattle.run_recording.specs.Held.{is_held}

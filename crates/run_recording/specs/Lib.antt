@@ -2,9 +2,10 @@ pub use Rattle.world.specs.judge as judge
 pub use Rattle.world.specs.run_model as run_model
 pub use Rattle.world.specs.events_text as events_text
 pub use Rattle.world.specs.judge.configuration as configuration
-pub use Rattle.film_stills.specs as film_stills
 pub use Rattle.layers.specs as layers
 pub use Rattle.world.specs.SimulatedText
+pub mod Stills
+pub mod Reels
 pub mod Marks
 pub mod Columns
 pub mod Strips

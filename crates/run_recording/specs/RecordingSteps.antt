@@ -6,8 +6,8 @@ use Rattle.world.specs.run_model.Step.{refusal}
 use Rattle.world.specs.run_model.Run.{is_damage}
 use Rattle.world.specs.run_model.declared.event.Event.{Event}
 use Rattle.world.specs.SimulatedText.{events_of}
-use Rattle.film_stills.specs.declared.still.Still.{Still}
-use Rattle.film_stills.specs.Reels.{ReelView, Shows}
+use Rattle.run_recording.specs.declared.still.Still.{Still}
+use Rattle.run_recording.specs.Reels.{ReelView, Shows}
 use Rattle.run_recording.specs.declared.column.Column.{Column}
 use Rattle.run_recording.specs.declared.recording.Take.{Take}
 use Rattle.run_recording.specs.declared.sight.NodesSight.{NodesSight}

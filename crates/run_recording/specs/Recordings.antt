@@ -15,8 +15,8 @@ use Rattle.world.specs.SimulatedText.{said_events}
 use Rattle.run_recording.specs.declared.column.Column.{Column}
 use Rattle.run_recording.specs.declared.recording.Before.{Before}
 use Rattle.run_recording.specs.declared.window.Window.{Window}
-use Rattle.film_stills.specs.declared.still.Still.{Still}
-use Rattle.film_stills.specs.Reels.{ReelView}
+use Rattle.run_recording.specs.declared.still.Still.{Still}
+use Rattle.run_recording.specs.Reels.{ReelView}
 use Rattle.run_recording.specs.Held.{is_held}
 use Rattle.run_recording.specs.Filmed.{AreFilmed, IsReeled}
 use Rattle.run_recording.specs.Laned.{AreWorlds, IsLaned, LanesView}

@@ -8,8 +8,8 @@ use Rattle.world.specs.run_model.Privilege.{is_privileged}
 use Rattle.world.specs.run_model.NodeCounts.{privileged_count, lending_count}
 use Rattle.run_recording.specs.declared.mark.Mark.{Mark}
 use Rattle.run_recording.specs.declared.mark.Mark.TheVariants.{Settled, Wrong, Privileged, Lending}
-use Rattle.film_stills.specs.declared.look.Look.{Look}
-use Rattle.film_stills.specs.declared.look.Place.{Place}
+use Rattle.run_recording.specs.declared.look.Look.{Look}
+use Rattle.run_recording.specs.declared.look.Place.{Place}
 use Rattle.run_recording.specs.declared.sight.NodesSight.{NodesSight}
 
 -- both are none, or both are the same node

@@ -1,7 +1,7 @@
 -- What an event changes in what is seen.
 use Rattle.std.specs.Prelude.{◌≡◌, ◌≢◌, ◌≤◌, ℕ, ◌+◌, ◌-◌, ◌^◌, min, Bool, true, false, is_some, slice_set, slice_index_or}
 use Rattle.world.specs.run_model.World.{World}
-use Rattle.film_stills.specs.declared.look.Look.{Look}
+use Rattle.run_recording.specs.declared.look.Look.{Look}
 use Rattle.run_recording.specs.declared.sight.NodesSight.{NodesSight}
 use Rattle.run_recording.specs.Seen.{mark_of_look, nothing}
 

@@ -5,7 +5,7 @@ ghost use Rattle.run_recording.specs.Columns.{column_of, worse_column, is_even, 
 
 use crate::change::Change;
 use crate::mark::Mark;
-use film_stills::MOST_NODES;
+use crate::still::MOST_NODES;
 
 /// What is seen of a network at a moment, or the worst of several moments.
 #[derive(Clone, Copy)]

@@ -13,17 +13,28 @@
 //! A moment is the start, or the time after an event, refused or not; so there is one more moment
 //! than events. Nothing here knows about pages, colours or SVG.
 //!
-//! The trap: a node's distance and parent are compared with the present network, whose edges may
+//! For films, a [`Look`] is what is seen of one node, a [`Still`] what is seen of all nodes at a
+//! moment. A [`Reel`] takes the moments of a run one after the other, and keeps at most as many stills
+//! as it was made for: moments that do not differ share one, and if there are more, a still stands for
+//! a stretch of moments and shows the last of them. Calm stretches are joined first. A moment is
+//! *weighty* if there was damage, or if two nodes are privileged or two lend; it is shown as it was,
+//! unless there are so many that the reel is *crowded*.
+//!
+//! The traps: a still's counts are the greatest of its moments, and its looks those of the last; and
+//! a node's distance and parent are compared with the present network, whose edges may
 //! join and go; [`first_visits`] and [`is_tree_edge`] use the given network.
 #![tactic(auto)]
 
 mod change;
 mod column;
 mod lanes;
+mod look;
 mod mark;
 mod recording;
+mod reel;
 mod runs;
 mod sight;
+mod still;
 mod strip;
 mod tour;
 mod under_way;
@@ -31,15 +42,15 @@ mod window;
 
 pub use change::Change;
 pub use column::{Column, Counts};
-pub use film_stills::{
-    Look, MOST_EDGES, MOST_FRAMED, MOST_NODES, MOST_WAYS, NO_EDGE, Place, Reel, Still,
-};
 pub use lanes::Lanes;
 pub use layers::Layers;
+pub use look::{Look, Place};
 pub use mark::Mark;
 pub use recording::{Before, Recording, record, record_film, record_layers};
+pub use reel::Reel;
 pub use runs::{Run, runs_of};
 pub use sight::NodesSight;
+pub use still::{MOST_EDGES, MOST_FRAMED, MOST_NODES, MOST_WAYS, NO_EDGE, Still};
 pub use strip::Strip;
 pub use tour::{first_visits, is_tree_edge};
 pub use window::Window;

@@ -11,8 +11,9 @@ ghost use Rattle.run_recording.specs.Columns.{AreChangedBy};
 ghost use Rattle.run_recording.specs.SightSteps.{DiffersAt, recounted, with_look};
 
 use crate::change::Change;
+use crate::look::{Look, Place};
 use crate::mark::Mark;
-use film_stills::{Look, MOST_EDGES, MOST_NODES, NO_EDGE, Place};
+use crate::still::{MOST_EDGES, MOST_NODES, NO_EDGE};
 use std::alloc::Allocator;
 use topology::Net;
 use world::{Configuration, Event, Harm};

@@ -10,7 +10,7 @@ ghost use Rattle.run_recording.specs.Strips.{Shows};
 use crate::change::Change;
 use crate::column::{Column, Counts, is_even, worsen_last};
 use crate::mark::Mark;
-use film_stills::MOST_NODES;
+use crate::still::MOST_NODES;
 use std::alloc::{AllocError, Allocator, Global};
 use std::marker::Model;
 use std::mem;

@@ -3,7 +3,7 @@ ghost use Rattle.std.specs.Prelude.{◌≡◌, ◌<◌};
 ghost use Rattle.world.specs.judge.configuration.ConfigurationView.{world_of};
 ghost use Rattle.run_recording.specs.UnderWay.{sent_at, under_way_of};
 
-use film_stills::{MOST_FRAMED, MOST_WAYS};
+use crate::still::{MOST_FRAMED, MOST_WAYS};
 use std::alloc::Allocator;
 use world::Configuration;
 

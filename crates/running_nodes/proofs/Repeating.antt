@@ -5,7 +5,7 @@ use Rattle.std.proofs.lemmas.List.Elements.{Contains-append_left, Contains-appen
 use Rattle.std.specs.Prelude.{◌==◌}
 use Rattle.std.specs.List.{AllByRecursion}
 use Rattle.topology.specs.declared.frame.Frame.{Frame}
-use Rattle.data_link.specs.link_port.Port.{frame_of}
+use Rattle.data_link.specs.Port.{frame_of}
 use Rattle.node_core.specs.View.{site_in, state_of}
 use Rattle.pace.specs.Clock.{is_over}
 use Rattle.pace.specs.Nodes.{holds}
@@ -15,7 +15,7 @@ use Rattle.pace.specs.declared.pace.Plan.{Plan}
 use Rattle.pace.specs.declared.port.PortPace.{PortPace}
 use Rattle.pace.specs.declared.port.PortSight.{PortSight}
 use Rattle.socket_links.specs.Counts.{Counts}
-use Rattle.accounts.specs.Deeds.{Deed, Asks, Leaves, Sends, Takes, Ticks, sent_to}
+use Rattle.node_core.specs.Deeds.{Deed, Asks, Leaves, Sends, Takes, Ticks, sent_to}
 use Rattle.node_loop.specs.node_connections.declared.port.NodePort.{NodePort}
 use Rattle.node_loop.specs.node_connections.Ports.{AtBoth}
 use Rattle.node_loop.specs.Moments.{Moment}

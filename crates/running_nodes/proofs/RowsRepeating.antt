@@ -1,6 +1,6 @@
 -- Turns in time and links that are up: small examples, and what looks like them and is none.
 use Rattle.std.proofs.Common.{◌≡◌, ℕ, List, [], ◌∷◌, Option, Some, true, false, slice_get, refl, sym, ap, ◌∙◌, inl, arith}
-use Rattle.accounts.specs.Deeds.{Sends, Ticks}
+use Rattle.node_core.specs.Deeds.{Sends, Ticks}
 use Rattle.pace.specs.declared.pace.Plan.{Plan}
 use Rattle.node_loop.specs.node_connections.declared.port.NodePort.{NodePort}
 use Rattle.node_loop.specs.Moments.{Moment}

@@ -8,7 +8,7 @@ use Rattle.node_core.specs.View.{NodeView, site_in, state_of}
 use Rattle.run_model.specs.World.{World}
 use Rattle.run_model.proofs.RowsTwo.{two_nodes, each-node, each-link}
 use Rattle.socket_links.specs.Counts.{Counts}
-use Rattle.accounts.specs.Deeds.{Deed, Ticks}
+use Rattle.node_core.specs.Deeds.{Deed, Ticks}
 use Rattle.pace.specs.declared.pace.TurnPace.{TurnPace}
 use Rattle.node_loop.specs.Moments.{Moment}
 use Rattle.node_loop.specs.node_connections.declared.port.NodePort.{NodePort}

@@ -12,7 +12,7 @@ use Rattle.frame_codec.specs.Spelling.{spelling}
 use Rattle.socket_links.specs.Counts.{Counts}
 use Rattle.socket_links.specs.Links.{waiting, unsent, HasPulled}
 use Rattle.socket_links.specs.declared.link.SocketLink.{SocketLink}
-use Rattle.accounts.specs.Deeds.{Leads, Ticks, Asks, Leaves}
+use Rattle.node_core.specs.Deeds.{Leads, Ticks, Asks, Leaves}
 use Rattle.node_loop.specs.Moments.{Moment}
 use Rattle.node_loop.specs.Turns.{Turns, Attends}
 use Rattle.processes.specs.Links.{Act, Accepts}

@@ -2,15 +2,15 @@
 use Rattle.std.proofs.Common.{◌≡◌, ◌<◌, ℕ, false, List, [], ◌∷◌, ◌++◌, Option, None, Some, Contains, slice_get, slice_index_or, refl, inl, inr, ap, sym, subst, ◌∙◌, append-nil}
 use Rattle.topology.specs.declared.frame.Frame.{Frame}
 use Rattle.topology.specs.declared.frame.Ranges.{Ranges}
-use Rattle.data_link.specs.link_port.Port.{frame_of}
+use Rattle.data_link.specs.Port.{frame_of}
 use Rattle.node_core.specs.View.{site_in, state_of}
 use Rattle.node_core.specs.declared.ticked.Ticked.{Ticked}
 use Rattle.pace.specs.Plans.{port_of}
 use Rattle.socket_links.specs.Counts.{Counts}
 use Rattle.socket_links.specs.Links.{IsPushed}
 use Rattle.socket_links.specs.declared.link.SocketLink.{SocketLink}
-use Rattle.accounts.specs.Deeds.{Deed, Leads, taken_from, sent_to}
-use Rattle.accounts.proofs.Joined.{joins, frames-join}
+use Rattle.node_core.specs.Deeds.{Deed, Leads, taken_from, sent_to}
+use Rattle.node_core.proofs.Joined.{joins, frames-join}
 use Rattle.node_loop.specs.node_connections.declared.port.NodePort.{NodePort}
 use Rattle.node_loop.specs.Hearing.{Listens}
 use Rattle.node_loop.specs.node_connections.Hearing.{Pulls, Wires}

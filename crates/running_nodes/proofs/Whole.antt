@@ -8,7 +8,7 @@ use Rattle.node_core.specs.Site.{site_of}
 use Rattle.node_core.specs.View.{state_of}
 use Rattle.run_model.specs.World.{World, IsWorldInRange}
 use Rattle.socket_links.specs.Counts.{Counts}
-use Rattle.accounts.specs.Deeds.{Leads, taken_from, sent_to}
+use Rattle.node_core.specs.Deeds.{Leads, taken_from, sent_to}
 use Rattle.processes.specs.Accounts.{Timed, deeds}
 use Rattle.processes.specs.Laws.{BytesKeepPromise}
 use Rattle.processes.specs.Links.{accepts_in, gives_in}

@@ -5,7 +5,7 @@ use Rattle.node_core.specs.View.{site_in, state_of}
 use Rattle.run_model.specs.World.{World, IsWorldInRange}
 use Rattle.run_model.specs.declared.event.Event.{Event}
 use Rattle.socket_links.specs.Counts.{Counts}
-use Rattle.accounts.specs.Deeds.{Leads, taken_from, sent_to}
+use Rattle.node_core.specs.Deeds.{Leads, taken_from, sent_to}
 use Rattle.node_loop.specs.Moments.{Moment}
 use Rattle.node_loop.specs.node_connections.declared.port.NodePort.{NodePort}
 use Rattle.processes.specs.Accounts.{Timed}

@@ -4,7 +4,7 @@ use Rattle.std.specs.List.{AllByRecursion}
 use Rattle.node_core.specs.declared.ticked.Ticked.{Ticked}
 use Rattle.pace.specs.declared.pace.Plan.{Plan}
 use Rattle.socket_links.specs.Counts.{Counts}
-use Rattle.accounts.specs.Deeds.{Deed, sent_to}
+use Rattle.node_core.specs.Deeds.{Deed, sent_to}
 use Rattle.node_loop.specs.Moments.{Moment}
 use Rattle.node_loop.specs.node_connections.Speaking.{takes_frames}
 use Rattle.node_loop.specs.Turns.{Attends, Turns}

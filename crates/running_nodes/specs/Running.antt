@@ -5,7 +5,7 @@ use Rattle.topology.specs.Ranges.{ranges_of}
 use Rattle.node_core.specs.Site.{site_of}
 use Rattle.node_core.specs.View.{site_in, state_of}
 use Rattle.run_model.specs.World.{World}
-use Rattle.accounts.specs.Deeds.{taken_from, sent_to}
+use Rattle.node_core.specs.Deeds.{taken_from, sent_to}
 use Rattle.socket_links.specs.Counts.{Counts}
 use Rattle.node_loop.specs.Moments.{Moment}
 use Rattle.node_loop.specs.node_connections.declared.port.NodePort.{NodePort}

@@ -2,7 +2,7 @@
 use Rattle.std.specs.Prelude.{◌≡◌, ◌⊎◌, ℕ, List, [], ◌∷◌, ◌++◌, Option}
 use Rattle.node_core.specs.declared.ticked.Ticked.{Ticked}
 use Rattle.socket_links.specs.Counts.{Counts}
-use Rattle.accounts.specs.Deeds.{Deed}
+use Rattle.node_core.specs.Deeds.{Deed}
 use Rattle.node_loop.specs.Moments.{Moment}
 use Rattle.node_loop.specs.Turns.{Attends, Turns}
 

@@ -3,7 +3,7 @@ use Rattle.std.proofs.Common.{◌≡◌, ◌≢◌, ℕ, List, [], ◌∷◌, So
 use Rattle.topology.specs.Network.{Network}
 use Rattle.topology.specs.Ranges.{ranges_of}
 use Rattle.topology.specs.declared.frame.Payload.{Payload}
-use Rattle.node_core.specs.link_port.Port.{PortState}
+use Rattle.node_core.specs.data_link.Port.{PortState}
 use Rattle.node_core.specs.State.{LocalState, default_node}
 use Rattle.state_writing.specs.declared.layout.Layout.TheVariants.{Tkt1, Tkt2}
 use Rattle.state_writing.specs.Files.{file_of}

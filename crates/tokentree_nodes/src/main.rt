@@ -9,7 +9,7 @@
 
 use command_words::begin;
 use node_process::NodeProcess;
-use process_line::run_words;
+use process_words::run_words;
 use std::process::ExitCode;
 
 fn main(rt: HostRuntime) -> ExitCode {

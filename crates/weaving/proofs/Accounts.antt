@@ -3,12 +3,12 @@ use Rattle.std.proofs.Common.{◌≡◌, ℕ, List, ◌∷◌, Contains, IsTrue,
 use Rattle.topology.specs.Network.{Network, are_joined}
 use Rattle.link_model.specs.declared.item.Item.{Item}
 use Rattle.link_model.specs.declared.item.Item.TheVariants.{Noise, Frame}
-use Rattle.run_model.specs.link_port.Port.{frame_of}
+use Rattle.run_model.specs.data_link.Port.{frame_of}
 use Rattle.run_model.specs.node_core.Site.{Site, site_of}
 use Rattle.run_model.specs.node_core.State.{LocalState}
 use Rattle.run_model.specs.node_core.Step.{taken}
-use Rattle.accounts.specs.Deeds.{Deed}
-use Rattle.accounts.specs.Deeds as deeds
+use Rattle.node_core.specs.Deeds.{Deed}
+use Rattle.node_core.specs.Deeds as deeds
 use Rattle.weaving.specs.declared.journal.Stamped.{Stamped}
 use Rattle.weaving.specs.Account.{Note, Sent, Took, IsFrame, Leads, send_first, take_first}
 

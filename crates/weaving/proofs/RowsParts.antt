@@ -3,7 +3,7 @@ use Rattle.std.proofs.Common.{◌≡◌, ◌≢◌, ℕ, zero, suc, List, [], �
 use Rattle.std.proofs.lemmas.Bool.{false≢true}
 use Rattle.topology.specs.declared.frame.Frame.{Frame as FrameType}
 use Rattle.link_model.specs.declared.item.Item.TheVariants.{Noise, Frame}
-use Rattle.accounts.specs.Deeds.{Ticks, Sends, Takes}
+use Rattle.node_core.specs.Deeds.{Ticks, Sends, Takes}
 use Rattle.run_model.specs.declared.event.Event.TheVariants.{Send, Take, Tick}
 use Rattle.run_model.proofs.RowsTwo.{two_nodes}
 use Rattle.weaving.specs.declared.journal.JournalEntry.{JournalEntry}

@@ -7,7 +7,7 @@ use Rattle.topology.specs.declared.frame.Frame.{Frame as FrameType}
 use Rattle.run_model.specs.node_core.Site.{site_of}
 use Rattle.run_model.specs.node_core.State.{LocalState}
 use Rattle.run_model.specs.node_core.Step.{ticked, taken}
-use Rattle.run_model.specs.link_port.Port.{frame_of}
+use Rattle.run_model.specs.data_link.Port.{frame_of}
 use Rattle.link_model.specs.declared.item.Item.{Item}
 use Rattle.link_model.specs.declared.item.Item.TheVariants.{Noise, Frame}
 use Rattle.run_model.specs.World.{World}
@@ -17,7 +17,7 @@ use Rattle.run_model.specs.declared.event.Event.{Event}
 use Rattle.run_model.specs.declared.event.Event.TheVariants.{Send, Take, Tick, Ask, Lose}
 use Rattle.run_model.proofs.RowsTwo.{two_nodes}
 use Rattle.weaving.specs.declared.journal.Stamped.{Stamped}
-use Rattle.accounts.specs.Deeds.{Ticks, Sends}
+use Rattle.node_core.specs.Deeds.{Ticks, Sends}
 use Rattle.weaving.specs.Account.{Note, Ticked, Sent, Took, Leads, deeds_in, sent_to, taken_from}
 use Rattle.weaving.specs.Matched.{AreMatched, IsLinkMatched}
 use Rattle.weaving.specs.Laws.{HasEffect, GoesThrough}

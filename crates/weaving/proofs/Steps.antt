@@ -8,7 +8,7 @@ use Rattle.topology.specs.At.{at}
 use Rattle.topology.specs.Network.{are_joined}
 use Rattle.link_model.specs.declared.item.Item.{Item}
 use Rattle.link_model.specs.declared.item.Item.TheVariants.{Frame}
-use Rattle.run_model.specs.link_port.Port.{frame_of}
+use Rattle.run_model.specs.data_link.Port.{frame_of}
 use Rattle.run_model.specs.node_core.Site.{site_of}
 use Rattle.run_model.specs.node_core.Step.{taken, ticked}
 use Rattle.run_model.specs.World.{World, with_node, with_link}

@@ -1,13 +1,13 @@
 -- An account: what one node did on its own thread, in order, with the stamps and the items that it
--- sent and took. `accounts` says of its deeds, as of any node's, what the node does.
+-- sent and took. `node_core` says of its deeds, as of any node's, what the node does.
 use Rattle.std.specs.Prelude.{ℕ, ◌==◌, if◌then◌else◌, IsTrue, List, [], ◌∷◌}
 use Rattle.topology.specs.Network.{Network, are_joined}
 use Rattle.link_model.specs.declared.item.Item.{Item}
 use Rattle.link_model.specs.declared.item.Item.TheVariants.{Noise, Frame}
 use Rattle.run_model.specs.node_core.Site.{site_of}
 use Rattle.run_model.specs.node_core.State.{LocalState}
-use Rattle.accounts.specs.Deeds.{Deed, Ticks, Sends, Takes}
-use Rattle.accounts.specs.Deeds as deeds
+use Rattle.node_core.specs.Deeds.{Deed, Ticks, Sends, Takes}
+use Rattle.node_core.specs.Deeds as deeds
 use Rattle.run_model.specs.declared.event.Event.TheVariants.{Send, Take, Tick}
 use Rattle.weaving.specs.declared.journal.JournalEntry.{JournalEntry}
 use Rattle.weaving.specs.declared.journal.Stamped.{Stamped}

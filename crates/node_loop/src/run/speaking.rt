@@ -3,7 +3,7 @@ ghost use Rattle.std.specs.Prelude.{◌≡◌, ◌<◌, ◌≤◌, length};
 ghost use Rattle.std.specs.Prelude.{IsTrue, Contains, slice_get};
 ghost use Rattle.std.specs.Prelude.{◌≢◌, ℕ};
 ghost use Rattle.slab.specs.Slab.{get};
-ghost use Rattle.node_core.specs.link_port.Port.{frame_of};
+ghost use Rattle.node_core.specs.data_link.Port.{frame_of};
 ghost use Rattle.pace.specs.Plans.{port_of};
 ghost use Rattle.node_core.specs.View.{site_in, state_of};
 ghost use Rattle.node_connections.specs.Ports.{AtBoth};

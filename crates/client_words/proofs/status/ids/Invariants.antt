@@ -1,5 +1,5 @@
 use Rattle.std.proofs.Common.{◌≡◌, ◌++◌, drop, map, decimal}
-use Rattle.lock_words.specs.Words.{texts}
+use Rattle.client_words.specs.Words.{texts}
 use Rattle.client_words.proofs.status.ids.Given as goal
 
 -- the words are the ids that are read, spelled, and the words that are left

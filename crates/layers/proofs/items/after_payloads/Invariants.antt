@@ -3,7 +3,7 @@ use Rattle.std.specs.List.{AllByRecursion}
 use Rattle.topology.specs.declared.frame.Payload.{Payload}
 use Rattle.configuration.specs.ConfigurationView.{world_of}
 use Rattle.configuration.specs.data_link.Edge.{CarriesItsPayload}
-use Rattle.configuration.specs.link_port.Port.{PortState}
+use Rattle.configuration.specs.data_link.Port.{PortState}
 use Rattle.layers.specs.PayloadReading.{Admits}
 use Rattle.layers.proofs.items.after_payloads.Given as goal
 

@@ -2,7 +2,7 @@ use Rattle.std.proofs.Common.{◌<◌, All, length, rules, subst, sym, take}
 use Rattle.std.proofs.lemmas.List.{take_all, take_more}
 use Rattle.std.proofs.lemmas.List.Elements.{All-push}
 use Rattle.std.specs.Prelude.{slice_index_or}
-use Rattle.accounts.specs.node_core.View.{state_of}
+use Rattle.node_core.specs.View.{state_of}
 use Rattle.node_follower.specs.Following.{AreSameAt}
 use Rattle.node_follower.proofs.follower.ports_stand_as.Goals as goal
 

@@ -1,5 +1,5 @@
 use Rattle.std.proofs.Common.{All, take}
-use Rattle.accounts.specs.node_core.View.{site_in, state_of}
+use Rattle.node_core.specs.View.{site_in, state_of}
 use Rattle.node_follower.specs.Following.{AreSameAt}
 use Rattle.node_follower.proofs.follower.ports_stand_as.Given as goal
 

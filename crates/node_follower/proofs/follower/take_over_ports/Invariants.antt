@@ -1,5 +1,5 @@
 use Rattle.std.proofs.Common.{◌≡◌}
-use Rattle.accounts.specs.node_core.View.{site_in}
+use Rattle.node_core.specs.View.{site_in}
 use Rattle.node_follower.proofs.follower.take_over_ports.Given as goal
 
 abbrev pub invariant-loop-w : goal.invariant-loop-w

@@ -1,7 +1,7 @@
 use Rattle.std.proofs.Common.{◌≡◌, replicate, ◌≤◌}
 use Rattle.std.specs.Vec.{vec_capacity}
-use Rattle.link_port.specs.topology.Ranges.{ranges_of}
-use Rattle.link_port.specs.Port.{default_port}
+use Rattle.data_link.specs.topology.Ranges.{ranges_of}
+use Rattle.data_link.specs.Port.{default_port}
 use Rattle.registers.proofs.registers.default_ports.Given as goal
 
 abbrev pub invariant-loop : goal.invariant-loop

@@ -1,5 +1,5 @@
 use Rattle.std.proofs.Common.{◌≡◌, ℕ, length, not, ◌&&◌, nat_lt, slice_index_or}
-use Rattle.link_port.specs.Port.{PortView}
+use Rattle.data_link.specs.Port.{PortView}
 use Rattle.registers.specs.Registers.{port_or_new}
 use Rattle.registers.specs.Rewire.{is_among}
 use Rattle.registers.proofs.registers.reset_others.Given as goal

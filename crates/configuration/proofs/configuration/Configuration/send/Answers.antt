@@ -1,6 +1,6 @@
 use Rattle.std.proofs.Common.{◌≡◌, ◌<◌, ◌∙◌, ap, sym, subst, IsTrue}
 use Rattle.topology.specs.Ranges.{frame_fits}
-use Rattle.run_model.specs.link_port.Port.{frame_of}
+use Rattle.run_model.specs.data_link.Port.{frame_of}
 use Rattle.configuration.specs.ConfigurationView.{ConfigurationView, states_of}
 use Rattle.configuration.proofs.NodePlaces.{IsPortAt, port-at, site-is, state-is}
 use Rattle.configuration.proofs.WorldSteps.{send-answers}

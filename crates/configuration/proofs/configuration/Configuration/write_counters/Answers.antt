@@ -1,5 +1,5 @@
 use Rattle.std.proofs.Common.{refl}
-use Rattle.run_model.specs.link_port.Port.{counters_fit}
+use Rattle.run_model.specs.data_link.Port.{counters_fit}
 use Rattle.run_model.specs.node_core.Writes.{with_port}
 use Rattle.run_model.specs.declared.event.Harm.TheVariants.{Counters}
 use Rattle.configuration.proofs.NodePlaces.{now-nodes, port-at}

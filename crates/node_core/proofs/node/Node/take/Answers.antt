@@ -3,7 +3,7 @@ use Rattle.std.proofs.lemmas.Bool.{and_parts}
 use Rattle.std.proofs.lemmas.List.Elements.{All-contains}
 use Rattle.registers.specs.topology.Ranges.{frame_fits}
 use Rattle.registers.specs.topology.declared.frame.Ranges.{Ranges}
-use Rattle.registers.specs.link_port.Port.{port_after}
+use Rattle.registers.specs.data_link.Port.{port_after}
 use Rattle.registers.specs.Registers.{port_of}
 use Rattle.node_core.specs.View.{NodeView}
 use Rattle.node_core.proofs.Heard.{taken_unfit, taken_heard, same_if_not_acked}

@@ -2,8 +2,8 @@ use Rattle.std.proofs.Common.{◌∙◌, ◌+◌, ◌++◌, ap, rules, sym, subs
 use Rattle.std.specs.Prelude.{drop}
 use Rattle.std.proofs.lemmas.List.{take_more, take-append-drop, drop_more}
 use Rattle.std.proofs.lemmas.List.Elements.{All-get_or}
-use Rattle.accounts.specs.Deeds.{Leads}
-use Rattle.accounts.specs.node_core.View.{site_in, state_of}
+use Rattle.node_core.specs.Deeds.{Leads}
+use Rattle.node_core.specs.View.{site_in, state_of}
 use Rattle.node_follower.specs.Following.{account_of, is_own_account}
 use Rattle.node_follower.proofs.Following.{followed, stuck}
 use Rattle.node_follower.proofs.follower.Follower.follow.Goals as goal

@@ -1,6 +1,6 @@
 use Rattle.std.proofs.Common.{◌≡◌, take}
-use Rattle.accounts.specs.Deeds.{Leads}
-use Rattle.accounts.specs.node_core.View.{site_in, state_of}
+use Rattle.node_core.specs.Deeds.{Leads}
+use Rattle.node_core.specs.View.{site_in, state_of}
 use Rattle.node_follower.specs.Following.{account_of}
 use Rattle.node_follower.proofs.follower.Follower.follow.Given as goal
 

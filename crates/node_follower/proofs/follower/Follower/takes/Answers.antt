@@ -1,7 +1,7 @@
 use Rattle.std.proofs.Common.{◌≡◌, rules, Contains}
 use Rattle.link_model.specs.declared.item.Item.TheVariants as item
-use Rattle.accounts.specs.node_core.Step.{taken}
-use Rattle.accounts.specs.node_core.View.{site_in, state_of}
+use Rattle.node_core.specs.Step.{taken}
+use Rattle.node_core.specs.View.{site_in, state_of}
 use Rattle.node_follower.proofs.follower.Follower.takes.Goals as goal
 
 pub returns-clause-leads : goal.returns-clause-leads

@@ -1,7 +1,7 @@
 use Rattle.std.proofs.Common.{◌≡◌, ◌≤◌, ◌∙◌, List, ap, refl, subst, arith}
 use Rattle.node_connections.specs.Heard.{NothingHeard}
 use Rattle.node_connections.specs.Lives.{AllGoOut, LiveOn}
-use Rattle.node_core.specs.link_port.Port.{frame_of}
+use Rattle.node_core.specs.data_link.Port.{frame_of}
 use Rattle.node_core.specs.View.{NodeView, state_of}
 use Rattle.node_connections.specs.Clients.{is_connected}
 use Rattle.node_service.specs.Deeds.{Deed, IsLeaveOfGone}

@@ -1,7 +1,7 @@
 use Rattle.std.proofs.Common.{◌∙◌, ap, refl}
-use Rattle.link_port.specs.topology.Ranges.{frame_fits, payload_fits}
-use Rattle.link_port.specs.Heard.{heard_of}
-use Rattle.link_port.specs.Port.{PortView, port_after}
+use Rattle.data_link.specs.topology.Ranges.{frame_fits, payload_fits}
+use Rattle.data_link.specs.Heard.{heard_of}
+use Rattle.data_link.specs.Port.{PortView, port_after}
 use Rattle.registers.proofs.Places.{port_place, fits_here, port_heard, port_read, registers-with_port, port_changed}
 use Rattle.registers.proofs.registers.Registers.hear.Goals as goal
 

@@ -1,7 +1,7 @@
 use Rattle.std.proofs.Common.{◌≡◌, ◌∙◌, ◌<◌, ℕ, List, ◌++◌, take, drop, All, ap, arith, length, subst, IsTrue}
-use Rattle.link_port.specs.topology.Network.{Network, neighbours_of}
-use Rattle.link_port.specs.topology.Ranges.{ranges_of}
-use Rattle.link_port.specs.Port.{port_fits, default_port}
+use Rattle.data_link.specs.topology.Network.{Network, neighbours_of}
+use Rattle.data_link.specs.topology.Ranges.{ranges_of}
+use Rattle.data_link.specs.Port.{port_fits, default_port}
 use Rattle.registers.specs.Registers.{RegistersView}
 use Rattle.registers.proofs.Start.{registers-start, default_fits}
 use Rattle.registers.proofs.Rewired.{IsRewritten, is_rewritten, neighbours_few, ports_rewired, values_rewired, registers-rewritten, written_back}

@@ -1,6 +1,6 @@
 use Rattle.std.proofs.Common.{rules, refl, IsOk}
-use Rattle.link_port.specs.topology.Ranges.{payload_fits}
-use Rattle.link_port.specs.Port.{PortView}
+use Rattle.data_link.specs.topology.Ranges.{payload_fits}
+use Rattle.data_link.specs.Port.{PortView}
 use Rattle.registers.proofs.Places.{port_place, registers-written, port_changed_on_ok, refused_here, unchanged_on_err}
 use Rattle.registers.proofs.registers.Registers.set_copy.Goals as goal
 

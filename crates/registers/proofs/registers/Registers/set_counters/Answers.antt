@@ -1,5 +1,5 @@
 use Rattle.std.proofs.Common.{rules, refl, IsOk}
-use Rattle.link_port.specs.Port.{PortView, counters_fit}
+use Rattle.data_link.specs.Port.{PortView, counters_fit}
 use Rattle.registers.proofs.Places.{port_place, registers-written, port_changed_on_ok, refused_here, unchanged_on_err}
 use Rattle.registers.proofs.registers.Registers.set_counters.Goals as goal
 

@@ -1,2 +1,0 @@
-pub mod Stills
-mod RowsStills

@@ -1,2 +1,0 @@
-mod PortRange
-mod Rows

@@ -1,3 +1,0 @@
-pub mod Reasons
-pub mod News
-pub mod Line

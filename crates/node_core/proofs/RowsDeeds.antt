@@ -1,0 +1,63 @@
+-- Deeds of one node, small enough to see through.
+use Rattle.std.proofs.Common.{◌≡◌, ℕ, List, [], ◌∷◌, false, refl, ap, rules, arith}
+use Rattle.std.proofs.lemmas.Grind.{common_steps}
+use Rattle.lock_desk.specs.Desk.{no_desk}
+use Rattle.node_core.specs.Site.{Site}
+use Rattle.node_core.specs.State.{LocalState, default_node}
+use Rattle.registers.specs.topology.declared.frame.Ranges.{Ranges}
+use Rattle.registers.specs.topology.declared.frame.Frame.{Frame}
+use Rattle.data_link.specs.Port.{frame_of}
+use Rattle.node_core.specs.Deeds.{Ticks, Sends, Takes, Asks, Leaves, Leads, taken_from, sent_to}
+
+-- node 1 of a line of three, which is not the root
+abbrev sizes : Ranges
+sizes = record { nodes = 3; counter = 5; ring = 13 }
+
+abbrev middle : Site
+middle = record { id = 1; is_root = false; ranges = sizes; lease = 0; neighbours = 0 ∷ 2 ∷ [] }
+
+abbrev start : LocalState
+start = default_node sizes
+
+abbrev with_waiting : List ℕ → LocalState
+with_waiting tickets = record start { desk = record no_desk { waiting = tickets } }
+
+-- two tickets ask, the one that asks again is refused, and the first leaves
+two-ask : Leads middle (Asks 7 ∷ Asks 8 ∷ Asks 7 ∷ Leaves 7 ∷ []) start (with_waiting (8 ∷ []))
+two-ask = (refl, (refl, (refl, refl)))
+
+-- in this order, and in no other
+not-the-other-first : Leads middle (Asks 7 ∷ Asks 8 ∷ []) start (with_waiting (8 ∷ 7 ∷ [])) → ⊥
+not-the-other-first h = let e : ◌≡◌ {A = List ℕ} (8 ∷ 7 ∷ []) (7 ∷ 8 ∷ []) = ap (λ s. s.desk.waiting) h.1.1 in absurd cc
+
+-- the frame of a port goes to that neighbour, and a ticket asks
+asks-and-sends : Leads middle (Sends 0 (frame_of (start.port 0)) ∷ Asks 7 ∷ []) start (with_waiting (7 ∷ []))
+asks-and-sends = search rules
+
+-- a ticket that is no number below 65536 does not ask
+no-such-ticket : Leads middle (Asks 65536 ∷ []) start (with_waiting (65536 ∷ [])) → ⊥
+no-such-ticket h = grind arith
+
+-- a node sends to neighbours, and takes from neighbours, alone
+not-to-others : (f : Frame) (last : LocalState) → Leads middle (Sends 1 f ∷ []) start last → ⊥
+not-to-others f last h = let a = h.0 in grind (arith, common_steps)
+
+not-from-others : (f : Frame) (last : LocalState) → Leads middle (Takes 1 f ∷ []) start last → ⊥
+not-from-others f last h = let a = h.0 in grind (arith, common_steps)
+
+-- it sends the frame of the port, as its state has it then, and no other
+other-number : (f : Frame) (last : LocalState) → f.seq ≡ 3 → Leads middle (Sends 0 f ∷ []) start last → ⊥
+other-number f last three h = let e = ap (λ g. g.seq) h.1 in grind (arith, common_steps)
+
+-- what is sent to a neighbour and what is taken from it are kept apart, and in order
+taken-apart : (f g : Frame) → taken_from 2 (Takes 2 f ∷ Sends 2 f ∷ Takes 0 f ∷ Takes 2 g ∷ []) ≡ f ∷ g ∷ []
+taken-apart f g = refl
+
+sent-apart : (f g : Frame) → sent_to 2 (Takes 2 f ∷ Sends 2 g ∷ Ticks ∷ Sends 0 f ∷ []) ≡ g ∷ []
+sent-apart f g = refl
+
+not-the-other-order : (f g : Frame) → f.seq ≡ 1 → g.seq ≡ 2 → taken_from 2 (Takes 2 f ∷ Takes 2 g ∷ []) ≡ g ∷ f ∷ [] → ⊥
+not-the-other-order f g one two e =
+    let same : ◌≡◌ {A = List Frame} (f ∷ g ∷ []) (g ∷ f ∷ []) = e in
+    let first : f ≡ g = cc in
+    let numbers = ap (λ x. x.seq) first in grind arith

@@ -1,1 +1,0 @@
-pub use Rattle.process_words.specs as process_words
