@@ -1,2 +1,3 @@
+mod Ids
 pub mod Words
 mod Rows

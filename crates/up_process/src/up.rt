@@ -1,8 +1,8 @@
 //! `up FILE DIR`: runs all nodes of a network as processes, until it is asked to end.
 ghost use Rattle.std.specs.Prelude.{◌≡◌, ◌≢◌, ◌⊎◌, ◌≤◌, ◌++◌, ◌∷◌, [], true, None, Some};
 ghost use Rattle.std.specs.Prelude.{OnOk, IfOk, IfErr};
-ghost use Rattle.std.specs.Prelude.{codes, decimal, length};
-ghost use Rattle.std.specs.List.{list_any};
+ghost use Rattle.std.specs.Prelude.{codes, decimal, length, map, All};
+ghost use Rattle.std.specs.List.{list_any, range_with_len};
 ghost use Rattle.std.specs.Process.{command_args};
 ghost use Rattle.process_parts.specs.node_keeping.Steps.{new_keeper, stage_after, deed_at, is_kept};
 ghost use Rattle.process_parts.specs.node_keeping.declared.keeper.KeeperStage.TheVariants.{Runs, Waits, Starts};
@@ -433,7 +433,9 @@ where
 
 /// All nodes of a network of `nodes` nodes, none of them started.
 fn all_new<P: OpenProcess + Drop>(alloc: Global, nodes: u16) -> Result<Vec<Kept<P>>, AllocError>
-    ensures { IfOk result (λ kept. length kept.items ≡ nodes) }
+    ensures ids { IfOk result (λ kept. map (λ one. one.id) kept.items ≡ range_with_len 0 nodes) }
+    ensures new { IfOk result (λ kept.
+        All (λ one. (one.keeper ≡ new_keeper) × (one.child ≡ None)) kept.items) }
 {
     let mut kept = Vec::with_capacity(alloc, usize::from(nodes))?;
     for id in 0..nodes {
