@@ -2,15 +2,11 @@
 use crate::lock::OmittedWords;
 use crate::{lock, status, stop};
 use clap::ArgMatches;
-use command_grammar::Grammar;
 use command_words::program::Runtime;
 use command_words::refusal::{self, Refusal};
 use command_words::{asks_for_lock, asks_for_version, ends, matches_of, say_version};
 use std::convert::AsStr;
 use std::process::ExitCode;
-
-/// What the commands take, in the order of the help.
-const COMMANDS: [&Grammar<'static>; 3] = [&lock::LOCK, &status::STATUS, &stop::STOP];
 
 /// What follows the commands in its help.
 const HELP: &str = "\
@@ -40,7 +36,12 @@ pub fn run_words<R: Runtime, S: AsStr>(rt: &R, words: &[S]) -> ExitCode {
 
 /// The same, once it is known that no word is lost.
 fn run_whole<R: Runtime, S: AsStr>(rt: &R, words: &[S]) -> ExitCode {
-    let matches = match matches_of(rt, words, HELP, &COMMANDS) {
+    let matches = match matches_of(
+        rt,
+        words,
+        HELP,
+        &[lock::grammar(), status::grammar(), stop::grammar()],
+    ) {
         Ok(matches) => matches,
         Err(status) => return status,
     };

@@ -1,5 +1,5 @@
 //! The words of `lock`.
-ghost use Rattle.std.specs.Prelude.{◌≡◌, IfOk, IfErr, map};
+ghost use Rattle.std.specs.Prelude.{◌≡◌, IfOk, IfErr, map, codes};
 ghost use Rattle.clap.specs.Matches.{found_of};
 ghost use Rattle.command_faults.specs.declared.fault.Fault.TheVariants.{Memory};
 ghost use Rattle.client_words.specs.Words.{texts};
@@ -23,7 +23,7 @@ use std::process::ExitCode;
 use std::rt::Env;
 
 /// What `lock` takes.
-pub const LOCK: Grammar<'static> = Grammar {
+static LOCK: Grammar<'static> = Grammar {
     name: "lock",
     about: "Runs a command while it holds the lock",
     help: "\
@@ -126,6 +126,13 @@ arguments. A signal that ends lock while it waits gives 128 plus its number.",
     excludes: &[("no-wait", "timeout")],
     ..FREE
 };
+
+/// What `lock` takes, for the parser.
+pub fn grammar() -> &'static Grammar<'static>
+    ensures { result.now.name.now ≡ codes "lock" }
+{
+    &LOCK
+}
 
 /// The word for the node that answers first.
 const ANY: &str = "any";

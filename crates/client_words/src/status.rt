@@ -1,5 +1,5 @@
 //! The words of `status`.
-ghost use Rattle.std.specs.Prelude.{◌≡◌, IfOk, IfErr};
+ghost use Rattle.std.specs.Prelude.{◌≡◌, IfOk, IfErr, codes};
 ghost use Rattle.clap.specs.Matches.{found_of};
 ghost use Rattle.client_words.specs.StatusWords.{AreIds, AreIdsRefused, IsAskedFor, IsFormOf};
 ghost use Rattle.client_words.specs.Interval.{interval};
@@ -17,7 +17,7 @@ use std::alloc::Global;
 use std::process::ExitCode;
 
 /// What `status` takes.
-pub const STATUS: Grammar<'static> = Grammar {
+static STATUS: Grammar<'static> = Grammar {
     name: "status",
     about: "Shows how nodes stand, and how many are privileged and lend",
     help: "\
@@ -114,6 +114,13 @@ invalid arguments; with --check those above; 0 for a watch that a key ended.",
     ],
     ..FREE
 };
+
+/// What `status` takes, for the parser.
+pub fn grammar() -> &'static Grammar<'static>
+    ensures { result.now.name.now ≡ codes "status" }
+{
+    &STATUS
+}
 
 /// The nodes in the commands that ask several.
 pub const IDS: Parameter<'static> = Parameter::Places(

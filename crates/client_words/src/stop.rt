@@ -1,4 +1,6 @@
 //! The words of `stop`.
+ghost use Rattle.std.specs.Prelude.{◌≡◌, codes};
+
 use crate::status::{IDS, ids};
 use clap::ArgMatches;
 use command_grammar::{FREE, Grammar, Number, Parameter, given_number, word};
@@ -8,7 +10,7 @@ pub use node_stopping::warn_of_runner;
 use std::process::ExitCode;
 
 /// What `stop` takes.
-pub const STOP: Grammar<'static> = Grammar {
+static STOP: Grammar<'static> = Grammar {
     name: "stop",
     about: "Ends nodes that run as processes, and waits until they have ended",
     help: "\
@@ -34,6 +36,13 @@ time, and a line on standard error says why; 2 invalid arguments.",
     ],
     ..FREE
 };
+
+/// What `stop` takes, for the parser.
+pub fn grammar() -> &'static Grammar<'static>
+    ensures { result.now.name.now ≡ codes "stop" }
+{
+    &STOP
+}
 
 /// How many seconds `stop` waits for a node.
 const TIMEOUT: Number<'static> = Number {

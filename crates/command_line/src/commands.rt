@@ -1,5 +1,5 @@
 //! What each command line does.
-ghost use Rattle.std.specs.Prelude.{◌≡◌, ◌||◌, codes};
+ghost use Rattle.std.specs.Prelude.{◌≡◌, ◌||◌, ◌∷◌, [], codes, map};
 ghost use Rattle.std.specs.Str.{bytes_eq};
 
 use crate::{cut, draw, gather, junk, measure, schedule, scramble, simulate, threads, worst};
@@ -14,27 +14,6 @@ use node_process::NodeProcess;
 use process_words::{node, up};
 use std::convert::AsStr;
 use std::process::ExitCode;
-
-/// What the commands of `tokentree` take, in the order of its help.
-const COMMANDS: [&Grammar<'static>; 17] = [
-    &bound::BOUND,
-    &simulate::SIMULATE,
-    &lock::LOCK,
-    &status::STATUS,
-    &scramble::SCRAMBLE,
-    &cut::CUT,
-    &junk::JUNK,
-    &node::NODE,
-    &up::UP,
-    &stop::STOP,
-    &network::NETWORK,
-    &schedule::SCHEDULE,
-    &measure::MEASURE,
-    &worst::WORST,
-    &draw::DRAW,
-    &gather::GATHER,
-    &threads::THREADS,
-];
 
 /// What follows the commands in its help.
 const HELP: &str = "\
@@ -58,12 +37,41 @@ pub fn run_words<R: Runtime, S: AsStr>(rt: &R, words: &[S], on_terminal: bool) -
     if is_of_service(words) {
         return run_part(rt, words);
     }
-    let matches = match matches_of(rt, words, HELP, &COMMANDS) {
+    let matches = match matches_of(rt, words, HELP, &commands()) {
         Ok(matches) => matches,
         Err(status) => return status,
     };
     let done = act(rt, &matches, on_terminal);
     ends(rt, done, &matches, false)
+}
+
+/// What the commands of `tokentree` take, in the order of its help.
+fn commands() -> [&'static Grammar<'static>; 17]
+    ensures { map (λ one. one.now.name.now) result
+        ≡ codes "bound" ∷ codes "simulate" ∷ codes "lock" ∷ codes "status" ∷ codes "scramble" ∷
+        codes "cut" ∷ codes "junk" ∷ codes "node" ∷ codes "up" ∷ codes "stop" ∷
+        codes "network" ∷ codes "schedule" ∷ codes "measure" ∷ codes "worst" ∷ codes "draw" ∷
+        codes "gather" ∷ codes "threads" ∷ [] }
+{
+    [
+        bound::grammar(),
+        simulate::grammar(),
+        lock::grammar(),
+        status::grammar(),
+        scramble::grammar(),
+        cut::grammar(),
+        junk::grammar(),
+        node::grammar(),
+        up::grammar(),
+        stop::grammar(),
+        network::grammar(),
+        schedule::grammar(),
+        measure::grammar(),
+        worst::grammar(),
+        draw::grammar(),
+        gather::grammar(),
+        threads::grammar(),
+    ]
 }
 
 /// Does what a line says if a part of the program has its command.

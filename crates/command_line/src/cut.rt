@@ -1,4 +1,6 @@
 //! The words of `cut`.
+ghost use Rattle.std.specs.Prelude.{◌≡◌, codes};
+
 use clap::ArgMatches;
 use client_words::stop::warn_of_runner;
 use command_grammar::{FREE, Grammar, Number, Parameter, given_number, word};
@@ -8,7 +10,7 @@ use std::process::ExitCode;
 use subcommands::cut;
 
 /// What `cut` takes.
-pub const CUT: Grammar<'static> = Grammar {
+static CUT: Grammar<'static> = Grammar {
     name: "cut",
     about: "Shortens a file to its first bytes, as a broken write leaves it",
     help: "\
@@ -26,6 +28,13 @@ Statuses: 0 done; 1 the file is missing, cannot be written or is no plain file;
     ],
     ..FREE
 };
+
+/// What `cut` takes, for the parser.
+pub fn grammar() -> &'static Grammar<'static>
+    ensures { result.now.name.now ≡ codes "cut" }
+{
+    &CUT
+}
 
 /// The number of bytes that a file is cut to.
 const LENGTH: Number<'static> = Number {

@@ -1,5 +1,5 @@
 //! The words of `draw`.
-ghost use Rattle.std.specs.Prelude.{IfOk, IfErr};
+ghost use Rattle.std.specs.Prelude.{◌≡◌, IfOk, IfErr, codes};
 ghost use Rattle.clap.specs.Matches.{found_of};
 ghost use Rattle.command_line.specs.Wanted.{IsFilmOf, IsFilmRefused, IsWantedOf, IsWantedRefused};
 ghost use Rattle.command_line.specs.Wanted.{IsWindowOf, IsWindowRefused};
@@ -17,7 +17,7 @@ use std::rt::Files;
 use std::time::Clock;
 
 /// What `draw` takes.
-pub const DRAW: Grammar<'static> = Grammar {
+static DRAW: Grammar<'static> = Grammar {
     name: "draw",
     about: "Draws a picture of a run: which nodes were wrong or lent, and when",
     help: "\
@@ -88,6 +88,13 @@ refused.",
     excludes: &[("film", "columns"), ("film", "layers")],
     ..FREE
 };
+
+/// What `draw` takes, for the parser.
+pub fn grammar() -> &'static Grammar<'static>
+    ensures { result.now.name.now ≡ codes "draw" }
+{
+    &DRAW
+}
 
 /// How many columns a picture may have.
 const COLUMNS: Number<'static> = Number {

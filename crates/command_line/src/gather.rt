@@ -1,5 +1,5 @@
 //! The words of `gather`.
-ghost use Rattle.std.specs.Prelude.{IfErr, IfOk};
+ghost use Rattle.std.specs.Prelude.{◌≡◌, IfErr, IfOk, codes};
 ghost use Rattle.command_words.specs.command_faults.Ends.{DoneMeansZeroOr};
 ghost use Rattle.clap.specs.Matches.{found_of};
 ghost use Rattle.command_line.specs.Gather.{IsStretchOf, IsStretchRefused};
@@ -12,7 +12,7 @@ use std::process::ExitCode;
 use std::rt::Files;
 
 /// What `gather` takes.
-pub const GATHER: Grammar<'static> = Grammar {
+static GATHER: Grammar<'static> = Grammar {
     name: "gather",
     about: "Prints what nodes did, by their records, as a list of events",
     help: "\
@@ -98,6 +98,13 @@ read to its end, and a line on standard error says which; 2 invalid arguments.",
     excludes: &[("from", "last")],
     ..FREE
 };
+
+/// What `gather` takes, for the parser.
+pub fn grammar() -> &'static Grammar<'static>
+    ensures { result.now.name.now ≡ codes "gather" }
+{
+    &GATHER
+}
 
 /// Seconds after the first entry.
 const FROM: Number<'static> = Number {

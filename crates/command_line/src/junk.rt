@@ -1,4 +1,5 @@
 //! The words of `junk`.
+ghost use Rattle.std.specs.Prelude.{◌≡◌, codes};
 ghost use Rattle.command_words.specs.command_faults.Ends.{DoneMeansZero};
 
 use crate::seeds::{PLACED_SEED, SEED_PLACE};
@@ -9,7 +10,7 @@ use std::process::ExitCode;
 use subcommands::junk;
 
 /// What `junk` takes.
-pub const JUNK: Grammar<'static> = Grammar {
+static JUNK: Grammar<'static> = Grammar {
     name: "junk",
     about: "Prints lines that mean nothing, for whatever reads lines",
     help: "\
@@ -27,6 +28,13 @@ Statuses: 0 done; 1 standard output failed; 2 invalid arguments.",
     ],
     ..FREE
 };
+
+/// What `junk` takes, for the parser.
+pub fn grammar() -> &'static Grammar<'static>
+    ensures { result.now.name.now ≡ codes "junk" }
+{
+    &JUNK
+}
 
 /// The numbers of lines of junk.
 const LINES: Number<'static> = Number {

@@ -20,7 +20,7 @@ use subcommands::measure::{Form, MeasurePlan};
 use subcommands::{PathFault, Scheduler, measure, measure_plot};
 
 /// What `measure` takes.
-pub const MEASURE: Grammar<'static> = Grammar {
+static MEASURE: Grammar<'static> = Grammar {
     name: "measure",
     about: "Scrambles a network, and shows after how many sweeps it worked again",
     help: "\
@@ -110,6 +110,13 @@ standard error says which, or a run did not serve; 2 invalid arguments.",
     ],
     ..FREE
 };
+
+/// What `measure` takes, for the parser.
+pub fn grammar() -> &'static Grammar<'static>
+    ensures { result.now.name.now ≡ codes "measure" }
+{
+    &MEASURE
+}
 
 /// How many runs are measured.
 const RUNS: Number<'static> = Number {

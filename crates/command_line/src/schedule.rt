@@ -1,5 +1,5 @@
 //! The words of `schedule`.
-ghost use Rattle.std.specs.Prelude.{IfOk, IfErr, codes};
+ghost use Rattle.std.specs.Prelude.{◌≡◌, IfOk, IfErr, codes};
 ghost use Rattle.command_words.specs.command_faults.Ends.{DoneMeansZero};
 ghost use Rattle.clap.specs.Matches.{found_of};
 ghost use Rattle.command_grammar.specs.Given.{IsGiven, IsRefused};
@@ -18,7 +18,7 @@ use subcommands::{Chances, schedule};
 
 /// What `schedule` takes. Options for random steps conflict with `--rounds` too: beside that, the
 /// parser does not require `--random`.
-pub const SCHEDULE: Grammar<'static> = Grammar {
+static SCHEDULE: Grammar<'static> = Grammar {
     name: "schedule",
     about: "Prints a list of events for simulate: damage, rounds, random steps",
     help: "\
@@ -92,6 +92,13 @@ standard error says which; 2 invalid arguments.",
     }),
     ..FREE
 };
+
+/// What `schedule` takes, for the parser.
+pub fn grammar() -> &'static Grammar<'static>
+    ensures { result.now.name.now ≡ codes "schedule" }
+{
+    &SCHEDULE
+}
 
 /// The seeds of a scramble.
 const SCRAMBLE: Number<'static> = Number {

@@ -1,4 +1,6 @@
 //! The words of `scramble`.
+ghost use Rattle.std.specs.Prelude.{◌≡◌, codes};
+
 use crate::seeds::{PLACED_SEED, SEED_PLACE};
 use clap::ArgMatches;
 use client_words::stop::warn_of_runner;
@@ -10,7 +12,7 @@ use std::process::ExitCode;
 use subcommands::{Fault, PathFault, scramble};
 
 /// What `scramble` takes.
-pub const SCRAMBLE: Grammar<'static> = Grammar {
+static SCRAMBLE: Grammar<'static> = Grammar {
     name: "scramble",
     about: "Writes a state file as a fault may leave it: any values in range",
     help: "\
@@ -35,6 +37,13 @@ writing, or is no plain file, it stays as it is.",
     ],
     ..FREE
 };
+
+/// What `scramble` takes, for the parser.
+pub fn grammar() -> &'static Grammar<'static>
+    ensures { result.now.name.now ≡ codes "scramble" }
+{
+    &SCRAMBLE
+}
 
 /// Does what the words of `scramble` say.
 pub fn run<R: Runtime>(rt: &R, given: &ArgMatches) -> Result<ExitCode, Refusal> {

@@ -1,4 +1,5 @@
 //! The words of `simulate`.
+ghost use Rattle.std.specs.Prelude.{◌≡◌, codes};
 ghost use Rattle.command_words.specs.command_faults.Ends.{DoneMeansZeroOr};
 
 use clap::ArgMatches;
@@ -11,7 +12,7 @@ use std::rt::Files;
 use subcommands::simulate;
 
 /// What `simulate` takes.
-pub const SIMULATE: Grammar<'static> = Grammar {
+static SIMULATE: Grammar<'static> = Grammar {
     name: "simulate",
     about: "Replays a list of events, and shows the state that they lead to",
     help: "\
@@ -114,6 +115,13 @@ refused.",
     ],
     ..FREE
 };
+
+/// What `simulate` takes, for the parser.
+pub fn grammar() -> &'static Grammar<'static>
+    ensures { result.now.name.now ≡ codes "simulate" }
+{
+    &SIMULATE
+}
 
 /// Does what the words of `simulate` say.
 pub fn run<R: Files + Input + Print + Eprint + AllocGlobal>(

@@ -1,4 +1,5 @@
 //! The words of `threads`.
+ghost use Rattle.std.specs.Prelude.{◌≡◌, codes};
 ghost use Rattle.command_words.specs.command_faults.Ends.{DoneMeansZero};
 
 use clap::ArgMatches;
@@ -9,7 +10,7 @@ use live_commands::threads;
 use std::process::ExitCode;
 
 /// What `threads` takes.
-pub const THREADS: Grammar<'static> = Grammar {
+static THREADS: Grammar<'static> = Grammar {
     name: "threads",
     about: "Runs each node on a thread of its own, and shows the state reached",
     help: "\
@@ -53,6 +54,13 @@ line on standard error says which; 2 invalid arguments.",
     ],
     ..FREE
 };
+
+/// What `threads` takes, for the parser.
+pub fn grammar() -> &'static Grammar<'static>
+    ensures { result.now.name.now ≡ codes "threads" }
+{
+    &THREADS
+}
 
 /// How many turns a node does on a thread.
 const TURNS: Number<'static> = Number {

@@ -1,5 +1,5 @@
 //! The words of `worst`.
-ghost use Rattle.std.specs.Prelude.{IfOk, IfErr};
+ghost use Rattle.std.specs.Prelude.{◌≡◌, IfOk, IfErr, codes};
 ghost use Rattle.command_words.specs.command_faults.Ends.{DoneMeansZero};
 ghost use Rattle.clap.specs.Matches.{found_of};
 ghost use Rattle.command_line.specs.Worst.{IsExtentOf, IsExtentRefused, IsSearchOf, IsSearchRefused};
@@ -14,7 +14,7 @@ use std::process::ExitCode;
 use subcommands::worst::{self, Extent, SearchPlan};
 
 /// What `worst` takes.
-pub const WORST: Grammar<'static> = Grammar {
+static WORST: Grammar<'static> = Grammar {
     name: "worst",
     about: "Searches for runs that recover late, and shows after how many sweeps",
     help: "\
@@ -74,6 +74,13 @@ standard error says which; 2 invalid arguments.",
     excludes: &[("minutes", "searches")],
     ..FREE
 };
+
+/// What `worst` takes, for the parser.
+pub fn grammar() -> &'static Grammar<'static>
+    ensures { result.now.name.now ≡ codes "worst" }
+{
+    &WORST
+}
 
 /// How many searches there are.
 const SEARCHES: Number<'static> = Number {

@@ -1,4 +1,5 @@
 //! The words of `bound`.
+ghost use Rattle.std.specs.Prelude.{◌≡◌, codes};
 ghost use Rattle.command_words.specs.command_faults.Ends.{DoneMeansZero};
 
 use clap::ArgMatches;
@@ -11,7 +12,7 @@ use std::process::ExitCode;
 use std::rt::Files;
 
 /// What `bound` takes.
-pub const BOUND: Grammar<'static> = Grammar {
+static BOUND: Grammar<'static> = Grammar {
     name: "bound",
     about: "Shows a network's numbers, and after how many sweeps its lock works",
     help: "\
@@ -95,6 +96,13 @@ window_us in microseconds, and recovers_within_ms and lends_within_ms.",
     ],
     ..FREE
 };
+
+/// What `bound` takes, for the parser.
+pub fn grammar() -> &'static Grammar<'static>
+    ensures { result.now.name.now ≡ codes "bound" }
+{
+    &BOUND
+}
 
 /// The name of a time in the help.
 const MILLISECONDS: &str = "MILLISECONDS";

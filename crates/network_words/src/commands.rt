@@ -1,15 +1,11 @@
 //! What the lines of `bound` and `network` do.
 use crate::{bound, network};
 use clap::ArgMatches;
-use command_grammar::Grammar;
 use command_words::program::Runtime;
 use command_words::refusal::Refusal;
 use command_words::{asks_for_version, ends, matches_of, say_version};
 use std::convert::AsStr;
 use std::process::ExitCode;
-
-/// What the commands take, in the order of the help.
-const COMMANDS: [&Grammar<'static>; 2] = [&bound::BOUND, &network::NETWORK];
 
 /// What follows the commands in its help.
 const HELP: &str = "\
@@ -25,7 +21,7 @@ pub fn run_words<R: Runtime, S: AsStr>(rt: &R, words: &[S]) -> ExitCode {
     if asks_for_version(words) {
         return say_version(rt);
     }
-    match matches_of(rt, words, HELP, &COMMANDS) {
+    match matches_of(rt, words, HELP, &[bound::grammar(), network::grammar()]) {
         Ok(matches) => ends(rt, act(rt, &matches), &matches, false),
         Err(status) => status,
     }

@@ -1,5 +1,5 @@
 //! The words of `network`.
-ghost use Rattle.std.specs.Prelude.{◌≡◌};
+ghost use Rattle.std.specs.Prelude.{◌≡◌, codes};
 ghost use Rattle.command_words.specs.command_faults.Ends.{DoneMeansZero};
 ghost use Rattle.network_words.specs.Named.{kind_named, most_edges, usual_edges};
 
@@ -15,7 +15,7 @@ use network_kinds::{Kind, least_nodes, most_nodes};
 use std::process::ExitCode;
 
 /// What `network` takes.
-pub const NETWORK: Grammar<'static> = Grammar {
+static NETWORK: Grammar<'static> = Grammar {
     name: "network",
     about: "Prints a network file: a line, ring, star, grid, tree or other graph",
     help: "\
@@ -62,6 +62,13 @@ Statuses: 0 done; 1 memory or standard output failed; 2 invalid arguments.",
     ],
     ..FREE
 };
+
+/// What `network` takes, for the parser.
+pub fn grammar() -> &'static Grammar<'static>
+    ensures { result.now.name.now ≡ codes "network" }
+{
+    &NETWORK
+}
 
 /// The roots in a network of two nodes; larger ones have more.
 const ROOT: Number<'static> = Number {

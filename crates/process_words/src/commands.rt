@@ -1,16 +1,12 @@
 //! What the lines of `node` and `up` do.
 use crate::{node, up};
 use clap::ArgMatches;
-use command_grammar::Grammar;
 use command_words::program::Runtime;
 use command_words::refusal::Refusal;
 use command_words::{asks_for_version, ends, matches_of, say_version};
 use process_parts::NodeWork;
 use std::convert::AsStr;
 use std::process::ExitCode;
-
-/// What the commands take, in the order of the help.
-const COMMANDS: [&Grammar<'static>; 2] = [&node::NODE, &up::UP];
 
 /// What follows the commands in its help.
 const HELP: &str = "\
@@ -26,7 +22,7 @@ pub fn run_words<R: Runtime, S: AsStr, N: NodeWork<R>>(rt: &R, words: &[S], node
     if asks_for_version(words) {
         return say_version(rt);
     }
-    match matches_of(rt, words, HELP, &COMMANDS) {
+    match matches_of(rt, words, HELP, &[node::grammar(), up::grammar()]) {
         Ok(matches) => ends(rt, act(rt, &matches, nodes), &matches, false),
         Err(status) => status,
     }

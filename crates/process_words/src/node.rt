@@ -1,5 +1,5 @@
 //! The words of `node`.
-ghost use Rattle.std.specs.Prelude.{IfOk, IfErr};
+ghost use Rattle.std.specs.Prelude.{◌≡◌, IfOk, IfErr, codes};
 ghost use Rattle.clap.specs.Matches.{found_of};
 ghost use Rattle.process_words.specs.NodeWords.{IsNodeOf, AreNodeWordsRefused};
 ghost use Rattle.command_words.specs.command_faults.Ends.{DoneMeansZeroOr};
@@ -14,7 +14,7 @@ use process_parts::{NodeWords, NodeWork};
 use std::process::ExitCode;
 
 /// What `node` takes.
-pub const NODE: Grammar<'static> = Grammar {
+static NODE: Grammar<'static> = Grammar {
     name: "node",
     about: "Runs one node of a network as a process, until it is stopped",
     help: "\
@@ -89,6 +89,13 @@ error says why; 2 invalid arguments.",
     needs: &[("record-size", "record")],
     ..FREE
 };
+
+/// What `node` takes, for the parser.
+pub fn grammar() -> &'static Grammar<'static>
+    ensures { result.now.name.now ≡ codes "node" }
+{
+    &NODE
+}
 
 /// What the words of `node` ask for.
 ///

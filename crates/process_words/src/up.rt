@@ -1,5 +1,5 @@
 //! The words of `up`.
-ghost use Rattle.std.specs.Prelude.{IfOk, IfErr};
+ghost use Rattle.std.specs.Prelude.{◌≡◌, IfOk, IfErr, codes};
 ghost use Rattle.clap.specs.Matches.{found_of};
 ghost use Rattle.process_words.specs.NodeWords.{AreUpWordsRefused, IsUpOf};
 ghost use Rattle.command_words.specs.command_faults.Ends.{DoneMeansZeroOr};
@@ -14,7 +14,7 @@ use std::process::ExitCode;
 use up_process::OwnProgram;
 
 /// What `up` takes.
-pub const UP: Grammar<'static> = Grammar {
+static UP: Grammar<'static> = Grammar {
     name: "up",
     about: "Runs all nodes of a network, and restarts what ends, until Ctrl-C",
     help: "\
@@ -51,6 +51,13 @@ no node stays up, and a line on standard error says why; 2 invalid arguments.",
     needs: &[("record-size", "record")],
     ..FREE
 };
+
+/// What `up` takes, for the parser.
+pub fn grammar() -> &'static Grammar<'static>
+    ensures { result.now.name.now ≡ codes "up" }
+{
+    &UP
+}
 
 /// What the words of `up` ask for.
 ///
