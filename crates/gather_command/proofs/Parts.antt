@@ -28,8 +28,11 @@ use Rattle.gather_command.specs.Woven.{world_in, IsAtStart, IsTurn, IsNoted, Has
 use Rattle.gather_command.specs.Scene.{events_to}
 use Rattle.gather_command.specs.declared.fault.GatherFault.TheVariants as fault
 use Rattle.gather_command.specs.Gathered.{AreOpened, IsRefused}
-use Rattle.gather_command.specs.Part.{IsFromThenOn, seen_from, IsGatheredOf, IsGatheredFrom, IsWovenFrom}
-use Rattle.gather_command.proofs.Gathers.{record-as, opened-before, fault-refused}
+use Rattle.gather_command.specs.declared.stretch.TimeStretch.{TimeStretch}
+use Rattle.gather_command.specs.declared.stretch.TimeStretch.TheVariants as stretch
+use Rattle.gather_command.specs.Stretch.{after_first, least_of}
+use Rattle.gather_command.specs.Part.{IsFromThenOn, seen_from, IsGatheredOf, IsGatheredFrom, IsGatheredAs, IsBeforeLast, IsWovenFrom}
+use Rattle.gather_command.proofs.Gathers.{record-as, reads-before, opened-before, fault-refused}
 use Rattle.gather_command.proofs.Weaves.{heads-agree, one-leads, none-leads, both-lead, was-all}
 
 -- ---- entries pass, and their events go nowhere
@@ -157,18 +160,23 @@ from-counted C takes failures net instant start final before after summary diffe
 
 -- ---- records that were opened
 
-pub records-as : (R S : ℕ → Side → List Entry → Option FlawKind → Type 0) (mark v : ℕ) (ess : List (List Entry)) (flaws : List Flaw)
+records-as : (R S : ℕ → Side → List Entry → Option FlawKind → Type 0) (mark v : ℕ) (ess : List (List Entry)) (flaws : List Flaw)
     → ((u : ℕ) (s : Side) (xs : List Entry) (f : Option FlawKind) → R u s xs f → S u s xs f)
     → AreRecordsOf R mark v ess flaws → AreRecordsOf S mark v ess flaws
 records-as R S mark v all both m NoMore = NoMore
 records-as R S mark v all both m (OneMore {es = es} {ess = ess} flaws more x xs) =
     OneMore flaws more (record-as R S mark v es flaws (λ s es f y. m v s es f y) x) (records-as R S mark (suc v) ess more m xs)
 
-pub opened-as : (C : Type 0) (R S : ℕ → Side → List Entry → Option FlawKind → Type 0) (mark v : ℕ) (rs : List NodeRecordView)
-    → ((u : ℕ) (s : Side) (xs : List Entry) (f : Option FlawKind) → R u s xs f → S u s xs f)
-    → AreOpened C R mark v rs → AreOpened C S mark v rs
-opened-as C R S mark v rs m opened entries flaws come =
-    let (records, n) = opened entries flaws come in (records-as R S mark v entries flaws m records, n)
+-- what was opened afterwards gives what could be read before
+pub opened-as : {S : Type 0} (before after : ℕ → Side → Opened S → Type 0) (rest : S → Option (List ℕ)) (C : Type 0)
+    → OpensNoMore before after → (mark v : ℕ) (rs : List NodeRecordView)
+    → AreOpened C (Reads after rest C) mark v rs → AreOpened C (Reads before rest C) mark v rs
+opened-as before after rest C same mark v rs opened entries flaws come =
+    let (records, n) = opened entries flaws come in (
+      records-as (Reads after rest C) (Reads before rest C) mark v entries flaws
+          (λ u s xs f x. reads-before before after rest C same u s xs f x) records,
+      n,
+    )
 
 pub fault-before : {S : Type 0} (before after : ℕ → Side → Opened S → Type 0) (rest : S → Option (List ℕ)) (C : Type 0)
     → OpensNoMore before after → (mark n : ℕ) (why : GatherFault)
@@ -177,7 +185,7 @@ fault-before before after rest C same mark n why (v, l, x) =
     (v, l, opened-before before after rest C same mark mark v refl (Err why) x)
 
 -- from an instant that the entries say
-pub gathered-from : {K : Type 0} (C : Type 0) (R : ℕ → Side → List Entry → Option FlawKind → Type 0)
+gathered-from : {K : Type 0} (C : Type 0) (R : ℕ → Side → List Entry → Option FlawKind → Type 0)
     (takes : K → List Event → K → Type 0) (net : Network) (BeginsAt : List (List Entry) → ℕ → Type 0) (instant : ℕ)
     (nodes : List NodeRecordView) (before after : K) (summary : RecordingSummary) (differences : List Difference) (flaws : List Flaw)
     → AreOpened C R (network_mark net) 0 nodes → length nodes ≡ net.nodes
@@ -194,6 +202,25 @@ gathered-from C R takes net BeginsAt instant nodes before after summary differen
       begins = begins x.entries (heads-agree C nodes x.entries flaws x.come);
       part = x.part;
     }
+
+-- where a stretch of records begins that come next with these entries
+abbrev pub BeginsAs : TimeStretch → (ℕ → Side → List Entry → Option FlawKind → Type 0) → Network → List (Option Entry) → ℕ → Type 0
+BeginsAs stretch.Whole R net heads instant = ⊥
+BeginsAs (stretch.From seconds) R net heads instant = instant ≡ after_first (least_of heads) seconds
+BeginsAs (stretch.Last seconds) R net heads instant = IsBeforeLast R net seconds instant
+
+pub gathered-as : {K : Type 0} (C : Type 0) (R : ℕ → Side → List Entry → Option FlawKind → Type 0)
+    (takes : K → List Event → K → Type 0) (net : Network) (s : TimeStretch) (instant : ℕ)
+    (nodes : List NodeRecordView) (before after : K) (summary : RecordingSummary) (differences : List Difference) (flaws : List Flaw)
+    → AreOpened C R (network_mark net) 0 nodes → length nodes ≡ net.nodes → BeginsAs s R net (heads_in nodes) instant
+    → IsGatheredOf C takes net instant nodes before summary differences flaws after
+    → IsGatheredAs s R takes net before summary differences flaws after
+gathered-as C R takes net stretch.Whole instant nodes before after summary differences flaws opened number begins x = absurd begins
+gathered-as C R takes net (stretch.From seconds) instant nodes before after summary differences flaws opened number begins x =
+    gathered-from C R takes net _ instant nodes before after summary differences flaws opened number
+    (λ entries same. begins ∙ ap (λ (hs : List (Option Entry)). after_first (least_of hs) seconds) (sym same)) x
+gathered-as C R takes net (stretch.Last seconds) instant nodes before after summary differences flaws opened number begins x =
+    gathered-from C R takes net _ instant nodes before after summary differences flaws opened number (λ entries same. begins) x
 
 -- why the latest entry was not found: nothing was written
 pub many-refused : {K : Type 0} (R : ℕ → Side → List Entry → Option FlawKind → Type 0) (B : ℕ → Side → Entry → Type 0)

@@ -3,13 +3,13 @@ ghost use Rattle.std.specs.Prelude.{◌≡◌, ◌≤◌, ◌++◌, ◌∷◌, [
 ghost use Rattle.record_pages.specs.byte_streams.Streams.{CountsFailures};
 ghost use Rattle.node_recorder.specs.Turns.{network_mark};
 ghost use Rattle.gather_command.specs.declared.fault.GatherFault.TheVariants.{Memory, Output};
-ghost use Rattle.gather_command.specs.Reading.{MayFail, Reads, Begins, OpensNoMore};
+ghost use Rattle.gather_command.specs.Reading.{MayFail, Reads, Begins};
 ghost use Rattle.gather_command.specs.Records.{IsFault};
 ghost use Rattle.gather_command.specs.Weave.{moment_at};
 ghost use Rattle.gather_command.specs.Woven.{IsOneWoven, AreAllWoven, IsTurn, HasWoven, IsBroken};
 ghost use Rattle.gather_command.specs.Woven.{world_in};
-ghost use Rattle.gather_command.specs.Gathered.{IsGathered, IsRefused, AreOpened, IsFinished};
-ghost use Rattle.gather_command.specs.Gathered.{IsGatheredWhole, IsWovenOut};
+ghost use Rattle.gather_command.specs.Gathered.{AreOpened, IsFinished, IsGatheredWhole};
+ghost use Rattle.gather_command.specs.Gathered.{IsWovenOut};
 
 use crate::damage::Difference;
 use crate::fault::{Flaw, GatherFault};
@@ -51,34 +51,8 @@ impl From<Failed> for GatherFault {
     }
 }
 
-/// Weaves the records of all nodes of a network into one list of events, which go to the sink. A
-/// frame is taken after it was sent, if it was; else the earliest comes next.
-///
-/// # Errors
-/// If a node has no record, if a file cannot be read, or is none of this network, if the sink
-/// fails, if memory runs out, or if there are too many entries. But in the last three cases nothing is
-/// written.
-pub fn gather<R: Records, S: EventSink>(
-    alloc: Global,
-    net: &Net,
-    records: &mut R,
-    sink: &mut S,
-) -> Result<Gathered, GatherFault>
-    // The summary counts the events; each difference is one of a node, and each flaw one of a file.
-    ensures gathered { IfOk result (λ g.
-        IsGathered (Reads (R.opens records.old) R.File.rest (MayFail R.File.failures)) S.takes
-        net.now sink.old g.summary g.differences.items g.flaws.items sink.new) }
-    ensures counted { OnOk result (S.failures sink.old ≤ S.failures sink.new) }
-    ensures refused { IfErr result (λ fault.
-        IsRefused (Reads (R.opens records.old) R.File.rest (MayFail R.File.failures))
-        (Begins (R.opens records.old) R.File.rest) S.failures net.now sink.old fault sink.new) }
-{
-    let nodes = open_all(alloc, net, records)?;
-    gather_whole(alloc, net, nodes, sink)
-}
-
 /// Gathers all that is to come of records that were opened.
-fn gather_whole<F: Source + Drop, S: EventSink>(
+pub fn gather_whole<F: Source + Drop, S: EventSink>(
     alloc: Global,
     net: &Net,
     nodes: Vec<NodeRecord<F>>,

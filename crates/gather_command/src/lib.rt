@@ -53,11 +53,11 @@ pub use damage::Difference;
 pub use fault::{Flaw, FlawKind, GatherFault, RecordFile};
 pub use flight_recorder::Side;
 pub use folder::FolderRecords;
-pub use gathered::{Gathered, gather};
+pub use gathered::Gathered;
 pub use lines::{
     DifferenceLine, DifferencesLine, FlawLine, FoundLine, GatherFaultLine, LoansLine, StretchLine,
 };
-pub use part::gather_stretch;
+pub use part::{gather, gather_stretch};
 pub use record_gathering::Field;
 pub use records::{Opened, Records};
 pub use stretch::TimeStretch;

@@ -1,15 +1,14 @@
-//! A stretch of the records of all nodes, woven into one list of events that begins in the midst.
+//! The records of all nodes, or a stretch of them, woven into one list of events.
 ghost use Rattle.std.specs.Prelude.{◌≡◌, ◌≤◌, ◌∷◌, [], ℕ, List, IfOk, IfErr, OnOk, Some, length};
 ghost use Rattle.gather_command.specs.Reading.{MayFail, Reads, Begins};
 ghost use Rattle.gather_command.specs.Weave.{Moment, moment_at};
 ghost use Rattle.gather_command.specs.Woven.{world_in, IsTurn, HasLed, IsOnePassed, ArePassed};
 ghost use Rattle.gather_command.specs.Woven.{IsBroken};
-ghost use Rattle.gather_command.specs.Gathered.{IsRefused};
+ghost use Rattle.gather_command.specs.Gathered.{IsGathered, IsRefused};
 ghost use Rattle.gather_command.specs.Part.{IsGatheredOf, IsGatheredAs, IsWovenFrom, IsSetThere};
-ghost use Rattle.gather_command.specs.declared.stretch.TimeStretch.TheVariants.{From, Last};
 
 use crate::fault::GatherFault;
-use crate::gathered::{Gathered, gather, open_all, weave_out};
+use crate::gathered::{Gathered, gather_whole, open_all, weave_out};
 use crate::node_record::NodeRecord;
 use crate::records::Records;
 use crate::scene::set_up;
@@ -20,6 +19,31 @@ use record_gathering::Event;
 use record_pages::{Entry, Source};
 use std::alloc::{AllocError, Global};
 use topology::Net;
+
+/// Weaves the records of all nodes of a network into one list of events, which go to the sink. A
+/// frame is taken after it was sent, if it was; else the earliest comes next.
+///
+/// # Errors
+/// If a node has no record, if a file cannot be read, or is none of this network, if the sink
+/// fails, if memory runs out, or if there are too many entries. But in the last three cases nothing is
+/// written.
+pub fn gather<R: Records, S: EventSink>(
+    alloc: Global,
+    net: &Net,
+    records: &mut R,
+    sink: &mut S,
+) -> Result<Gathered, GatherFault>
+    // The summary counts the events; each difference is one of a node, and each flaw one of a file.
+    ensures gathered { IfOk result (λ g.
+        IsGathered (Reads (R.opens records.old) R.File.rest (MayFail R.File.failures)) S.takes
+        net.now sink.old g.summary g.differences.items g.flaws.items sink.new) }
+    ensures counted { OnOk result (S.failures sink.old ≤ S.failures sink.new) }
+    ensures refused { IfErr result (λ fault.
+        IsRefused (Reads (R.opens records.old) R.File.rest (MayFail R.File.failures))
+        (Begins (R.opens records.old) R.File.rest) S.failures net.now sink.old fault sink.new) }
+{
+    gather_stretch(alloc, net, records, TimeStretch::Whole, sink)
+}
 
 /// Weaves a stretch of the records of all nodes of a network into one list of events, which go to the
 /// sink. The order is that of [`gather`]. If entries come before the stretch, the list begins with events
@@ -45,54 +69,17 @@ pub fn gather_stretch<R: Records, S: EventSink>(
         IsRefused (Reads (R.opens records.old) R.File.rest (MayFail R.File.failures))
         (Begins (R.opens records.old) R.File.rest) S.failures net.now sink.old fault sink.new) }
 {
-    match stretch {
-        TimeStretch::Whole => gather(alloc, net, records, sink),
-        TimeStretch::From(seconds) => gather_from(alloc, net, records, seconds, sink),
-        TimeStretch::Last(seconds) => gather_last(alloc, net, records, seconds, sink),
-    }
-}
-
-/// Gathers what comes so many seconds after the earliest entry of all records, and later.
-fn gather_from<R: Records, S: EventSink>(
-    alloc: Global,
-    net: &Net,
-    records: &mut R,
-    seconds: u32,
-    sink: &mut S,
-) -> Result<Gathered, GatherFault>
-    ensures gathered { IfOk result (λ g. IsGatheredAs (From seconds)
-        (Reads (R.opens records.old) R.File.rest (MayFail R.File.failures)) S.takes
-        net.now sink.old g.summary g.differences.items g.flaws.items sink.new) }
-    ensures counted { OnOk result (S.failures sink.old ≤ S.failures sink.new) }
-    ensures refused { IfErr result (λ fault.
-        IsRefused (Reads (R.opens records.old) R.File.rest (MayFail R.File.failures))
-        (Begins (R.opens records.old) R.File.rest) S.failures net.now sink.old fault sink.new) }
-{
+    // For the last seconds all records are read to their ends first.
+    let last = match stretch {
+        TimeStretch::Last(_) => latest(alloc, net, records)?,
+        TimeStretch::Whole | TimeStretch::From(_) => 0,
+    };
     let nodes = open_all(alloc, net, records)?;
-    let instant = after_first(earliest(&nodes), seconds);
-    gather_opened(alloc, net, nodes, instant, sink)
-}
-
-/// Gathers what comes so many seconds before the latest entry of all records, and later. All records are
-/// read to their ends first.
-fn gather_last<R: Records, S: EventSink>(
-    alloc: Global,
-    net: &Net,
-    records: &mut R,
-    seconds: u32,
-    sink: &mut S,
-) -> Result<Gathered, GatherFault>
-    ensures gathered { IfOk result (λ g. IsGatheredAs (Last seconds)
-        (Reads (R.opens records.old) R.File.rest (MayFail R.File.failures)) S.takes
-        net.now sink.old g.summary g.differences.items g.flaws.items sink.new) }
-    ensures counted { OnOk result (S.failures sink.old ≤ S.failures sink.new) }
-    ensures refused { IfErr result (λ fault.
-        IsRefused (Reads (R.opens records.old) R.File.rest (MayFail R.File.failures))
-        (Begins (R.opens records.old) R.File.rest) S.failures net.now sink.old fault sink.new) }
-{
-    let last = latest(alloc, net, records)?;
-    let nodes = open_all(alloc, net, records)?;
-    let instant = before_last(last, seconds);
+    let instant = match stretch {
+        TimeStretch::Whole => return gather_whole(alloc, net, nodes, sink),
+        TimeStretch::From(seconds) => after_first(earliest(&nodes), seconds),
+        TimeStretch::Last(seconds) => before_last(last, seconds),
+    };
     gather_opened(alloc, net, nodes, instant, sink)
 }
 
