@@ -1,9 +1,6 @@
 //! What is said of records on standard error.
-ghost use Rattle.std.specs.Prelude.{◌≡◌, Some};
+ghost use Rattle.std.specs.Prelude.{◌≡◌};
 ghost use Rattle.flight_recorder.specs.Names.{side_number};
-ghost use Rattle.gather_command.specs.Lines.{file_name, fault_line, flaw_line, stretch_line};
-ghost use Rattle.gather_command.specs.Lines.{found_line, lasted_text, loans_line, field_text};
-ghost use Rattle.gather_command.specs.Lines.{difference_line, differences_line};
 
 use crate::damage::Difference;
 use crate::fault::{Flaw, FlawKind, GatherFault, RecordFile};
@@ -30,6 +27,9 @@ struct RecordFileName<'a> {
 }
 
 impl fmt::Display for RecordFileName<'_> {
+    ghost use Rattle.std.specs.Prelude.{Some};
+    ghost use Rattle.gather_command.specs.Lines.{file_name};
+
     ghost output = { λ name. Some (file_name name.dir.now name.file) };
 
     fn fmt<W: fmt::Write>(&self, f: &mut fmt::Formatter<W>) -> fmt::Result {
@@ -49,6 +49,9 @@ pub struct GatherFaultLine<'a> {
 }
 
 impl fmt::Display for GatherFaultLine<'_> {
+    ghost use Rattle.std.specs.Prelude.{Some};
+    ghost use Rattle.gather_command.specs.Lines.{fault_line};
+
     ghost output = { λ line. Some (fault_line line.dir.now line.fault) };
 
     fn fmt<W: fmt::Write>(&self, f: &mut fmt::Formatter<W>) -> fmt::Result {
@@ -92,6 +95,9 @@ pub struct FlawLine<'a> {
 }
 
 impl fmt::Display for FlawLine<'_> {
+    ghost use Rattle.std.specs.Prelude.{Some};
+    ghost use Rattle.gather_command.specs.Lines.{flaw_line};
+
     ghost output = { λ line. Some (flaw_line line.dir.now line.flaw) };
 
     fn fmt<W: fmt::Write>(&self, f: &mut fmt::Formatter<W>) -> fmt::Result {
@@ -116,6 +122,9 @@ impl fmt::Display for FlawLine<'_> {
 pub struct StretchLine(pub RecordingSummary);
 
 impl fmt::Display for StretchLine {
+    ghost use Rattle.std.specs.Prelude.{Some};
+    ghost use Rattle.gather_command.specs.Lines.{stretch_line};
+
     ghost output = { λ line. Some (stretch_line line.0) };
 
     fn fmt<W: fmt::Write>(&self, f: &mut fmt::Formatter<W>) -> fmt::Result {
@@ -132,6 +141,9 @@ impl fmt::Display for StretchLine {
 pub struct FoundLine(pub EventCounts);
 
 impl fmt::Display for FoundLine {
+    ghost use Rattle.std.specs.Prelude.{Some};
+    ghost use Rattle.gather_command.specs.Lines.{found_line};
+
     ghost output = { λ line. Some (found_line line.0) };
 
     fn fmt<W: fmt::Write>(&self, f: &mut fmt::Formatter<W>) -> fmt::Result {
@@ -148,6 +160,9 @@ impl fmt::Display for FoundLine {
 struct LastedText(Option<Lasted>);
 
 impl fmt::Display for LastedText {
+    ghost use Rattle.std.specs.Prelude.{Some};
+    ghost use Rattle.gather_command.specs.Lines.{lasted_text};
+
     ghost output = { λ text. Some (lasted_text text.0) };
 
     fn fmt<W: fmt::Write>(&self, f: &mut fmt::Formatter<W>) -> fmt::Result {
@@ -167,6 +182,9 @@ impl fmt::Display for LastedText {
 pub struct LoansLine(pub RecordingSummary);
 
 impl fmt::Display for LoansLine {
+    ghost use Rattle.std.specs.Prelude.{Some};
+    ghost use Rattle.gather_command.specs.Lines.{loans_line};
+
     ghost output = { λ line. Some (loans_line line.0) };
 
     fn fmt<W: fmt::Write>(&self, f: &mut fmt::Formatter<W>) -> fmt::Result {
@@ -184,6 +202,9 @@ impl fmt::Display for LoansLine {
 struct FieldText(Field);
 
 impl fmt::Display for FieldText {
+    ghost use Rattle.std.specs.Prelude.{Some};
+    ghost use Rattle.gather_command.specs.Lines.{field_text};
+
     ghost output = { λ text. Some (field_text text.0) };
 
     fn fmt<W: fmt::Write>(&self, f: &mut fmt::Formatter<W>) -> fmt::Result {
@@ -214,6 +235,9 @@ impl fmt::Display for FieldText {
 pub struct DifferenceLine(pub Difference);
 
 impl fmt::Display for DifferenceLine {
+    ghost use Rattle.std.specs.Prelude.{Some};
+    ghost use Rattle.gather_command.specs.Lines.{difference_line};
+
     ghost output = { λ line. Some (difference_line line.0) };
 
     fn fmt<W: fmt::Write>(&self, f: &mut fmt::Formatter<W>) -> fmt::Result {
@@ -233,6 +257,9 @@ pub struct DifferencesLine {
 }
 
 impl fmt::Display for DifferencesLine {
+    ghost use Rattle.std.specs.Prelude.{Some};
+    ghost use Rattle.gather_command.specs.Lines.{differences_line};
+
     ghost output = { λ line. Some (differences_line line.count line.named) };
 
     fn fmt<W: fmt::Write>(&self, f: &mut fmt::Formatter<W>) -> fmt::Result {
