@@ -1,23 +1,23 @@
 //! The records of all nodes of a network, woven into one list of events.
 //!
-//! [`gather`] opens the records of all nodes, reads them a page at a time, and has each entry become
-//! events, in an order in which each frame is taken after it was sent. Whoever plays the events finds
-//! each node in the states that were noted. It is over a door, [`Records`], which is a folder in a
+//! [`gather_stretch`] opens the records of all nodes, reads them a page at a time, and has each entry
+//! become events, in an order in which each frame is taken after it was sent. Whoever plays the events
+//! finds each node in the states that were noted. It is over a door, [`Records`], which is a folder in a
 //! program and memory in a test:
 //!
 //! ```
-//! let gathered = gather(alloc, &net, &mut FolderRecords::new(rt, "run"), &mut sink)?;
+//! let (all, mut records) = (TimeStretch::Whole, FolderRecords::new(rt, "run"));
+//! let gathered = gather_stretch(alloc, &net, &mut records, all, &mut sink)?;
 //! println!("{}", StretchLine(gathered.summary));      // nodes 3, events 1200, time 5000000 microseconds
-//! let all = TimeStretch::Whole;
 //! let status = command::run(rt, "run", None, all)?;       // prints the events; 1 if a record is damaged
 //! ```
 //!
-//! [`gather_stretch`] gathers a [`TimeStretch`] of the records alone: what comes so many seconds after the
-//! earliest entry of all records, or before the latest one, and later. Its list begins with events that
-//! set up the network as it stood when the first entry of the stretch came next: edges that had joined or
-//! parted, each node's state, and what was under way. So whoever plays the list needs no more than the
-//! network. All that comes before the stretch is woven too, but its events go nowhere. For the last seconds
-//! the records are read twice.
+//! A [`TimeStretch`] may be shorter than the records: it takes what comes so many seconds after the earliest
+//! entry of all records, or before the latest one, and later. Then the list begins with events that set up
+//! the network as it stood when the first entry of the stretch came next: edges that had joined or parted,
+//! each node's state, and what was under way. So whoever plays the list needs no more than the network. All
+//! that comes before the stretch is woven too, but its events go nowhere. For the last seconds the records
+//! are read twice.
 //!
 //! A record that is missing, empty, of another network or of another node is a [`GatherFault`], before
 //! anything is written. One that ends within an entry, or is spoiled from a place on, is read up to
@@ -57,7 +57,7 @@ pub use gathered::Gathered;
 pub use lines::{
     DifferenceLine, DifferencesLine, FlawLine, FoundLine, GatherFaultLine, LoansLine, StretchLine,
 };
-pub use part::{gather, gather_stretch};
+pub use part::gather_stretch;
 pub use record_gathering::Field;
 pub use records::{Opened, Records};
 pub use stretch::TimeStretch;

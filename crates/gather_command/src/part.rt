@@ -4,7 +4,7 @@ ghost use Rattle.gather_command.specs.Reading.{MayFail, Reads, Begins};
 ghost use Rattle.gather_command.specs.Weave.{Moment, moment_at};
 ghost use Rattle.gather_command.specs.Woven.{world_in, IsTurn, HasLed, IsOnePassed, ArePassed};
 ghost use Rattle.gather_command.specs.Woven.{IsBroken};
-ghost use Rattle.gather_command.specs.Gathered.{IsGathered, IsRefused};
+ghost use Rattle.gather_command.specs.Gathered.{IsRefused};
 ghost use Rattle.gather_command.specs.Part.{IsGatheredOf, IsGatheredAs, IsWovenFrom, IsSetThere};
 
 use crate::fault::GatherFault;
@@ -20,40 +20,17 @@ use record_pages::{Entry, Source};
 use std::alloc::{AllocError, Global};
 use topology::Net;
 
-/// Weaves the records of all nodes of a network into one list of events, which go to the sink. A
-/// frame is taken after it was sent, if it was; else the earliest comes next.
+/// Weaves the records of all nodes of a network, or a stretch of them, into one list of events, which
+/// go to the sink. A frame is taken after it was sent, if it was; else the earliest comes next. If
+/// entries come before the stretch, the list begins with events that set up the network as it stood when
+/// the first entry of the stretch came next: first edges that had joined or parted, then the state of
+/// each node, and last what was under way. The summary counts them among its events and harms, but no
+/// frame that was under way among those that nobody sent. It counts nothing else of what was woven
+/// before; a loan that had begun counts from its node's next entry on.
 ///
 /// # Errors
 /// If a node has no record, if a file cannot be read, or is none of this network, if the sink
-/// fails, if memory runs out, or if there are too many entries. But in the last three cases nothing is
-/// written.
-pub fn gather<R: Records, S: EventSink>(
-    alloc: Global,
-    net: &Net,
-    records: &mut R,
-    sink: &mut S,
-) -> Result<Gathered, GatherFault>
-    // The summary counts the events; each difference is one of a node, and each flaw one of a file.
-    ensures gathered { IfOk result (λ g.
-        IsGathered (Reads (R.opens records.old) R.File.rest (MayFail R.File.failures)) S.takes
-        net.now sink.old g.summary g.differences.items g.flaws.items sink.new) }
-    ensures counted { OnOk result (S.failures sink.old ≤ S.failures sink.new) }
-    ensures refused { IfErr result (λ fault.
-        IsRefused (Reads (R.opens records.old) R.File.rest (MayFail R.File.failures))
-        (Begins (R.opens records.old) R.File.rest) S.failures net.now sink.old fault sink.new) }
-{
-    gather_stretch(alloc, net, records, TimeStretch::Whole, sink)
-}
-
-/// Weaves a stretch of the records of all nodes of a network into one list of events, which go to the
-/// sink. The order is that of [`gather`]. If entries come before the stretch, the list begins with events
-/// that set up the network as it stood when the first entry of the stretch came next: first edges that had
-/// joined or parted, then the state of each node, and last what was under way. The summary counts them
-/// among its events and harms, but no frame that was under way among those that nobody sent. It counts
-/// nothing else of what was woven before; a loan that had begun counts from its node's next entry on.
-///
-/// # Errors
-/// As [`gather`].
+/// fails, if memory runs out, or if there are too many entries.
 pub fn gather_stretch<R: Records, S: EventSink>(
     alloc: Global,
     net: &Net,
@@ -61,6 +38,7 @@ pub fn gather_stretch<R: Records, S: EventSink>(
     stretch: TimeStretch,
     sink: &mut S,
 ) -> Result<Gathered, GatherFault>
+    // The summary counts the events; each difference is one of a node, and each flaw one of a file.
     ensures gathered { IfOk result (λ g. IsGatheredAs stretch
         (Reads (R.opens records.old) R.File.rest (MayFail R.File.failures)) S.takes
         net.now sink.old g.summary g.differences.items g.flaws.items sink.new) }
