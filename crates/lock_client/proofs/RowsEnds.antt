@@ -1,15 +1,19 @@
 -- Small examples of how a command ended, of the status that follows, and of lines; and some that fail.
-use Rattle.std.proofs.Common.{◌≡◌, [], ◌∷◌, map, None, Some, refl, codes, arith}
+use Rattle.std.proofs.Common.{◌≡◌, ℕ, false, List, [], ◌∷◌, map, None, Some, refl, codes, arith}
 use Rattle.std.specs.Process.{status_bits}
 use Rattle.std.specs.declared.process.status.ExitStatus.{ExitStatus}
 use Rattle.held_signals.specs.declared.signals.Signal.TheVariants.{Terminate}
 use Rattle.lock_client.specs.declared.answer.Answer.TheVariants as answer
+use Rattle.lock_client.specs.declared.guard.GuardEvent.TheVariants.{Said, Closed, GraceIsOver}
+use Rattle.lock_client.specs.declared.guard.GuardStage.TheVariants as guard
 use Rattle.lock_client.specs.declared.client.ClientEvent.TheVariants.{Line, Gone, TimeIsUp}
 use Rattle.lock_client.specs.declared.client.ClientDeed.TheVariants.{Wait, AskAgain, ConnectAgain}
 use Rattle.lock_client.specs.declared.outcome.CommandEnd.TheVariants.{Exited, Killed, CannotRun}
 use Rattle.lock_client.specs.declared.outcome.Outcome.TheVariants.{Done, Lost, NotInTime, NoService, Stopped}
 use Rattle.lock_client.specs.declared.words.GuardWord.TheVariants as word
+use Rattle.lock_client.specs.Courses.{after_all, deeds_of}
 use Rattle.lock_client.specs.Ends.{command_end}
+use Rattle.lock_client.specs.Guards.{guard_after}
 use Rattle.lock_client.specs.Lines.{first_known, known_answers}
 use Rattle.lock_client.specs.Outcome.{chosen_status}
 use Rattle.lock_client.specs.Steps.{asking_deed}
@@ -68,3 +72,31 @@ first-known = refl
 
 first_not-among : first_known (codes "full") (answer.Lost ∷ answer.Granted ∷ []) ≡ answer.Other
 first_not-among = refl
+
+-- the guard, by its stage: once its client is gone it looks for the command, and kills what was asked in vain
+guards : (guard_after false (Said word.Start) guard.Idle ≡ guard.Watching) × (guard_after false Closed guard.Watching ≡ guard.Searching 0)
+    × (guard_after false GraceIsOver (guard.Asked 2) ≡ guard.Killed 0)
+guards = (refl, refl, refl)
+
+-- it kills nobody that it has not asked, and does not begin again
+guards_not : (guard_after false GraceIsOver (guard.Searching 2) ≡ guard.Searching 2) × (guard_after false (Said word.Start) guard.Over ≡ guard.Over)
+guards_not = (refl, refl)
+
+-- a machine that keeps its events, the last one first
+abbrev keeps : ℕ → List ℕ → List ℕ
+keeps event stage = event ∷ stage
+
+abbrev shows : ℕ → List ℕ → List ℕ → List ℕ
+shows event before after = before
+
+course : after_all keeps [] (1 ∷ 2 ∷ 3 ∷ []) ≡ 3 ∷ 2 ∷ 1 ∷ []
+course = refl
+
+course_not-turned : ¬ (after_all keeps [] (1 ∷ 2 ∷ []) ≡ 1 ∷ 2 ∷ [])
+course_not-turned e = grind (arith, e)
+
+course-deeds : deeds_of keeps shows [] (1 ∷ 2 ∷ 3 ∷ []) ≡ [] ∷ (1 ∷ []) ∷ (2 ∷ 1 ∷ []) ∷ []
+course-deeds = refl
+
+deeds_not-none : deeds_of keeps shows (7 ∷ []) [] ≡ []
+deeds_not-none = refl
