@@ -10,7 +10,7 @@ copies one two w = if w == 1 then one else two
 least_of_two : least 4 (copies 3 1) (1 ∷ 2 ∷ []) ≡ 1
 least_of_two = refl
 
--- n is the least where all copies are greater, or where nobody is listed
+-- n is the least if all copies are greater, or if nobody is listed
 no_less_than_n : (least 2 (copies 3 4) (1 ∷ 2 ∷ []) ≡ 2) × (least 4 (copies 1 1) [] ≡ 4)
 no_less_than_n = (refl, refl)
 
