@@ -1,11 +1,24 @@
 -- Small examples, by computation: some that hold, and some that do not.
 use Rattle.std.proofs.Common.{◌≡◌, ℕ, ◌==◌, true, false, [], ◌∷◌, Some, None, if◌then◌else◌, refl, arith}
 use Rattle.bfs_tree.specs.Stage.{is_of_stage}
-use Rattle.bfs_tree.specs.Step.{new_distance, new_parent}
+use Rattle.bfs_tree.specs.Step.{has_least_copy, least, new_distance, new_parent}
 
 -- copies of two neighbours, 1 and 2
 abbrev copies : ℕ → ℕ → ℕ → ℕ
 copies one two w = if w == 1 then one else two
+
+least_of_two : least 4 (copies 3 1) (1 ∷ 2 ∷ []) ≡ 1
+least_of_two = refl
+
+-- n is the least if all copies are greater, or if nobody is listed
+no_less_than_n : (least 2 (copies 3 4) (1 ∷ 2 ∷ []) ≡ 2) × (least 4 (copies 1 1) [] ≡ 4)
+no_less_than_n = (refl, refl)
+
+the_nearer_has_it : has_least_copy (copies 3 1) (1 ∷ 2 ∷ []) 2 ≡ true
+the_nearer_has_it = refl
+
+the_further_has_it_not : has_least_copy (copies 3 1) (1 ∷ 2 ∷ []) 1 ≡ false
+the_further_has_it_not = refl
 
 two_at_one : new_distance false 4 (copies 1 1) (1 ∷ 2 ∷ []) ≡ 2
 two_at_one = refl

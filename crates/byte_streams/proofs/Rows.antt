@@ -1,6 +1,6 @@
 -- Small examples of what sources give and sinks take, and some that look like them and are none.
-use Rattle.std.proofs.Common.{◌≡◌, ℕ, [], ◌∷◌, None, Some, Ok, refl, arith, inr}
-use Rattle.byte_streams.specs.Streams.{Gives, Takes, Rose}
+use Rattle.std.proofs.Common.{◌≡◌, ◌++◌, ℕ, List, Option, [], ◌∷◌, None, Some, Ok, refl, arith, inr}
+use Rattle.byte_streams.specs.Streams.{Gives, HasRead, Rose, Takes, TakesABeginning}
 use Rattle.byte_streams.specs.Fuse.{left_after, failures_of, Passes}
 
 -- a source gives its next bytes; it does not give others, and nothing only at its end or if
@@ -26,6 +26,27 @@ takes-after = refl
 
 takes_not-in_front : ¬ Takes (3 ∷ []) (Some (1 ∷ 2 ∷ [])) (Some (3 ∷ 1 ∷ 2 ∷ []))
 takes_not-in_front = λ t. grind arith
+
+-- two bytes were read, and the third is still to come
+has-read : HasRead 2 (1 ∷ 2 ∷ 3 ∷ []) (Some (3 ∷ []))
+has-read = (omega arith, refl)
+
+has_read_not-again : ¬ HasRead 2 (1 ∷ 2 ∷ 3 ∷ []) (Some (2 ∷ 3 ∷ []))
+has_read_not-again = λ h. grind (arith, h.1)
+
+has_read_not-more : ¬ HasRead 4 (1 ∷ 2 ∷ 3 ∷ []) (Some [])
+has_read_not-more = λ h. omega (arith, h.0)
+
+-- a sink took the first two of three bytes; it does not take the second one first
+takes-beginning : TakesABeginning (1 ∷ 2 ∷ 3 ∷ []) (Some (7 ∷ [])) (Some (7 ∷ 1 ∷ 2 ∷ []))
+takes-beginning = record { front = 1 ∷ 2 ∷ []; back = 3 ∷ []; parts = refl; taken = refl }
+
+not-second : (front back : List ℕ) → ◌≡◌ {A = List ℕ} (1 ∷ 2 ∷ []) (front ++ back) → ◌≡◌ {A = Option (List ℕ)} (Some (2 ∷ [])) (Some front) → ⊥
+not-second [] back parts taken = absurd cc
+not-second (b ∷ front) back parts taken = grind (arith, parts, taken)
+
+takes_not-second : ¬ TakesABeginning (1 ∷ 2 ∷ []) (Some []) (Some (2 ∷ []))
+takes_not-second = λ t. not-second t.front t.back t.parts t.taken
 
 -- a count of failures that stays at its greatest value counts as risen there, and nowhere else
 rose-most : Rose 18446744073709551615 18446744073709551615

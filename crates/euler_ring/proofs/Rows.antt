@@ -1,13 +1,29 @@
 -- Small examples, by computation: some that hold, and some that do not.
 use Rattle.std.proofs.Common.{◌≡◌, ℕ, ◌==◌, List, [], ◌∷◌, Option, Some, None, true, false, if◌then◌else◌, refl, arith}
 use Rattle.topology.specs.Network.{Network}
-use Rattle.euler_ring.specs.Cycle.{next_after, source_for, special, tree_neighbours}
+use Rattle.euler_ring.specs.Cycle.{above, below, highest, is_named, is_on, is_tree_neighbour, lowest, next_after, source_for, special, tree_neighbours}
 use Rattle.euler_ring.specs.Tour.{tour}
 
 -- ---- round a node with the tree neighbours 1, 4 and 9
 
 abbrev three : List ℕ
 three = 1 ∷ 4 ∷ 9 ∷ []
+
+ends : (lowest three ≡ Some 1) × (highest three ≡ Some 9)
+ends = (refl, refl)
+
+no_ends_of_none : (lowest [] ≡ None) × (highest [] ≡ None)
+no_ends_of_none = (refl, refl)
+
+-- 4 is neither above 4 nor below it
+above_and_below : (above 4 three ≡ 9 ∷ []) × (below 4 three ≡ 1 ∷ [])
+above_and_below = (refl, refl)
+
+on_the_list : is_on three 4 ≡ true
+on_the_list = refl
+
+not_on_the_list : is_on three 5 ≡ false
+not_on_the_list = refl
 
 up : next_after three 1 ≡ 4
 up = refl
@@ -52,6 +68,19 @@ none_of_a_root_alone = refl
 
 abbrev copies : ℕ → Option ℕ
 copies w = if w == 1 then Some 4 else if w == 5 then Some 2 else None
+
+named : is_named (copies 1) 4 ≡ true
+named = refl
+
+not_named : (is_named (copies 5) 4 ≡ false) × (is_named (copies 7) 4 ≡ false)
+not_named = (refl, refl)
+
+-- 1 is a child of 4, and 2 is its parent; 5 is neither
+on_the_tree : (is_tree_neighbour (Some 2) 4 copies 1 ≡ true) × (is_tree_neighbour (Some 2) 4 copies 2 ≡ true)
+on_the_tree = (refl, refl)
+
+not_on_the_tree : is_tree_neighbour (Some 2) 4 copies 5 ≡ false
+not_on_the_tree = refl
 
 parent_and_child : tree_neighbours (Some 2) 4 (1 ∷ 2 ∷ 5 ∷ 7 ∷ []) copies ≡ 1 ∷ 2 ∷ []
 parent_and_child = refl

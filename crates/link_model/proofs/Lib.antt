@@ -1,3 +1,4 @@
 pub mod Turning
 pub mod Lists
 pub mod Marks
+mod Rows

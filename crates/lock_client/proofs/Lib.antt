@@ -7,3 +7,4 @@ pub mod LineLemmas
 pub mod Losing
 pub mod Rows
 mod RowsSteps
+mod RowsEnds

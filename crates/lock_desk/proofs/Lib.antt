@@ -4,3 +4,4 @@ pub mod Passing
 pub mod ClientLemmas
 pub mod Rows
 mod RowsLaws
+mod RowsParts

@@ -3,3 +3,4 @@ pub mod Saying
 pub mod Counting
 mod RowsCounted
 mod RowsStatus
+mod RowsLookers

@@ -1,5 +1,6 @@
 -- Small examples of clients that live on, and some that look like them and do not.
 use Rattle.std.proofs.Common.{◌≡◌, ◌≢◌, ◌<◌, ◌≤◌, ◌∙◌, ◌++◌, ◌∷◌, ℕ, zero, suc, Bool, true, false, List, Option, None, Some, codes, length, take, refl, sym, subst, ap, inl, inr, arith, []}
+use Rattle.std.proofs.lemmas.Bool.{cases_eq}
 use Rattle.byte_streams.specs.Streams.{Rose}
 use Rattle.slab.specs.Slab.{get}
 use Rattle.socket_links.specs.Counts.{Counts}
@@ -10,8 +11,9 @@ use Rattle.node_connections.specs.declared.clients.Client.{Client}
 use Rattle.node_connections.specs.declared.clients.Clients.{Clients}
 use Rattle.node_connections.specs.Clients.{answers_of, SameClients}
 use Rattle.node_connections.proofs.BeingRead.{read-here}
+use Rattle.node_connections.proofs.GoingOut.{out-nothing}
 use Rattle.node_connections.specs.Heard.{HasNewReader}
-use Rattle.node_connections.specs.Lives.{FailsAt, IsRead, IsReadAt, Lives, Stays, Gave, Gives_later, Took, Takes_later, Then, LivesAt, LiveOn, ReadsAt, OthersStay, Admits, StillLive}
+use Rattle.node_connections.specs.Lives.{AllGoOut, AllRead, FailsAt, GoesOutAt, IsOfLive, IsRead, IsReadAt, Lives, LivesThroughRead, Stays, Gave, Gives_later, Took, Takes_later, Then, LivesAt, LiveOn, ReadsAt, OthersStay, Admits, StillLive}
 
 not-rose : (n m : ℕ) → Rose n m → m ≡ 0 → ⊥
 not-rose n m (inl more) none = omega (arith, more, none)
@@ -25,6 +27,13 @@ not-grown (Some xs) (suc n) [] some within goes = omega (arith, within)
 not-grown (Some []) (suc n) (b ∷ bytes) some within goes = (let e : ◌≡◌ {A = Option (List ℕ)} (Some []) (Some (b ∷ take n bytes)) = goes in absurd cc)
 not-grown (Some (x ∷ xs)) (suc n) (b ∷ bytes) some within goes =
     (let e : ◌≡◌ {A = Option (List ℕ)} (Some []) (Some (x ∷ (xs ++ (b ∷ take n bytes)))) = goes in absurd cc)
+
+-- a pipe that has nothing now is open, and one that said that it closed is not
+of-live : IsOfLive read.Later
+of-live = tt
+
+of_not-closed : ¬ IsOfLive read.Closed
+of_not-closed live = live
 
 module _ {P : Type 0} (gave took : P → Option (List ℕ)) (counts : P → Counts) where
   -- the pipe gave nothing, took nothing, and never said Later
@@ -75,9 +84,31 @@ module _ {P : Type 0} (gave took : P → Option (List ℕ)) (counts : P → Coun
   unread p q (read.Closed, bytes, live, reads, same) f = elim live [ ]
   unread p q (read.Failed, bytes, live, reads, same) f = elim live [ ]
 
-  -- one that gave nothing and said nothing was not
+  -- its pipe gave that byte in a read, and then was written to
+  through-read : (p q r : P) → gave p ≡ Some [] → gave q ≡ Some (codes "u") → took q ≡ took p → counts q ≡ counts p
+      → Lives gave took counts q r → LivesThroughRead gave took counts p r
+  through-read p q r before after wrote same lives = record {
+    before = p;
+    after = q;
+    lives = Stays;
+    read = (
+      read.Got 1,
+      codes "u",
+      tt,
+      (omega arith, omega arith, rw (before, after) refl, rw same (omega arith, omega arith, omega arith)),
+      wrote,
+    );
+    lives_on = lives;
+  }
+
+  -- one that gave nothing and said nothing was not read
+  through_not-fresh : (p : P) → IsFresh p → ¬ LivesThroughRead gave took counts p p
+  through_not-fresh p fresh lived =
+      unread lived.before lived.after lived.read (subst (λ x. IsFresh x) (fresh-stays lived.lives_on fresh) fresh)
+
+  -- nor was a client with such a pipe
   read_not-fresh : (a : Client P) → IsFresh a.pipe → ¬ IsReadAt gave took counts (Some a) (Some a)
-  read_not-fresh a fresh lived = unread lived.before lived.after lived.read (subst (λ x. IsFresh x) (fresh-stays lived.lives_on fresh) fresh)
+  read_not-fresh a fresh lived = through_not-fresh a.pipe fresh lived
 
   reads_not-of-nobody : ¬ ReadsAt gave took counts (read.Got 1) (codes "u") None None
   reads_not-of-nobody r = (let e : ◌≡◌ {A = ReadAnswer} (read.Got 1) read.Closed = r.1 in absurd cc)
@@ -139,3 +170,39 @@ module _ {P A : Type 0} (gave took : P → Option (List ℕ)) (counts : P → Co
 
   same_not-closed : get old.table t ≡ Some a → get new.table t ≡ None → ¬ SameClients old new
   same_not-closed was is f = (let e : ◌≡◌ {A = Bool} false true = rw (was, is) at (f t) in absurd cc)
+
+  -- all are read if the only one gave a byte
+  all-read : get old.table t ≡ Some a → get new.table t ≡ Some b → ((u : ℕ) → u ≢ t → get new.table u ≡ None)
+      → gave a.pipe ≡ Some [] → gave b.pipe ≡ Some (codes "u") → took b.pipe ≡ took a.pipe → counts b.pipe ≡ counts a.pipe
+      → AllRead gave took counts old new
+  all-read was is alone before after wrote same u few =
+      elim (cases_eq u t) [
+        | inl e ↦ rw e (rw (was, is) (read-got gave took counts a b before after wrote same))
+        | inr other ↦ rw (alone u other) tt
+      ]
+
+  -- not if one that is still there gave nothing and said nothing
+  all_not-unread : t < 128 → get old.table t ≡ Some a → get new.table t ≡ Some a → IsFresh gave took counts a.pipe
+      → ¬ AllRead gave took counts old new
+  all_not-unread few was is fresh all =
+      let here : IsReadAt gave took counts (Some a) (Some a) = rw (was, is) at (all t few) in
+      read_not-fresh gave took counts a fresh here
+
+  -- if nothing waits for anybody, there is nothing to go out
+  out-nobody : ((u : ℕ) → answers_of old u ≡ []) → AllGoOut counts old new
+  out-nobody silent u = out-nothing counts (get old.table u) (get new.table u) (answers_of old u) (answers_of new u) (silent u)
+
+  -- an answer that waits on, for a client whose pipe never said Later, has not begun to go out
+  here_not-waits_on : (counts b.pipe).later ≡ 0 → ¬ GoesOutAt counts (Some a) (codes "lost\n") (Some b) (codes "lost\n")
+  here_not-waits_on never (inl none) = absurd cc
+  here_not-waits_on never (inr (inl less)) = omega (arith, less)
+  here_not-waits_on never (inr (inr rose)) = not-rose (counts a.pipe).later (counts b.pipe).later rose never
+
+  out_not-waits_on : get old.table t ≡ Some a → get new.table t ≡ Some b → answers_of old t ≡ codes "lost\n"
+      → answers_of new t ≡ codes "lost\n" → (counts b.pipe).later ≡ 0 → ¬ AllGoOut counts old new
+  out_not-waits_on was is waited waits never out =
+      at-once (get old.table t) (get new.table t) (answers_of old t) (answers_of new t) was is waited waits (out t)
+    where
+      at-once : (x y : Option (Client P)) (xs ys : List ℕ) → x ≡ Some a → y ≡ Some b → xs ≡ codes "lost\n"
+          → ys ≡ codes "lost\n" → GoesOutAt counts x xs y ys → ⊥
+      at-once x y xs ys was is waited waits out = here_not-waits_on never (rw (was, is, waited, waits) at out)

@@ -9,8 +9,8 @@ use Rattle.registers.specs.data_link.Port.{default_port}
 use Rattle.lock_desk.specs.Desk.{no_desk}
 use Rattle.node_core.specs.Site.{Site, site_of}
 use Rattle.node_core.specs.State.{LocalState, default_node}
-use Rattle.node_core.specs.Machines.{tree_of, moved_value, is_node_privileged, payload_for}
-use Rattle.node_core.specs.Step.{taken, ticked}
+use Rattle.node_core.specs.Machines.{before, is_node_privileged, is_special, may_move, moved_value, payload_for, ring_for, tree_of}
+use Rattle.node_core.specs.Step.{copied_distance, desk_done, heard, item_fits, machines_moved, recomputed, taken, ticked}
 use Rattle.node_core.specs.Rewire.{rewired}
 use Rattle.node_core.specs.Status.{status_line}
 
@@ -73,6 +73,25 @@ child_may = refl
 child_may_not : is_node_privileged far (child_with 3 3) ≡ false
 child_may_not = refl
 
+-- machine by machine: the special one is the root's, and each sees the copied value
+special_at_root : is_special near (root_with 3 3) 1 ≡ true
+special_at_root = refl
+
+none_at_child : is_special far (child_with 3 3) 0 ≡ false
+none_at_child = refl
+
+sees : before (root_with 3 5) 1 ≡ 5
+sees = refl
+
+sees_not_itself : ¬ (before (root_with 3 5) 1 ≡ 3)
+sees_not_itself e = grind (arith, e)
+
+machines_may : (may_move near (root_with 3 3) 1 ≡ true) × (may_move far (child_with 3 4) 0 ≡ true)
+machines_may = (refl, refl)
+
+machines_may_not : (may_move near (root_with 3 4) 1 ≡ false) × (may_move far (child_with 3 3) 0 ≡ false)
+machines_may_not = (refl, refl)
+
 -- a tick moves it
 root_moved_on : (ticked near (root_with 3 3)).value 1 ≡ 4
 root_moved_on = refl
@@ -98,9 +117,39 @@ child_finds_its_way = refl
 child_finds_its_parent : (ticked far (record (child_with 0 0) { distance = 2; parent = None })).parent ≡ Some 0
 child_finds_its_parent = refl
 
+-- part by part: distance and parent follow from the copies alone
+copied_from_each : (copied_distance (child_with 3 4) 0 ≡ 0) × (copied_distance (root_with 3 4) 1 ≡ 1)
+copied_from_each = (refl, refl)
+
+first_part : recomputed far (record (child_with 0 0) { distance = 2; parent = None }) ≡ child_with 0 0
+first_part = refl
+
+first_part_lends_not : (recomputed near (asked_for (root_with 3 3))).desk.lent ≡ None
+first_part_lends_not = refl
+
+-- the desk lends to who waits, if the node is privileged
+second_part : (desk_done near (asked_for (root_with 3 3))).desk.lent ≡ Some 9
+second_part = refl
+
+second_part_not_without : (desk_done near (asked_for (root_with 3 4))).desk.lent ≡ None
+second_part_not_without = refl
+
+-- the machines move if nobody borrows then
+last_part : (machines_moved near (root_with 3 3)).value 1 ≡ 4
+last_part = refl
+
+last_part_not_lending : (machines_moved near (record (root_with 3 3) { desk = record no_desk { lent = Some 9 } })).value 1 ≡ 3
+last_part_not_lending = refl
+
 -- what is said: with the machine's value to a tree neighbour, with 0 to any other
 root_says : payload_for near (root_with 3 4) 1 ≡ record { distance = 0; parent = None; ring = 3 }
 root_says = refl
+
+says_its_value : ring_for near (root_with 3 4) 1 ≡ 3
+says_its_value = refl
+
+says_zero_to_others : ring_for far (record (child_with 3 4) { parent = None }) 0 ≡ 0
+says_zero_to_others = refl
 
 stranger_hears_zero : (payload_for far (record (child_with 3 4) { parent = None }) 0).ring ≡ 0
 stranger_hears_zero = refl
@@ -111,6 +160,19 @@ noise_changes_nothing = refl
 -- a frame of the root with a distance; on two nodes 2 is the greatest
 abbrev frame_with : ℕ → Frame
 frame_with distance = record { seq = 1; ack = 4; payload = record { distance = distance; parent = None; ring = 6 } }
+
+items_fit : (item_fits (ranges_of two) (item.Frame (frame_with 2)) ≡ true) × (item_fits (ranges_of two) item.Noise ≡ true)
+items_fit = (refl, refl)
+
+item_fits_not : item_fits (ranges_of two) (item.Frame (frame_with 3)) ≡ false
+item_fits_not = refl
+
+-- a frame is heard at the port of its neighbour, and at no other
+heard_there : ((heard far 0 (frame_with 2) (child_with 3 4)).port 0).copy ≡ (frame_with 2).payload
+heard_there = refl
+
+heard_nowhere_else : (heard far 0 (frame_with 2) (child_with 3 4)).port 2 ≡ (child_with 3 4).port 2
+heard_nowhere_else = refl
 
 frame_is_copied : ((taken far 0 (item.Frame (frame_with 2)) (child_with 3 4)).port 0).copy ≡ (frame_with 2).payload
 frame_is_copied = refl

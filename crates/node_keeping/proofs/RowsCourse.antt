@@ -1,12 +1,15 @@
 -- Small examples of when `up` ends its nodes, and ones that fail.
-use Rattle.std.proofs.Common.{◌≡◌, true, false, Some, None, [], ◌∷◌, refl}
+use Rattle.std.proofs.Common.{◌≡◌, ◌≤◌, true, false, not, Some, None, List, [], ◌∷◌, filter, length, refl, arith}
+use Rattle.std.specs.Prelude.{Option, is_none}
 use Rattle.held_signals.specs.declared.signals.Signals.{Signals}
 use Rattle.held_signals.specs.Signals.{no_signals}
+use Rattle.node_keeping.specs.declared.keeper.Seen.{Seen}
 use Rattle.node_keeping.specs.declared.keeper.Seen.TheVariants.{Asked, Urged}
 use Rattle.node_keeping.specs.declared.course.UpStage.TheVariants.{Running, Ending, Killing}
 use Rattle.node_keeping.specs.declared.course.UpSights.{UpSights}
 use Rattle.node_keeping.specs.Course.{new_course, is_ending, is_asked, is_urged, stage_then, seen_then, word_then, words}
-use Rattle.node_keeping.specs.CourseLaws.{asks, urges}
+use Rattle.node_keeping.specs.CourseLaws.{asks, urges, IsSaidOnce}
+use Rattle.node_keeping.proofs.Coursing.{said_once}
 
 interrupt : Signals
 interrupt = record no_signals { interrupt = true }
@@ -71,3 +74,31 @@ urging = refl
 
 urging_not-nothing : urges None ≡ false
 urging_not-nothing = refl
+
+-- of the words alone that ask, and of those alone that urge, at most one is said
+once-asks : IsSaidOnce asks
+once-asks = said_once.0
+
+once-urges : IsSaidOnce urges
+once-urges = said_once.1
+
+-- of no words at all none is
+once-none : IsSaidOnce (λ word. false)
+once-none seen stage sights = few (words seen stage sights)
+  where
+    few : (said : List (Option Seen)) → length (filter (λ word. false) said) ≤ 1
+    few [] = omega arith
+    few (word ∷ said) = few said
+
+-- of both kinds together two are said, if the input ends and a signal comes; so are two silences, at two looks
+once_not-both : ¬ IsSaidOnce (λ word. not (is_none word))
+unfolding quiet interrupt
+once_not-both once =
+    let two : 2 ≤ 1 = once no_signals Running (record quiet { has_input_ended = true } ∷ record quiet { signals = interrupt } ∷ []) in
+    omega (arith, two)
+
+once_not-silent : ¬ IsSaidOnce is_none
+unfolding quiet
+once_not-silent once =
+    let two : 2 ≤ 1 = once no_signals Running (quiet ∷ quiet ∷ []) in
+    omega (arith, two)

@@ -2,14 +2,14 @@
 use Rattle.std.proofs.Common.{◌≡◌, true, false, [], ◌∷◌, map, refl}
 use Rattle.node_texts.specs.declared.lines.End.TheVariants.{Status, Signal}
 use Rattle.node_keeping.specs.declared.sight.FileSight.TheVariants.{Own, NotOwn, Unseen}
-use Rattle.node_keeping.specs.declared.saved.StopSight.TheVariants.{Removed}
+use Rattle.node_keeping.specs.declared.saved.StopSight.TheVariants.{Absent, Removed}
 use Rattle.node_keeping.specs.declared.saved.AfterSave.TheVariants.{Stop}
 use Rattle.node_keeping.specs.declared.keeper.KeeperStage.TheVariants.{Waits, Starts, Runs, Closes, Left, Over}
-use Rattle.node_keeping.specs.declared.keeper.Seen.TheVariants.{Nothing, Ended}
+use Rattle.node_keeping.specs.declared.keeper.Seen.TheVariants.{Nothing, Started, Ended, Asked, Urged}
 use Rattle.node_keeping.specs.declared.keeper.KeeperDeed.TheVariants.{Rest, Start, SayAgain, SayLeft, SayGone, CloseInput, Kill}
-use Rattle.node_keeping.specs.AfterSave.{looks_for_stop, is_lost, in_place}
+use Rattle.node_keeping.specs.AfterSave.{looks_for_stop, is_lost, lost_of, in_place}
 use Rattle.node_keeping.specs.Laws.{is_start, is_kill}
-use Rattle.node_keeping.specs.Steps.{new_keeper, is_kept, is_failed, looked_at, looked_deed, failures_now, ended_after, ended_deed, asked_after, asked_deed, urged_deed, started_after, failures_after, looks}
+use Rattle.node_keeping.specs.Steps.{deed_at, new_keeper, stage_after, is_kept, is_failed, looked_at, looked_deed, failures_now, ended_after, ended_deed, asked_after, asked_deed, urged_deed, started_after, failures_after, looks}
 
 -- a stop file in a folder that is another's is not this node's
 stop-looks : map looks_for_stop (Unseen ∷ NotOwn ∷ []) ≡ true ∷ false ∷ []
@@ -17,6 +17,15 @@ stop-looks = refl
 
 lost : map is_lost (NotOwn ∷ Unseen ∷ []) ≡ true ∷ false ∷ []
 lost = refl
+
+-- the names that lead elsewhere are lost, and those of which nothing is known are not
+lost-names : lost_of (record { place = Own; stop = Absent; is_asked = false; links = NotOwn; clients = Unseen; looks = NotOwn })
+    ≡ record { links = true; clients = false; looks = true }
+lost-names = refl
+
+lost_not-place : lost_of (record { place = NotOwn; stop = Absent; is_asked = false; links = Own; clients = NotOwn; looks = Own })
+    ≡ record { links = false; clients = true; looks = false }
+lost_not-place = refl
 
 stops-in-place : in_place (record { place = Own; stop = Removed; is_asked = false; links = Own; clients = Own; looks = Own }) Removed ≡ Stop
 stops-in-place = refl
@@ -78,6 +87,21 @@ urged = refl
 
 started : map started_after (Starts ∷ Left ∷ []) ≡ Runs 0 ∷ Left ∷ []
 started = refl
+
+-- what is done of a node that runs, and how it stands then, by what was seen
+does : map (λ seen. deed_at seen 0 (Runs 5)) (Nothing ∷ Started ∷ Ended (Status 0) ∷ Asked ∷ Urged ∷ [])
+    ≡ Rest ∷ Rest ∷ SayAgain (Status 0) ∷ CloseInput ∷ Kill ∷ []
+does = refl
+
+does_not-close : ¬ (deed_at Asked 0 (Waits 3) ≡ CloseInput)
+does_not-close e = absurd cc
+
+stands : map (λ seen. stage_after seen 0 (Runs 5)) (Nothing ∷ Started ∷ Ended (Status 0) ∷ Asked ∷ Urged ∷ [])
+    ≡ Runs 6 ∷ Runs 5 ∷ Waits 10 ∷ Closes 500 ∷ Over ∷ []
+stands = refl
+
+stands_not-waiting : ¬ (stage_after Urged 0 (Waits 3) ≡ Waits 3)
+stands_not-waiting e = absurd cc
 
 two-looks : looks 2 ≡ Nothing ∷ Nothing ∷ []
 two-looks = refl

@@ -13,3 +13,4 @@ mod RowsPorts
 mod RowsSaid
 mod RowsHeard
 mod RowsMore
+mod RowsNoted

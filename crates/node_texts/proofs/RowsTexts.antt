@@ -2,9 +2,11 @@
 use Rattle.std.proofs.Common.{◌≡◌, ℕ, List, true, false, [], ◌∷◌, ◌++◌, Some, None, codes, decimal, map, replicate, string_bytes, refl, arith}
 use Rattle.std.specs.Fmt.{digits}
 use Rattle.node_texts.specs.declared.lines.End.TheVariants.{Status, Signal, Unknown, Unstarted}
+use Rattle.node_texts.specs.declared.paths.FileNames.{FileNames}
 use Rattle.node_texts.specs.declared.paths.NodePaths.{NodePaths}
+use Rattle.node_texts.specs.declared.paths.SocketNames.{SocketNames}
 use Rattle.node_texts.specs.declared.status_line.StatusLine.{StatusLine}
-use Rattle.node_texts.specs.Names.{AreNamed, file_name, longest_socket_name}
+use Rattle.node_texts.specs.Names.{AreFiles, AreNamed, AreSockets, file_name, longest_socket_name}
 use Rattle.node_texts.specs.LineText.{capacity_line, end_line}
 use Rattle.node_texts.specs.StatusLaws.{IsSmall}
 use Rattle.node_texts.specs.StatusText.{line_status, short_line_status, status_text}
@@ -33,6 +35,30 @@ module _ (paths : NodePaths) where
   unfolding digits
   named_not-other state are =
       let e : ◌≡◌ {A = List ℕ} (codes "run/state-1.tkt") (codes "run/state-2.tkt") = rw state at are.0 in grind (arith, e)
+
+-- its sockets; that of its neighbours is none for its clients
+module _ (names : SocketNames) where
+  are-sockets : string_bytes names.links ≡ codes "run/node-2.sock" → string_bytes names.clients ≡ codes "run/desk-2.sock"
+      → string_bytes names.looks ≡ codes "run/look-2.sock" → AreSockets (codes "run") 2 names
+  unfolding digits
+  are-sockets links clients looks = (links, clients, looks)
+
+  sockets_not-turned : string_bytes names.clients ≡ codes "run/node-2.sock" → ¬ AreSockets (codes "run") 2 names
+  unfolding digits
+  sockets_not-turned clients are =
+      let e : ◌≡◌ {A = List ℕ} (codes "run/node-2.sock") (codes "run/desk-2.sock") = rw clients at are.1 in grind (arith, e)
+
+-- its other files; a lock file in another folder is not its own
+module _ (names : FileNames) where
+  are-files : string_bytes names.state ≡ codes "run/state-2.tkt" → string_bytes names.stop ≡ codes "run/stop-2"
+      → string_bytes names.lock ≡ codes "run/lock-2" → AreFiles (codes "run") 2 names
+  unfolding digits
+  are-files state stop lock = (state, stop, lock)
+
+  files_not-elsewhere : string_bytes names.lock ≡ codes "ran/lock-2" → ¬ AreFiles (codes "run") 2 names
+  unfolding digits
+  files_not-elsewhere lock are =
+      let e : ◌≡◌ {A = List ℕ} (codes "ran/lock-2") (codes "run/lock-2") = rw lock at are.2 in grind (arith, e)
 
 -- ---- what processes print
 

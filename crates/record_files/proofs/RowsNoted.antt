@@ -8,7 +8,7 @@ use Rattle.node_recorder.specs.flight_recorder.flight_records.declared.entry.Dee
 use Rattle.node_recorder.specs.flight_recorder.flight_records.declared.entry.Deed.TheVariants.{Asks, Connects, Disconnects}
 use Rattle.node_recorder.specs.Turns.{Records}
 use Rattle.node_recorder.specs.declared.recorder.NodeRecorder.{NodeRecorder}
-use Rattle.record_files.specs.Noted.{is_seen_up, link_changes, HasTurn, IsWrittenOrNot, RecordsEach, RecordsTurn}
+use Rattle.record_files.specs.Noted.{is_linked, is_seen_up, link_change, link_changes, HasTurn, IsWrittenOrNot, RecordsEach, RecordsTurn}
 
 -- of three links that were down the last came up; of three that were up the first went down
 changes-up : link_changes (λ id. false) (λ id. nat_le 2 id) 3 ≡ Connects 2 ∷ []
@@ -19,6 +19,16 @@ changes-down = refl
 
 changes_not-silent : link_changes (λ id. false) (λ id. nat_le 2 id) 3 ≡ [] → ⊥
 changes_not-silent e = absurd cc
+
+change-ends : link_change true false 5 ≡ Disconnects 5 ∷ []
+change-ends = refl
+
+change_not-still : link_change true true 5 ≡ []
+change_not-still = refl
+
+-- of a node without a port no link is up
+linked_not-there : (P : Type 0) → is_linked {P = P} [] 2 ≡ false
+linked_not-there P = refl
 
 seen-up : is_seen_up (Some (record { is_up = true; made = 1 })) ≡ true
 seen-up = refl

@@ -1,9 +1,9 @@
 -- The registers of node 0 of two.
-use Rattle.std.proofs.Common.{◌≡◌, ℕ, ◌<◌, [], ◌∷◌, refl, arith}
+use Rattle.std.proofs.Common.{◌≡◌, ℕ, ◌<◌, [], ◌∷◌, true, false, refl, arith}
 use Rattle.data_link.specs.topology.declared.frame.Ranges.{Ranges}
 use Rattle.data_link.specs.Port.{PortState, PortView, default_port}
 use Rattle.registers.specs.Registers.{RegistersView, IsRegisters, port_of, value_of}
-use Rattle.registers.specs.Rewire.{rewired_ports, rewired_values}
+use Rattle.registers.specs.Rewire.{is_among, rewired_ports, rewired_values, stays}
 
 abbrev ranges : Ranges
 ranges = record { nodes = 2; counter = 5; ring = 7 }
@@ -13,6 +13,19 @@ unused = record { ranges = ranges; state = default_port ranges }
 
 abbrev with_value : ℕ → RegistersView
 with_value x = record { ranges = ranges; neighbours = 1 ∷ []; ports = unused ∷ unused ∷ []; values = 0 ∷ x ∷ [] }
+
+-- of the neighbours 1 and 4 the one stays, and the other goes
+among : is_among (1 ∷ 4 ∷ []) 4 ≡ true
+among = refl
+
+not_among : is_among (1 ∷ 4 ∷ []) 2 ≡ false
+not_among = refl
+
+one_stays : stays (1 ∷ 4 ∷ []) (4 ∷ 5 ∷ []) 4 ≡ true
+one_stays = refl
+
+others_do_not : (stays (1 ∷ 4 ∷ []) (4 ∷ 5 ∷ []) 1 ≡ false) × (stays (1 ∷ 4 ∷ []) (4 ∷ 5 ∷ []) 5 ≡ false)
+others_do_not = (refl, refl)
 
 value_from_the_neighbour : value_of (with_value 3) 1 ≡ 3
 value_from_the_neighbour = refl

@@ -27,3 +27,4 @@ mod RowsCount
 pub mod RowsFaults
 mod RowsHappened
 mod RowsChange
+mod RowsParts

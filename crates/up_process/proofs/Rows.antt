@@ -9,12 +9,21 @@ use Rattle.process_parts.specs.declared.rights.Rights.TheVariants.{Usual, GroupL
 use Rattle.up_process.specs.declared.left.LastLine.TheVariants.{Left, Gone}
 use Rattle.up_process.specs.Children.{rights_options, log_options, record_options, child_options, child_words, end_of}
 use Rattle.up_process.specs.Extents.{IsOfNetwork}
-use Rattle.up_process.specs.Texts.{last_end, last_line}
+use Rattle.up_process.specs.Texts.{good_end, last_end, last_line}
 use Rattle.topology.proofs.Rows.{two, two-accepted}
 
 -- what is said
 says-left : last_end Unstarted ≡ codes "cannot be started"
 says-left = refl
+
+says-good : map good_end (Status 0 ∷ Status 1 ∷ Unknown ∷ []) ≡ codes "has ended" ∷ codes "ended with status 1" ∷ codes "ended" ∷ []
+unfolding digits
+says-good = refl
+
+-- a status of 0 was no good end of a node that nobody asked to end
+says_not-good : last_end (Status 0) ≡ codes "ended with status 0"
+unfolding digits
+says_not-good = refl
 
 -- asked to end, or left alone after it failed at its start three times
 says-last : map last_line (Gone 1 (Status 0) ∷ Gone 1 (Signal 9) ∷ Gone 1 (Status 1) ∷ Left 1 (Status 2) ∷ Left 1 (Signal 9) ∷ [])
