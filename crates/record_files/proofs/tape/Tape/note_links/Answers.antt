@@ -1,4 +1,4 @@
-use Rattle.std.proofs.Common.{◌≡◌, ◌≢◌, ◌<◌, ◌∙◌, ◌++◌, ◌∷◌, [], ℕ, Bool, false, if◌then◌else◌, min, ◌+◌, sym, ap, subst, inl, inr, arith, append-nil}
+use Rattle.std.proofs.Common.{◌≡◌, ◌≢◌, ◌<◌, ◌∙◌, ◌++◌, ◌∷◌, [], ℕ, Bool, false, if◌then◌else◌, min, ◌+◌, sym, ap, subst, inl, inr, refl, arith, append-nil, length-set}
 use Rattle.std.specs.Prelude.{length, slice_index_or}
 use Rattle.std.proofs.lemmas.List.{get_or-set_same, get_or-set_other}
 use Rattle.node_recorder.specs.flight_recorder.flight_records.declared.entry.Deed.TheVariants.{Connects, Disconnects}
@@ -66,3 +66,30 @@ pub returns-clause-linked : goal.returns-clause-linked
 returns-clause-linked g c id less =
     let end = c.loop-id-test.false in
     c.loop-id.invariant.seen id (omega (arith, less, end, c.min-nodes.ensures))
+
+pub loop-id-init : goal.loop-id-init
+loop-id-init g c = record {
+  files = refl;
+  settled = λ _ done. done;
+  noted = refl;
+  seen = λ i less. absurd (omega (arith, less));
+  unseen = λ i _. refl;
+}
+
+pub overflow_cast-neighbour : goal.overflow_cast-neighbour
+overflow_cast-neighbour g c = omega (arith, c.loop-id-test.true, c.min-nodes.ensures)
+
+pub bounds-self-id : goal.bounds-self-id
+bounds-self-id g c = omega (arith, c.loop-id-test.true, c.min-nodes.ensures)
+
+pub bounds-self-id-then-is_linked-self : goal.bounds-self-id-then-is_linked-self
+bounds-self-id-then-is_linked-self g c = omega (arith, c.loop-id-test.true, c.min-nodes.ensures)
+
+pub invariant_of-self : goal.invariant_of-self
+invariant_of-self g c = record { ids = length-set c.loop-id.self.linked c.loop-id.id _ ∙ c.loop-id.self.ids }
+
+pub returns-clause-files : goal.returns-clause-files
+returns-clause-files g c = c.loop-id.invariant.files
+
+pub returns-clause-settled : goal.returns-clause-settled
+returns-clause-settled g c = c.loop-id.invariant.settled
