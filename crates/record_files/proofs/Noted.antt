@@ -1,14 +1,16 @@
 -- Deeds that are recorded one after the other, and the connections that began or ended.
-use Rattle.std.proofs.Common.{◌≡◌, ◌≢◌, ◌+◌, ◌++◌, ◌∷◌, [], ◌∙◌, ℕ, Bool, true, false, if◌then◌else◌, List, refl, ap, sym, arith, append-nil}
+use Rattle.std.proofs.Common.{◌≡◌, ◌≢◌, ◌+◌, ◌++◌, ◌∷◌, [], ◌∙◌, ℕ, Bool, true, false, if◌then◌else◌, List, inl, inr, refl, ap, sym, arith, append-nil}
 use mathlib.Core.Bool.{beq}
 use Rattle.std.specs.Prelude.{flat_map, not}
 use Rattle.std.specs.List.{range_with_len}
+use Rattle.std.proofs.lemmas.Bool.{false≢true}
 use Rattle.std.proofs.lemmas.List.{map-id}
 use Rattle.std.proofs.lemmas.List.Concat.{flat_map-append}
 use Rattle.std.proofs.lemmas.List.FromFn.{map-range_with_len_more}
 use Rattle.node_recorder.specs.node_follower.node_core.View.{NodeView}
 use Rattle.node_recorder.specs.flight_recorder.flight_records.declared.entry.Deed.{Deed}
 use Rattle.node_recorder.specs.flight_recorder.flight_records.declared.entry.Deed.TheVariants.{Connects, Disconnects}
+use Rattle.node_recorder.specs.Backlog.{nothing}
 use Rattle.node_recorder.specs.Turns.{Records}
 use Rattle.node_recorder.specs.declared.recorder.NodeRecorder.{NodeRecorder}
 use Rattle.record_files.specs.Noted.{link_change, link_changes, RecordsEach}
@@ -53,3 +55,15 @@ module _ {A : Type 0} (now : ℕ) (may_wait : Bool) (node : NodeView) where
       → RecordsEach now may_wait node (ds ++ d ∷ []) old new
   each-more [] d old mid new same one = (new, rw (sym same) one, refl)
   each-more (x ∷ ds) d old mid new (next, first, rest) one = (next, first, each-more ds d next mid new rest one)
+
+-- what may not wait does not
+pub settled-now : {A : Type 0} (now : ℕ) (deeds : List Deed) (has_all may_wait : Bool) (node : NodeView) (old new : NodeRecorder A) → Records now deeds has_all may_wait node old new
+    → old.pages.is_stopped ≡ false → may_wait ≡ false → new.backlog ≡ nothing
+settled-now now deeds has_all may_wait node old new (inl h) runs settles = absurd (false≢true (sym runs ∙ h.0))
+settled-now now deeds has_all may_wait node old new (inr (inl h)) runs settles = ap (λ r. r.backlog) h.state.rest
+settled-now now deeds has_all may_wait node old new (inr (inr (inl h))) runs settles = ap (λ r. r.backlog) h.state.rest
+settled-now now deeds has_all may_wait node old new (inr (inr (inr (inl h)))) runs settles = absurd (false≢true (sym settles ∙ h.may))
+settled-now now deeds has_all may_wait node old new (inr (inr (inr (inr h)))) runs settles = elim h.settled [
+  | inl s ↦ ap (λ r. r.backlog) s.rest
+  | inr s ↦ ap (λ r. r.backlog) s.rest
+]

@@ -1,6 +1,6 @@
 use Rattle.std.proofs.Common.{◌≡◌, ◌≢◌, ◌<◌, ◌∙◌, ◌++◌, ◌∷◌, [], ℕ, Bool, false, if◌then◌else◌, min, ◌+◌, sym, ap, subst, inl, inr, arith, append-nil}
 use Rattle.std.specs.Prelude.{length, slice_index_or}
-use Rattle.std.proofs.lemmas.List.{get_or-set_same, get_or-set_other}
+use Rattle.std.proofs.lemmas.List.{get_or-set_same, get_or-set_other, length-set}
 use Rattle.node_recorder.specs.flight_recorder.flight_records.declared.entry.Deed.TheVariants.{Connects, Disconnects}
 use Rattle.record_files.specs.Noted.{is_linked, link_changes, RecordsEach}
 use Rattle.record_files.proofs.Noted.{alike, apart, change-here, change-none, changes-more, each-more}
@@ -66,3 +66,6 @@ pub returns-clause-linked : goal.returns-clause-linked
 returns-clause-linked g c id less =
     let end = c.loop-id-test.false in
     c.loop-id.invariant.seen id (omega (arith, less, end, c.min-nodes.ensures))
+
+pub invariant_of-self : goal.invariant_of-self
+invariant_of-self g c = record { ids = length-set c.loop-id.self.linked c.loop-id.id c.is_linked-is_linked.result ∙ c.loop-id.self.ids }
