@@ -1,5 +1,5 @@
 -- A network that an edge joins or leaves is accepted if nothing is said against it.
-use Rattle.std.proofs.Common.{◌≡◌, ◌≢◌, ◌∙◌, ℕ, zero, suc, ◌+◌, ◌<◌, Bool, true, false, not, List, [], ◌∷◌, ◌++◌, length, get_or, refl, sym, ap, arith, nat_lt, IsTrue, length-append, inl, inr}
+use Rattle.std.proofs.Common.{◌≡◌, ◌≢◌, ◌⊎◌, ◌∙◌, ℕ, zero, suc, ◌+◌, ◌<◌, ◌≤◌, Bool, true, false, not, List, [], ◌∷◌, ◌++◌, length, get_or, refl, sym, ap, arith, nat_lt, IsTrue, length-append, inl, inr}
 use Rattle.std.specs.Prelude.{◌↔◌, Some, None}
 use Rattle.std.specs.List.{All, list_any, filter, range_with_len}
 use Rattle.std.proofs.lemmas.Bool.{cases_Bool, or_parts}
@@ -10,7 +10,7 @@ use Rattle.std.proofs.lemmas.List.FromFn.{length-range_with_len, get_or-range_wi
 use Rattle.topology.specs.Network.{Network, Edge, are_joined, is_between, is_same_edge, has_double_edge, IsWalk, IsConnected, IsEdgeBelow, IsWithinLimits, IsAcceptedNetwork, joined_net, parted_net}
 use Rattle.topology.specs.Tree.{distance_of, reaches, least_below, is_connected}
 use Rattle.topology.specs.Change.{has_no_node, join_fault, part_fault, is_same_frame, without_place}
-use Rattle.topology.specs.declared.fault.NetFault.TheVariants.{NoEdge, Apart}
+use Rattle.topology.specs.declared.fault.NetFault.TheVariants.{BadEdge, NoEdge, Apart}
 use Rattle.topology.proofs.Changed.{IsPlaceOf, joined_after_join, without_at}
 use Rattle.topology.proofs.Reached.{walk_of}
 use Rattle.topology.proofs.Parents.{is_tree}
@@ -188,6 +188,13 @@ pub same_with_edges : (net other : Network) (edges : List Edge) → IsTrue (is_s
 same_with_edges net other edges h e ok = rw (same_net net other edges h e) ok
 
 -- ---- what the code looks for
+
+pub both_nodes : (net : Network) (u v : ℕ) → u < net.nodes → v < net.nodes → has_no_node net u v ≡ false
+both_nodes net u v u_in v_in = grind (arith, nat_tests)
+
+pub bad_edge : (net : Network) (u v : ℕ) → (net.nodes ≤ u) ⊎ (net.nodes ≤ v) → part_fault net u v ≡ Some BadEdge
+bad_edge net u v (inl out) = grind (arith, nat_tests)
+bad_edge net u v (inr out) = grind (arith, nat_tests)
 
 pub no_edge : (net : Network) (u v : ℕ) → u < net.nodes → v < net.nodes → are_joined net.edges u v ≡ false → part_fault net u v ≡ Some NoEdge
 no_edge net u v u_in v_in none = grind (arith, nat_tests)

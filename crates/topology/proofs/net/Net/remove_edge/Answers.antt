@@ -1,4 +1,5 @@
-use Rattle.std.proofs.Common.{◌≡◌, ◌<◌, sym, arith, length}
+use Rattle.std.proofs.Common.{◌≡◌, ◌∙◌, ◌<◌, refl, sym, ap, arith, length}
+use Rattle.std.proofs.lemmas.List.Edits.{length-remove}
 use Rattle.topology.specs.Layout.{network_of, IsLayoutOf}
 use Rattle.topology.specs.Network.{Network}
 use Rattle.topology.specs.Change.{without_place}
@@ -69,3 +70,35 @@ write-requires-then-has_unreached-clause-root_in g c = c.self.invariant.0.networ
 
 pub write-requires-then-has_unreached-clause-few : goal.write-requires-then-has_unreached-clause-few
 write-requires-then-has_unreached-clause-few g c = c.self.invariant.0.network.limits.most
+
+pub remove-edge-requires : goal.remove-edge-requires
+remove-edge-requires g c =
+    let within : c.args.place < length c.self.inside.edges.items = rw (← c.self.view_is) at c.requires in
+    omega (arith, c.self.inside.edges.ok.0)
+
+pub put_edge-requires-clause-place : goal.put_edge-requires-clause-place
+put_edge-requires-clause-place g c =
+    let within : c.args.place < length c.self.inside.edges.items = rw (← c.self.view_is) at c.requires in
+    omega (arith, length-remove c.self.inside.edges.items c.args.place within, ap length c.remove-edge.ensures.items)
+
+pub put_edge-requires-clause-room : goal.put_edge-requires-clause-room
+put_edge-requires-clause-room g c =
+    let within : c.args.place < length c.self.inside.edges.items = rw (← c.self.view_is) at c.requires in
+    omega (
+      arith,
+      length-remove c.self.inside.edges.items c.args.place within,
+      ap length c.remove-edge.ensures.items,
+      c.remove-edge.ensures.capacity,
+      c.self.invariant.0.network.limits.few_edges,
+      c.self.invariant.1.for_edges,
+    )
+
+pub returns-then-has_unreached-clause-unchanged : goal.returns-then-has_unreached-clause-unchanged
+returns-then-has_unreached-clause-unchanged g c =
+    let net : Network = network_of c.self.inside in
+    let within : c.args.place < length net.edges = rw (← c.self.view_is) at c.requires in
+    let same : c.put_edge.new.list.items ≡ net.edges = rw (c.put_edge.ensures.edges, c.remove-edge.ensures.items) (put_back_value net.edges c.args.place c.remove-edge.result within c.remove-edge.ensures.value) in
+    ap (λ es. record net { edges = es }) same ∙ c.self.view_is
+
+pub returns-clause-removed : goal.returns-clause-removed
+returns-clause-removed g c = rw (← c.self.view_is, c.remove-edge.ensures.items) refl
