@@ -10,12 +10,13 @@ use Rattle.node_core.specs.State.{LocalState}
 use Rattle.node_core.specs.Rewire.{rewired}
 use Rattle.run_model.specs.World.{World, at_pair}
 
--- one more edge may join the two: they are two nodes, no edge joins them, and there are fewer than
--- 256 edges
+-- one more edge may join two nodes of the network: they differ, no edge joins them, and there are
+-- fewer than 256 edges
 abbrev pub can_join : Network → ℕ → ℕ → Bool
 can_join net u v = not (u == v) && (not (are_joined net.edges u v) && nat_lt (length net.edges) 256)
 
--- the edge between the two may go: without it each node still has a walk from the root
+-- an edge of the network, between these two, may go: without it each node still has a walk from the
+-- root
 abbrev pub can_part : Network → ℕ → ℕ → Bool
 can_part net u v = is_connected (parted_net net u v)
 
