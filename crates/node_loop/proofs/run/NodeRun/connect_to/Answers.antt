@@ -32,13 +32,20 @@ pub returns : goal.returns
 returns g c =
     let called = c.call_on.ensures in
     let greeted = c.go_on_greeting.ensures in
+    let at_first = slice_get c.args.self.now.ports.items c.args.id in
+    let between = slice_get c.call_on.new.self.ports.items c.args.id in
+    let at_last = slice_get c.go_on_greeting.new.self.ports.items c.args.id in
     record {
       node = rw greeted.node called.node;
       wires = (
-        both-join Wires Wires Wires wires-join (slice_get c.args.self.now.ports.items c.args.id) (slice_get c.call_on.new.self.ports.items c.args.id)
-            (slice_get c.go_on_greeting.new.self.ports.items c.args.id) called.wires.0 greeted.wires.0,
+        both-join Wires Wires Wires wires-join at_first between at_last called.wires.0 greeted.wires.0,
         λ w other. rw (greeted.wires.1 w other) (called.wires.1 w other),
       );
       pace = rw called.pace at greeted.pace;
-      rest = (rw greeted.rest.0 called.rest.0, rw greeted.rest.1 called.rest.1, rw greeted.rest.2 called.rest.2, rw greeted.rest.3 called.rest.3);
+      rest = (
+        rw greeted.rest.0 called.rest.0,
+        rw greeted.rest.1 called.rest.1,
+        rw greeted.rest.2 called.rest.2,
+        rw greeted.rest.3 called.rest.3,
+      );
     }
