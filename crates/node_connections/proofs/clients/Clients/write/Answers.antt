@@ -301,3 +301,17 @@ returns-clause-others_stay g c =
 pub returns-clause-others : goal.returns-clause-others
 returns-clause-others g c t other =
     ap (λ b. b.items) (buffer-other c.args.self.now.answers.items c.args.ticket t c.read_into-all.new.self c.fill_from_slice-rest.new.self other)
+
+-- ---- the places and the ranges that it reads and writes
+
+pub index-requires : goal.index-requires
+index-requires g c = omega (arith, c.args.self.now.answers.ok.0, c.args.self.now.answers_are, c.if-key-ge-PLACES.false)
+
+pub index_mut-requires : goal.index_mut-requires
+index_mut-requires g c = omega (arith, c.args.self.now.answers.ok.0, c.args.self.now.answers_are, c.if-key-ge-PLACES.false)
+
+pub index_mut-requires-2 : goal.index_mut-requires-2
+index_mut-requires-2 g c = omega (arith, c.args.self.now.answers.ok.0, c.args.self.now.answers_are, c.if-key-ge-PLACES.false)
+
+pub slice_bounds-read_into-end : goal.slice_bounds-read_into-end
+slice_bounds-read_into-end g c = refl

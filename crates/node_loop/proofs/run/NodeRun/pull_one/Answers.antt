@@ -10,7 +10,7 @@ use Rattle.node_connections.proofs.Hearing.{both-set, others-set, frame-came, la
 use Rattle.node_loop.proofs.Hearing.{counted-set, takes-none, takes-one, takes-set}
 use Rattle.node_connections.specs.Loose.{AreLoose}
 use Rattle.node_connections.proofs.Loose.{loose-set}
-use Rattle.node_loop.proofs.Remembering.{remembers-same}
+use Rattle.node_loop.proofs.Remembering.{remembers-heard, remembers-same}
 use Rattle.node_loop.proofs.run.NodeRun.pull_one.Goals as goal
 
 pub returns-then-not-is_neighbour-clause-ended : goal.returns-then-not-is_neighbour-clause-ended
@@ -109,3 +109,9 @@ returns-in-Broken-clause-pace g c = remembers-same c.args.self.now.pace
 
 pub returns-clause-ended : goal.returns-clause-ended
 returns-clause-ended g c ends = absurd (true≢false ends)
+
+pub returns-clause-pace : goal.returns-clause-pace
+returns-clause-pace g c =
+    let heard = c.heard-hearing.ensures in
+    let new = c.heard-hearing.new.self in
+    remembers-heard c.args.self.now.pace new c.args.id c.args.now c.in-Frame.frame _ heard.port heard.others heard.manner
