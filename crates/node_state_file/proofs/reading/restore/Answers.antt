@@ -1,5 +1,6 @@
 use Rattle.std.proofs.Common.{◌≡◌, ◌∙◌, ap, sym, subst, IsTrue, take, get_or, Some}
-use Rattle.std.proofs.lemmas.List.{take_more}
+use Rattle.std.proofs.lemmas.List.{take_all, take_more}
+use Rattle.topology.specs.Network.{neighbours_of}
 use Rattle.topology.specs.Ranges.{ranges_of}
 use Rattle.topology.specs.declared.frame.Ranges.{Ranges}
 use Rattle.state_writing.specs.node_core.Site.{Site}
@@ -63,3 +64,14 @@ loop-neighbour-preserved g c =
         ap site_in b.node-is ∙ site,
       )
     ]
+
+pub returns-clause-state : goal.returns-clause-state
+returns-clause-state g c =
+    let all = take_all c.loop-neighbour.neighbour-index c.neighbours-neighbours.result.now c.loop-neighbour-test.false in
+    let id = c.id.ensures ∙ ap (λ (s : Site). s.id) c.set_own-own.ensures.site in
+    let done = all ∙ c.neighbours-neighbours.ensures ∙ ap (neighbours_of c.args.net.now) id in
+    let saved = c.args.saved.now in
+    c.loop-neighbour.invariant.0 ∙ ap (matched_to (ranges_of c.args.net.now) saved.header saved.ports.items) done
+
+pub returns-clause-site : goal.returns-clause-site
+returns-clause-site g c = c.loop-neighbour.invariant.1
