@@ -92,7 +92,7 @@ stage_after (Ended end) failures stage = ended_after end failures stage
 stage_after Asked failures stage = asked_after stage
 stage_after Urged failures stage = Over
 
--- how often in a row a node has failed, after what was seen: the end of one that did not run yet
+-- how often in a row a node has failed, after what was seen; a start for which there was no process
 -- neither counts nor ends the row
 abbrev pub failures_after : Seen → KeeperStage → ℕ → ℕ
 failures_after (Ended end) (Runs looks) failures = failures_now end looks failures
