@@ -25,7 +25,8 @@ done
 cd "$copy"
 # An rt whose ci takes no names tries edits alone, and first proves all below their crates.
 if rt help 2>&1 | grep -q '^ *rt ci \['; then tries=ci; else tries=must-fail; fi
-{ rt "$tries" "$@" && echo 0 > status || echo $? > status; } 2>&1 | tee log | grep --line-buffered -E '^rt: .*(NOT PROVED|must-fail|trying)' || true
+{ rt "$tries" "$@" && echo 0 > status || echo $? > status; } 2>&1 | tee log |
+    grep --line-buffered -E '^rt: .*(NOT PROVED|must-fail|trying)' || true
 status=$(cat status)
 [ "$status" = 0 ] || cat log
 tail -n 1 log

@@ -76,7 +76,8 @@ says_two_lines() {
 
 # Whether it says that standard output failed, and in front of that what the system said.
 says_full() {
-    printf 'tokentree: %s\n' 'standard output: No space left on device (os error 28)' 'standard output cannot be written' | cmp -s - "$folder/err"
+    printf 'tokentree: %s\n' 'standard output: No space left on device (os error 28)' \
+        'standard output cannot be written' | cmp -s - "$folder/err"
 }
 
 # Compares a run with a failure with the usual one: NAME STATUSES USUAL KIND; STATUSES are those that a failure may end

@@ -1,5 +1,6 @@
 #!/usr/bin/env bash
-# Measures LineReader::feed on 64 MiB of each text, in pieces of 64 KiB or of $1 bytes: the best of five runs, in megabytes a second on one core.
+# Measures LineReader::feed on 64 MiB of each text, in pieces of 64 KiB or of $1 bytes: the best of five runs, in
+# megabytes a second on one core.
 set -euo pipefail
 piece=${1:-65536}
 cd "$(dirname "$0")/../crates/bench_feed"

@@ -16,7 +16,12 @@ trap 'rm -rf "$folder"' EXIT
 network() {
     awk -v shape="$1" -v n="$2" -v capacity="$3" '
         function below(k) { seed = (seed * 1103515245 + 12345) % 2147483648; return int(seed / 65536) % k }
-        function edge(a, b) { if ((a, b) in is || (b, a) in is || a == b) return 0; is[a, b]; list = list (list ? ", " : "") "[" a ", " b "]"; return 1 }
+        function edge(a, b) {
+            if ((a, b) in is || (b, a) in is || a == b) return 0
+            is[a, b]
+            list = list (list ? ", " : "") "[" a ", " b "]"
+            return 1
+        }
         BEGIN {
             seed = n
             for (v = 1; v < n; v++) edge(shape == "star" ? 0 : shape == "random" ? below(v) : v - 1, v)
@@ -28,14 +33,19 @@ network() {
 
 echo "| Network | Nodes | Capacity | Least | Median | Most | Sharper bound | R |"
 echo "|---|---|---|---|---|---|---|---|"
-for size in "ring 4" "line 8" "ring 8" "star 8" "random 8" "line 16" "ring 16" "star 16" "random 16" "line 32" "ring 32" "star 32" "random 32"; do
+for size in "ring 4" "line 8" "ring 8" "star 8" "random 8" "line 16" "ring 16" "star 16" "random 16" \
+    "line 32" "ring 32" "star 32" "random 32"; do
     for capacity in 1 16; do
         read -r shape nodes <<< "$size"
         network "$shape" "$nodes" "$capacity" > "$folder/network.toml"
-        out/tokentree measure "$folder/network.toml" --runs "$runs" "$order" | awk -v shape="$shape" -v nodes="$nodes" -v capacity="$capacity" '
+        out/tokentree measure "$folder/network.toml" --runs "$runs" "$order" |
+            awk -v shape="$shape" -v nodes="$nodes" -v capacity="$capacity" '
             $1 == "sweeps" { least = $3; median = $5; most = $7 }
             $1 == "sharp" { sharp = $2 }
             $1 == "sweeps-bound" { bound = $2 }
-            END { printf "| %s | %d | %d | %s | %s | %s | %d | %d |\n", nodes == 4 ? "square" : shape, nodes, capacity, least, median, most, sharp, bound }'
+            END {
+                shown = nodes == 4 ? "square" : shape
+                printf "| %s | %d | %d | %s | %s | %s | %d | %d |\n", shown, nodes, capacity, least, median, most, sharp, bound
+            }'
     done
 done

@@ -190,7 +190,10 @@ END
             case $place in
             FILE) printf " ':FILE:_files -g \"*.toml\"'" ;;
             DIR) printf " ':DIR:_files -/'" ;;
-            ID) if [ "$name" = status ] || [ "$name" = stop ]; then printf " '*:ID:_tokentree_ids'"; else printf " ':ID:_tokentree_ids'"; fi ;;
+            ID)
+                if [ "$name" = status ] || [ "$name" = stop ]; then printf " '*"; else printf " '"; fi
+                printf ":ID:_tokentree_ids'"
+                ;;
             EVENTS | PATH) printf " ':%s:_files'" "$place" ;;
             COMMAND) printf " '*::COMMAND:_normal'" ;;
             KIND) printf " ':KIND:(line ring star complete grid tree random)'" ;;
@@ -224,7 +227,8 @@ END
         echo "complete -c tokentree -n __fish_use_subcommand -f -a $name -d '$(quoted "$text")'"
         while IFS='	' read -r flag value text; do
             if [ "$value" = yes ]; then more=' -x'; else more=; fi
-            echo "complete -c tokentree -n '__fish_seen_subcommand_from $name; and not contains -- -- (commandline -opc)' -l ${flag#--}$more -d '$(quoted "$text")'"
+            seen="__fish_seen_subcommand_from $name; and not contains -- -- (commandline -opc)"
+            echo "complete -c tokentree -n '$seen' -l ${flag#--}$more -d '$(quoted "$text")'"
         done <"$made/flags-$name"
     done <"$made/commands"
 }

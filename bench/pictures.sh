@@ -35,7 +35,8 @@ square_rounds() {
 } > "$folder/forged-tokens"
 "$program" draw examples/two-nodes.toml "$folder/forged-tokens" > docs/forged-tokens.svg
 
-# The square: all is scrambled; from round 20 on clients ask at nodes 1 and 2; after 80 rounds the edge 1-3 goes, and after 40 more it joins.
+# The square: all is scrambled; from round 20 on clients ask at nodes 1 and 2; after 80 rounds the edge 1-3 goes, and
+# after 40 more it joins.
 all="0 1,0 2,1 0,1 3,2 0,2 3,3 1,3 2"
 {
     cat examples/scrambled-square.txt
