@@ -1,8 +1,9 @@
 //! Measures how fast `LineReader::feed` reads: `bench_feed TEXT LINES PIECE`.
 //!
-//! TEXT is `good`, `noise`, `flat`, `empty` or `short`, LINES its length in lines of 22 bytes, and
-//! PIECE the bytes of a piece. The program prints how many frames it read, and on standard error
-//! how long that took. Its run in the gate is a small one; `bench/feed.sh` runs it on 64 MiB.
+//! TEXT is `good`, `noise`, `flat`, `empty` or `short`, LINES is its length in lines of 22 bytes,
+//! and PIECE is the number of bytes of a piece. The program prints how many frames it read, and on
+//! standard error how long that took. The gate runs it on a small text; `bench/feed.sh` runs it on
+//! 64 MiB.
 #![tactic(auto)]
 
 ghost use Rattle.std.specs.Prelude.{◌<◌, IfOk};
@@ -14,16 +15,16 @@ use frame_codec::LineReader;
 use std::alloc::AllocError;
 use std::env;
 use std::time::Instant;
-use text::{Kind, make_text};
+use text::{FeedKind, make_text};
 use topology::{Frame, Net};
 
-/// What must be measured.
+/// What to measure.
 #[derive(Clone, Copy)]
-struct Request {
-    kind: Kind,
+struct FeedRequest {
+    kind: FeedKind,
     /// The length of the text, in lines of 22 bytes.
     lines: u32,
-    /// The bytes of a piece, at least 1.
+    /// The number of bytes of a piece, at least 1.
     piece: u32,
 }
 
@@ -33,13 +34,13 @@ fn main(rt: HostRuntime) -> Result<()> {
 }
 
 /// The request of the command line.
-fn request_of(words: &[String]) -> Result<Request>
+fn request_of(words: &[String]) -> Result<FeedRequest>
     ensures { IfOk result (λ request. 0 < request.piece) }
 {
     let [_program, kind, lines, piece] = words else {
         bail!("bench_feed TEXT LINES PIECE");
     };
-    let Some(kind) = Kind::named(kind.as_str()) else {
+    let Some(kind) = FeedKind::named(kind.as_str()) else {
         bail!("TEXT is good, noise, flat, empty or short");
     };
     let lines = lines.as_str().parse()?;
@@ -47,11 +48,11 @@ fn request_of(words: &[String]) -> Result<Request>
     if piece == 0 {
         bail!("PIECE is at least 1");
     }
-    Ok(Request { kind, lines, piece })
+    Ok(FeedRequest { kind, lines, piece })
 }
 
 /// Makes the text, and measures how fast it is read.
-fn measure(rt: &HostRuntime, request: Request) -> Result<()>
+fn measure(rt: &HostRuntime, request: FeedRequest) -> Result<()>
     requires { 0 < request.piece }
 {
     let text = make_text(rt.alloc(), request.kind, request.lines)?;

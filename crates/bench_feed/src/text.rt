@@ -9,7 +9,7 @@ use topology::{Frame, Payload};
 
 /// What a text is made of.
 #[derive(Clone, Copy, Debug, PartialEq, Eq)]
-pub enum Kind {
+pub enum FeedKind {
     /// Good lines.
     Good,
     /// Any bytes.
@@ -22,22 +22,22 @@ pub enum Kind {
     Short,
 }
 
-impl Kind {
+impl FeedKind {
     /// The kind with this name.
-    pub fn named(name: &str) -> Option<Kind> {
+    pub fn named(name: &str) -> Option<FeedKind> {
         match name {
-            "good" => Some(Kind::Good),
-            "noise" => Some(Kind::Noise),
-            "flat" => Some(Kind::Flat),
-            "empty" => Some(Kind::Empty),
-            "short" => Some(Kind::Short),
+            "good" => Some(FeedKind::Good),
+            "noise" => Some(FeedKind::Noise),
+            "flat" => Some(FeedKind::Flat),
+            "empty" => Some(FeedKind::Empty),
+            "short" => Some(FeedKind::Short),
             _ => None,
         }
     }
 }
 
 /// A text of `lines` times 22 bytes.
-pub fn make_text(alloc: Global, kind: Kind, lines: u32) -> Result<Vec<u8>, AllocError>
+pub fn make_text(alloc: Global, kind: FeedKind, lines: u32) -> Result<Vec<u8>, AllocError>
     ensures { IfOk result (λ text. length text.items ≡ 22 * lines) }
 {
     let mut text = Vec::new(alloc);
@@ -49,19 +49,19 @@ pub fn make_text(alloc: Global, kind: Kind, lines: u32) -> Result<Vec<u8>, Alloc
 }
 
 /// The bytes of one line.
-fn any_bytes(kind: Kind, draws: &mut Pcg32) -> [u8; 22] {
+fn any_bytes(kind: FeedKind, draws: &mut Pcg32) -> [u8; 22] {
     match kind {
-        Kind::Good => encode(&any_frame(draws.next_word())),
-        Kind::Noise => {
+        FeedKind::Good => encode(&any_frame(draws.next_word())),
+        FeedKind::Noise => {
             let mut bytes = [0; 22];
             for byte in &mut bytes {
                 *byte = (draws.next_word() >> 24) as u8;
             }
             bytes
         }
-        Kind::Flat => [b'F'; 22],
-        Kind::Empty => [b'\n'; 22],
-        Kind::Short => *b"F\nF\nF\nF\nF\nF\nF\nF\nF\nF\nF\n",
+        FeedKind::Flat => [b'F'; 22],
+        FeedKind::Empty => [b'\n'; 22],
+        FeedKind::Short => *b"F\nF\nF\nF\nF\nF\nF\nF\nF\nF\nF\n",
     }
 }
 

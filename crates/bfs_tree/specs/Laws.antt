@@ -7,13 +7,13 @@ use Rattle.topology.specs.Tree.{distance_of, parent_of}
 use Rattle.bfs_tree.specs.Stage.{is_of_stage}
 use Rattle.bfs_tree.specs.Step.{new_distance, new_parent}
 
--- what v copied of each neighbour's distance is of stage k
+-- v's copy of each neighbour's distance is of stage k
 abbrev pub AreOfStage : Network → ℕ → (ℕ → ℕ) → ℕ → Type 0
 AreOfStage net k copied v =
     (w : ℕ) → IsTrue (are_joined net.edges v w)
     → IsTrue (is_of_stage k (distance_of net w) (copied w))
 
--- what v copied of each neighbour's distance is that neighbour's true distance
+-- v's copy of each neighbour's distance is that neighbour's true distance
 abbrev pub AreExact : Network → (ℕ → ℕ) → ℕ → Type 0
 AreExact net copied v = (w : ℕ) → IsTrue (are_joined net.edges v w) → copied w ≡ distance_of net w
 

@@ -1,7 +1,7 @@
 -- One step of the breadth-first tree: what a node reads off its copies of its neighbours'
--- distances. A copy is read as a function of the neighbour's id, and neighbours stand in ascending
+-- distances. A copy is read as a function of the neighbour's id, and neighbours are in ascending
 -- order. The rule is that of Dolev, Israeli and Moran (1993); that the smallest id wins a tie is
--- this project's.
+-- this project's own rule.
 use Rattle.std.specs.Prelude.{ℕ, ◌+◌, min, Bool, List, [], ◌∷◌, if◌then◌else◌, nat_le, Option, None, find}
 use Rattle.std.specs.List.{list_all}
 
@@ -19,8 +19,8 @@ new_distance is_root n copied neighbours =
 abbrev pub has_least_copy : (ℕ → ℕ) → List ℕ → ℕ → Bool
 has_least_copy copied neighbours w = list_all (λ u. nat_le (copied w) (copied u)) neighbours
 
--- the root has no parent; any other node's is the first neighbour, so the one of smallest id, with
--- the least copy
+-- the root has no parent; any other node's parent is the first neighbour with the least copy, so
+-- the one of smallest id
 abbrev pub new_parent : Bool → (ℕ → ℕ) → List ℕ → Option ℕ
 new_parent is_root copied neighbours =
     if is_root then None else find (has_least_copy copied neighbours) neighbours

@@ -7,8 +7,8 @@ use topology::laws as topology_laws;
 
 /// One round of the tree. Copies that are exact below k and at least k elsewhere give a distance
 /// that is exact below k + 1 and at least k + 1 elsewhere. Everything is of stage 0, and what is of
-/// stage n is exact, so n rounds do from any start. What is of a later stage is of each earlier one
-/// too, so no step undoes a round.
+/// stage n is exact, so n rounds suffice from any start. What is of a later stage is of each
+/// earlier one too, so no step undoes a round.
 pub fn one_round()
     ensures rises { StageRises }
     ensures includes { StageIncludes }
@@ -31,8 +31,8 @@ pub fn exact_step()
     topology_laws::joined();
 }
 
-/// Whatever the copies, a step's distance is at most n, and its parent is a node or none. Whoever
-/// keeps both needs it.
+/// Whatever the copies, a step's distance is at most n, and its parent is a node or none. Code that
+/// keeps both needs this.
 pub fn step_in_range()
     ensures distance { StepDistanceFits }
     ensures parent { StepParentFits }

@@ -13,7 +13,7 @@ ghost use Rattle.bfs_tree.specs.Step.{new_distance, new_parent};
 /// if it reads a field; the clause names that function.
 ///
 /// Source of the rule: Dolev, Israeli, Moran (1993). That the smallest id wins a tie is this
-/// project's.
+/// project's own rule.
 pub fn recompute<F: Fn(u16) -> u16>(
     is_root: bool,
     n: u16,

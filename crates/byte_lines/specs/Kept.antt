@@ -11,7 +11,7 @@ pub record Kept : Type 0 where
 abbrev pub kept : ℕ → List ℕ → Kept
 kept n line = record { first = take n line; is_long = nat_lt n (length line) }
 
--- what is then kept of the line with more bytes after it
+-- what is kept of the line once more bytes have come after it
 abbrev pub kept_more : ℕ → Kept → List ℕ → Kept
 kept_more n k more = record {
   first = take n (k.first ++ more);
@@ -19,8 +19,8 @@ kept_more n k more = record {
       || nat_lt n (length (k.first ++ more));
 }
 
--- Whatever half line was kept, what is kept now is the half line that then stands at the end of
--- these bytes; and this is what the lines that end in them are read as.
+-- Whatever half line was kept before, what is kept now is the half line at the end of these bytes;
+-- and `said` is what the lines that end in them are read as.
 pub record Reads {X : Type 0} (n : ℕ) (reading : List ℕ
     → X) (old new : Kept) (bytes : List ℕ) (said : List X) : Type 0 where
   pub half : (half : List ℕ) → old ≡ kept n half → new ≡ kept n (half_after half bytes)

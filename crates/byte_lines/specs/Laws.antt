@@ -3,7 +3,7 @@ use Rattle.std.specs.Prelude.{◌≡◌, ℕ, List, [], ◌∷◌, ◌++◌, fla
 use Rattle.std.specs.List.{AllByRecursion}
 use Rattle.byte_lines.specs.Lines.{newline, HasNoNewline, lines_after, half_after, whole_lines, half_line}
 
--- a text is its lines, each with its newline, and then its half line, and no other newline stands
+-- a text is its lines, each with its newline, and then its half line, and there is no other newline
 -- in it
 pub record IsItsLines (text : List ℕ) : Type 0 where
   pub whole : text ≡ flat_map (λ line. line ++ newline ∷ []) (whole_lines text) ++ half_line text
@@ -22,7 +22,7 @@ pub record LinesAreCut : Type 0 where
   pub half : (half front back : List ℕ)
       → half_after half (front ++ back) ≡ half_after (half_after half front) back
 
--- a newline makes a whole line of the half one, and bytes that are none go on with it
+-- a newline makes the half line a whole one, and other bytes continue it
 pub record LinesGrow : Type 0 where
   pub ended : (half line text : List ℕ) → HasNoNewline line
       → lines_after half (line ++ newline ∷ text) ≡ (half ++ line) ∷ lines_after [] text

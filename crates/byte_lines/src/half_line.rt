@@ -33,13 +33,13 @@ impl<const N: usize> Model for HalfLine<N> {
 pub struct Taken<T> {
     /// How many bytes were taken.
     pub used: usize,
-    /// What the line is read as that ended with them; none if the whole piece was taken and no
-    /// line ended.
+    /// What the line that ended with them is read as; none if the whole piece was taken and no line
+    /// ended.
     pub line: Option<T>,
 }
 
 impl<const N: usize> HalfLine<N> {
-    /// A reader to which no byte came.
+    /// A reader to which no byte has come.
     pub fn new() -> HalfLine<N>
         ensures { result ≡ kept N [] }
     {
@@ -55,13 +55,13 @@ impl<const N: usize> HalfLine<N> {
     pub fn take<R: LineReading<N>>(&mut self, piece: &[u8], reading: &R) -> Taken<R::Read>
         ensures used { result.used ≤ length piece.now }
         ensures all { IfNone result.line (result.used ≡ length piece.now) }
-        // A line that ends takes its newline at least.
+        // If a line ends, at least its newline is taken.
         ensures some { OnSome result.line (0 < result.used) }
-        // It keeps the half line that then stands at the end, and has read the line that ended.
+        // It keeps the half line that is then at the end, and has read the line that ended.
         ensures reads { Reads N (R.reading reading.now) self.old self.new
             (take result.used piece.now)
             (option_to_list result.line) }
-        // The same, said of the whole text from its first byte on.
+        // The same, for the whole text from its first byte on.
         ensures so_far { ReadsOn N (R.reading reading.now) self.old self.new
             (take result.used piece.now)
             (option_to_list result.line) }
@@ -79,7 +79,7 @@ impl<const N: usize> HalfLine<N> {
         }
     }
 
-    /// Takes one byte: what the line is read as that it ends, if it is a newline.
+    /// Takes one byte. If it is a newline, returns what the line that it ends is read as.
     pub fn push<R: LineReading<N>>(&mut self, byte: u8, reading: &R) -> Option<R::Read>
         ensures reads { Reads N (R.reading reading.now) self.old self.new (byte ∷ [])
             (option_to_list result) }
@@ -108,7 +108,7 @@ impl<const N: usize> HalfLine<N> {
     pub fn len(&self) -> usize
         ensures len { result ≡ length self.now.first }
         ensures within { result ≤ N }
-        // what it keeps is that of some line
+        // What it keeps is what is kept of some line.
         ensures some { (half : List ℕ) × (self.now ≡ kept N half) }
     {
         self.length

@@ -1,9 +1,9 @@
 //! The lines of a byte text, read in whatever pieces it comes.
 //!
-//! A line is what stands between two newlines, or from the start of the text to the first one; what
-//! stands after the last newline is a half line. A [`HalfLine`] keeps the half line between two
-//! pieces, its first `N` bytes at most, and takes no memory. Whoever needs lines says what a line
-//! is read as, by a [`LineReading`], and of a line of more than `N` bytes from its first `N` alone.
+//! A line is the text between two newlines, or from the start of the text to the first one; what
+//! comes after the last newline is a half line. Between two pieces a [`HalfLine`] keeps at most the
+//! first `N` bytes of the half line, and takes no memory. A [`LineReading`] says what a line is
+//! read as; a line of more than `N` bytes is read from its first `N` alone.
 //!
 //! ```
 //! let mut half: HalfLine<16> = HalfLine::new();

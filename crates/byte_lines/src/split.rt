@@ -5,7 +5,7 @@ ghost use Rattle.byte_lines.specs.Lines.{newline, HasNoNewline};
 use memchr::memchr;
 
 /// The bytes before the first newline and those after it; none if there is no newline.
-// A call of its own would cost more than a short line does.
+// A separate call would cost more than a short line does.
 #[inline(always)]
 pub fn split_line(text: &[u8]) -> Option<(&[u8], &[u8])>
     ensures some { IfSome result (λ parts. (text.now ≡ parts.0.now ++ newline ∷ parts.1.now)

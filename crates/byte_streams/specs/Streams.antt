@@ -1,25 +1,25 @@
--- What the answers of sources and sinks say, of their bytes and of their failures.
+-- What the answers of sources and sinks say about their bytes and their failures.
 use Rattle.std.specs.Prelude.{◌≡◌, ℕ, ◌-◌, ◌^◌, ◌<◌, ◌≤◌, List, [], ◌++◌, Option, Some, None, Result, Ok, Err, option_map, take, drop, length, ◌⊎◌}
 use Rattle.byte_streams.specs.declared.streams.Failed.{Failed}
 
--- a count of failures rose, or stands at the greatest value of a u64
+-- a count of failures rose, or is at the greatest value of a u64
 abbrev pub Rose : ℕ → ℕ → Type 0
 Rose before after = (before < after) ⊎ (2 ^ 64 - 1 ≤ after)
 
--- The source gave its next bytes into the front of the buffer, as many as it says; none only if
--- it has no more, or if there is no room for any.
+-- The source put its next bytes at the front of the buffer, as many as it says; none only if it has
+-- no more, or if there is no room for any.
 abbrev pub GivesNext : ℕ → List ℕ → Option (List ℕ) → List ℕ → Type 0
 GivesNext count rest after buffer =
     (count ≤ length rest) × (take count buffer ≡ take count rest) × (after ≡ Some (drop count rest))
     × (count ≡ 0 → 0 < length buffer → rest ≡ [])
 
--- what a read says of the bytes that the source has still to give, before it and after it; nothing
--- of one that does not say
+-- what a read says about the bytes that the source has still to give, before it and after it;
+-- nothing for a source that does not say them
 abbrev pub Gives : ℕ → Option (List ℕ) → Option (List ℕ) → List ℕ → Type 0
 Gives count None after buffer = after ≡ None
 Gives count (Some rest) after buffer = GivesNext count rest after buffer
 
--- the first `count` bytes of a text were read, of which a source has the others still to give
+-- the first `count` bytes of a text were read, and a source has the others still to give
 abbrev pub HasRead : ℕ → List ℕ → Option (List ℕ) → Type 0
 HasRead count bytes rest = (count ≤ length bytes) × (rest ≡ Some (drop count bytes))
 
@@ -31,7 +31,8 @@ Reads (Ok count) before after buffer failures more =
 Reads (Err _) before after buffer failures more =
     (after ≡ before) × (failures ≤ more) × Rose failures more
 
--- the sink took these bytes after those before; nothing is said of one that does not say
+-- the sink took these bytes after those before; nothing is said about a sink that does not say what
+-- it took
 abbrev pub Takes : List ℕ → Option (List ℕ) → Option (List ℕ) → Type 0
 Takes bytes before after = after ≡ option_map (λ taken. taken ++ bytes) before
 
@@ -58,7 +59,7 @@ WritesAll (Ok _) bytes before after failures more = Takes bytes before after × 
 WritesAll (Err _) bytes before after failures more =
     TakesABeginning bytes before after × (failures ≤ more) × Rose failures more
 
--- a failure is answered only if the count of failures rose
+-- a failure is returned only if the count of failures rose
 abbrev pub CountsFailures : {T E : Type 0} → Result T E → ℕ → ℕ → Type 0
 CountsFailures (Ok _) failures more = failures ≤ more
 CountsFailures (Err _) failures more = (failures ≤ more) × Rose failures more

@@ -5,9 +5,9 @@ ghost use Rattle.byte_streams.specs.Fuse.{failures_of, left_after};
 use crate::streams::Failed;
 use std::marker::Model;
 
-/// Lets a chosen number of calls pass, fails the next one, and lets every other call pass. A form
-/// of a trait that holds one beside what it passes its calls on to tests what becomes of each call
-/// that fails: build with 0, 1, 2.. calls until [`Fuse::has_failed`] says no.
+/// Lets a chosen number of calls pass, fails the next one, and lets every other call pass. To test
+/// what becomes of each call that fails, implement a trait for a type that holds a fuse, and passes
+/// its calls on to another value; build it with 0, 1, 2.. calls until [`Fuse::has_failed`] says no.
 #[derive(Debug, Drop)]
 pub struct Fuse {
     /// How many calls pass before the one that fails; none once it has failed.

@@ -1,4 +1,4 @@
-//! A source, a sink or whatever else takes calls, that fails once.
+//! A source, a sink or anything else that takes calls, which fails once.
 ghost use Rattle.std.specs.Prelude.{◌≡◌, ◌≢◌, ◌+◌, Some, is_none, length};
 ghost use Rattle.byte_streams.specs.Fuse.{failures_of, Passes};
 ghost use Rattle.byte_streams.specs.Streams.{Reads, Writes};
@@ -7,7 +7,7 @@ use crate::fuse::Fuse;
 use crate::streams::{Failed, Sink, Source};
 
 /// Passes some calls on to what it holds, fails one, and passes on all others. It tests what
-/// becomes of a call whose source or sink fails; another crate's trait may be fused by it too.
+/// becomes of a call whose source or sink fails; another crate's trait can be fused with it too.
 #[derive(Drop)]
 pub struct Fused<T> {
     /// What it holds.

@@ -1,8 +1,8 @@
 //! Where bytes are read from, and where they are written to.
 //!
 //! [`Source`] and [`Sink`] are the two ends, as traits: a program implements them with files, a test
-//! the forms over memory. Each counts its failures, and may show its bytes to contracts; one that
-//! does not say them, as a file, says nothing of them.
+//! uses the forms over memory. Each counts its failures, and may show its bytes to contracts. About
+//! the bytes of one that does not, such as a file, contracts say nothing.
 //!
 //! ```
 //! let mut sink = MemorySink::new(alloc, 4096)?;
@@ -14,7 +14,7 @@
 //! with it too.
 //!
 //! The trap: a failed [`write_all`] has written a beginning of its bytes, and does not say how long
-//! a one.
+//! that is.
 #![tactic(auto)]
 
 mod fuse;

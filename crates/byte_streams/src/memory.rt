@@ -43,7 +43,7 @@ impl<'a> Source for MemorySource<'a> {
 
     ghost failures = { λ _. 0 };
 
-    /// As many bytes as the buffer has room for, a piece has, and are left.
+    /// Gives a piece, or fewer bytes if the buffer has less room or fewer are left.
     fn read(&mut self, buffer: &mut [u8]) -> Result<usize, Failed>
         ensures len { length buffer.new ≡ length buffer.old }
         ensures reads { Reads result (Some self.old.rest) (Some self.new.rest) buffer.new 0 0 }
@@ -104,7 +104,7 @@ impl<A: Allocator + Copy> Sink for MemorySink<A> {
 
     ghost failures = { λ s. s.failures };
 
-    /// As many bytes as there is room for; it fails if there is none.
+    /// Takes as many bytes as there is room for; fails if there are bytes but no room.
     fn write(&mut self, bytes: &[u8]) -> Result<usize, Failed>
         ensures writes { Writes result bytes.now (Some self.old.taken) (Some self.new.taken)
             self.old.failures self.new.failures }

@@ -71,7 +71,7 @@ IsRequestRefused found refusal =
     IsMissing found (codes "DIR") refusal
     ⊎ (IsIdRefused found refusal ⊎ (IsWaitRefused found refusal ⊎ IsLostStatusRefused found refusal))
 
--- the request is refused, or the last word is `--` and no command follows
+-- the request is invalid, or the last word is `--` and no command follows
 abbrev pub IsLockRefused : Found → Bool → Refusal → Type 0
 IsLockRefused found is_dashed refusal =
     IsRequestRefused found refusal ⊎ ((refusal ≡ NoWords) × (is_dashed ≡ true) × (command_words found ≡ []))

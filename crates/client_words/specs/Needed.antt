@@ -17,7 +17,8 @@ needed r instead = record {
   node = if needs_node (is_some (folder_needed r instead)) r then instead.node else None;
 }
 
--- the program, the command's name, the folder, and the other words with the node; fewer than two words are none
+-- the program, the command's name, the folder, and the other words with the node; fewer than two words give
+-- none
 abbrev pub whole_texts : {X : Type 0} → (X → List ℕ) → List X → StandIns → List (List ℕ)
 whole_texts text [] instead = []
 whole_texts text (program ∷ []) instead = []

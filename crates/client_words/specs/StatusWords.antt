@@ -21,7 +21,7 @@ use Rattle.status_command.specs.declared.LinePart.TheVariants.{Links, Premises}
 abbrev pub AreIds : List (Bor (List ℕ)) → List ℕ → Type 0
 AreIds words ids = texts words ≡ map decimal ids
 
--- memory ran out; or one of the words is the decimal spelling of no number up to 65535
+-- memory ran out; or one of the words is not the decimal spelling of a number up to 65535
 abbrev pub AreIdsRefused : List (Bor (List ℕ)) → Refusal → Type 0
 AreIdsRefused words (Fault fault) = fault ≡ Memory
 AreIdsRefused words (Word (NoNumber asked)) =
@@ -29,7 +29,7 @@ AreIdsRefused words (Word (NoNumber asked)) =
     × ((at : ℕ) × (word : List ℕ) × (slice_get (texts words) at ≡ Some word) × ((id : ℕ) → id ≤ 65535 → word ≢ decimal id))
 AreIdsRefused words _ = ⊥
 
--- `--json` asks for JSON, and else lines are shown
+-- `--json` asks for JSON; without it, lines are shown
 abbrev pub IsFormOf : Found → AnswerForm → Type 0
 IsFormOf found Json = IsFlag found (codes "json") true
 IsFormOf found Lines = IsFlag found (codes "json") false

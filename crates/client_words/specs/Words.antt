@@ -25,7 +25,7 @@ takes_value word =
 abbrev pub is_node_name : List ℕ → Bool
 is_node_name word = bytes_eq word (codes "any") || is_some (number word)
 
--- a word in its place; the third is the command's name, and all that follow are the command's
+-- a positional word; the third is the command's name, and all that follow are the command's
 abbrev pub read_place : Reading → List ℕ → Reading
 read_place r word = record {
   places = if nat_lt r.places 3 then r.places + 1 else 3;
@@ -47,11 +47,12 @@ read_word r word =
 abbrev pub opens_command : Reading → List ℕ → Bool
 opens_command r word = not r.is_over && (not r.is_value && bytes_eq word (codes "--"))
 
--- DIR is left out if no word is there, or one that may be an ID
+-- DIR is left out if there is no positional word, or one that may be an ID
 abbrev pub needs_folder : Reading → Bool
 needs_folder r = r.places == 0 || (r.places == 1 && r.is_node)
 
--- ID is left out if no word is there, or one that is no ID, if only since no folder is given
+-- ID is left out if there is no positional word, or one that is not the ID, even if only because no
+-- folder stands in for DIR
 abbrev pub needs_node : Bool → Reading → Bool
 needs_node has_folder r = r.places == 0 || (r.places == 1 && not (r.is_node && has_folder))
 
@@ -62,7 +63,7 @@ spelled_out word =
     else if bytes_eq word (codes "-E") then codes "--lost-status"
     else word
 
--- how a word is said that is next: in front of the command by its long form, unless it is a value
+-- how the next word is spelled: in front of the command in its long form, unless it is a value
 abbrev pub said : Reading → List ℕ → List ℕ
 said r word = if r.is_over || r.is_value then word else spelled_out word
 
@@ -77,7 +78,8 @@ texts words = map (λ w. w.now) words
 abbrev pub text_if : Option (Bor (List ℕ)) → Option (List ℕ)
 text_if word = option_map (λ w. w.now) word
 
--- the words after the command's name as they are said, with a node in front of `--` or at the end
+-- the words after the command's name as they are spelled, with a node in front of `--` or at the
+-- end
 abbrev pub placed : {X : Type 0} → (X → List ℕ) → Option (List ℕ) → Reading → List X → List (List ℕ)
 placed text node r [] = option_to_list node
 placed text node r (word ∷ words) =
@@ -85,7 +87,8 @@ placed text node r (word ∷ words) =
     then option_to_list node ++ (said r (text word) ∷ placed text None (read_word r (text word)) words)
     else said r (text word) ∷ placed text node (read_word r (text word)) words
 
--- at most 65535 seconds, as milliseconds: the spelling is that of milliseconds as microseconds
+-- at most 65535 seconds, in milliseconds: seconds are spelled as milliseconds are when they are
+-- read as microseconds
 abbrev pub within_limit : Option ℕ → Option ℕ
 within_limit None = None
 within_limit (Some millis) = if nat_le millis 65535000 then Some millis else None

@@ -8,7 +8,7 @@ use command_words::{asks_for_lock, asks_for_version, ends, matches_of, say_versi
 use std::convert::AsStr;
 use std::process::ExitCode;
 
-/// What follows the commands in its help.
+/// What follows the commands in the program's help.
 const HELP: &str = "\
 Examples:
   tokentree lock run any -- sleep 5
@@ -18,7 +18,7 @@ Examples:
 This is the part of tokentree that asks running nodes. Other parts run them, and
 know networks; the whole program also simulates, measures and draws.";
 
-/// Does what the words say, after the first, the program's name, and returns the exit status. A line
+/// Does what the words after the first, the program's name, say, and returns the exit status. A line
 /// of `lock` may leave out words that variables of the environment stand in for.
 pub fn run_words<R: Runtime, S: AsStr>(rt: &R, words: &[S]) -> ExitCode {
     if asks_for_version(words) {
@@ -34,7 +34,7 @@ pub fn run_words<R: Runtime, S: AsStr>(rt: &R, words: &[S]) -> ExitCode {
     }
 }
 
-/// The same, once it is known that no word is lost.
+/// Does the same for a command line in which no word is left out.
 fn run_whole<R: Runtime, S: AsStr>(rt: &R, words: &[S]) -> ExitCode {
     let matches = match matches_of(
         rt,
@@ -50,8 +50,8 @@ fn run_whole<R: Runtime, S: AsStr>(rt: &R, words: &[S]) -> ExitCode {
     ends(rt, done, &matches, asks_for_lock(words))
 }
 
-/// Does what the words of a command say, and returns the exit status. It knows whether the last
-/// word is `--`.
+/// Does what the words of a command say, and returns the exit status. `is_dashed` says whether the
+/// last word is `--`.
 fn act<R: Runtime>(rt: &R, matches: &ArgMatches, is_dashed: bool) -> Result<ExitCode, Refusal> {
     let (name, given) = matches.subcommand().ok_or(Refusal::NoCommand)?;
     match name {

@@ -1,6 +1,7 @@
-//! The words of the commands that ask running nodes: what `lock`, `status` and `stop` take, their
-//! help, and what they do with their words. Each has a file here. Others have what is read of `lock`'s words
-//! in front of its command: which are left out, what stands in for them, and for how long it waits.
+//! The words of the commands that ask running nodes: what `lock`, `status` and `stop` take, their help, and
+//! what they do with their words. Each command has a file here. Other files have what is read of `lock`'s
+//! words in front of its command: which words are left out, what stands in for them, and how long `lock`
+//! waits.
 //!
 //! ```
 //! let status = run_words(rt, &["tokentree", "status", "run"]); // prints, status 0

@@ -110,7 +110,7 @@ arguments. A signal that ends lock while it waits gives 128 plus its number.",
             "wait-children",
             "Hold the lock until what the command started ends",
         ),
-        // The program starts its own guard with it.
+        // The program starts its own guard with one of these flags.
         Parameter::HiddenFlag("guard"),
         Parameter::HiddenFlag("guard-keeping"),
         DIR,
@@ -176,7 +176,7 @@ impl OmittedWords {
         }
     }
 
-    /// The words of a command line of `lock`, with what they leave out.
+    /// The words of a command line of `lock`, with the stand-ins for what they leave out.
     ///
     /// # Errors
     /// If memory runs out.

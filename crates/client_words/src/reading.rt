@@ -9,8 +9,7 @@ use line_words::number;
 /// How far the words of `lock` are read: those in front of its command.
 #[derive(Clone, Copy)]
 pub struct Reading {
-    /// How many words in their place were read: DIR, ID and the command's name. No more than three
-    /// count.
+    /// How many positional words were read: DIR, ID and the command's name. At most three count.
     pub places: u8,
     /// Whether the first of them may be an ID.
     pub is_node: bool,
@@ -33,7 +32,7 @@ impl Reading {
         }
     }
 
-    /// What is known after a word more.
+    /// What is known after one more word.
     pub fn after(self, word: &str) -> Reading
         ensures { result ≡ read_word self word.now }
     {
@@ -59,7 +58,7 @@ impl Reading {
         }
     }
 
-    /// What is known after a word in its place.
+    /// What is known after a positional word.
     fn after_place(self, word: &str) -> Reading
         ensures { result ≡ read_place self word.now }
     {
@@ -78,7 +77,8 @@ impl Reading {
         !self.is_over && !self.is_value && word == "--"
     }
 
-    /// How this word, which is next, is said: a short option by its long form.
+    /// How this word, which is next, is spelled: a short option in front of the command in its long
+    /// form, unless it is a value.
     pub fn said(self, word: &str) -> &str
         ensures { result.now ≡ said self word.now }
     {
@@ -89,15 +89,15 @@ impl Reading {
         }
     }
 
-    /// Whether DIR is left out, if there is something that stands in for it: neither word is
-    /// there, or one that may be an ID.
+    /// Whether DIR is left out, if something stands in for it: there is no positional word, or one
+    /// that may be an ID.
     pub fn needs_folder(self) -> bool
         ensures { result ≡ needs_folder self }
     {
         self.places == 0 || self.places == 1 && self.is_node
     }
 
-    /// Whether ID is left out, if the folder is given in some way.
+    /// Whether ID is left out. `has_folder` says whether a folder stands in for DIR.
     pub fn needs_node(self, has_folder: bool) -> bool
         ensures { result ≡ needs_node has_folder self }
     {

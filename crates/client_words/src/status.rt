@@ -122,7 +122,7 @@ pub fn grammar() -> &'static Grammar<'static>
     &STATUS
 }
 
-/// The nodes in the commands that ask several.
+/// The ids of nodes, in the commands that ask several nodes.
 pub const IDS: Parameter<'static> = Parameter::Places(
     "ID",
     "The nodes, by their ids; none for each with a socket in DIR",
@@ -142,7 +142,8 @@ enum ShownStatus<'a> {
     Check(&'a str),
     /// What nodes say of their turns, or of their links.
     Part(LinePart),
-    /// The nodes repeatedly, after so many milliseconds each; none if the word spells no such time.
+    /// The nodes repeatedly, after this many milliseconds each time; none if the word spells no
+    /// such time.
     Watch(Option<u64>, AnswerForm),
     /// The nodes once.
     Once(AnswerForm),

@@ -17,7 +17,7 @@ pub struct StandIns<'a> {
 }
 
 impl<'a> StandIns<'a> {
-    /// Those that are needed if the words in front of the command are read so far.
+    /// The stand-ins that are needed once the words in front of the command are read this far.
     fn needed(self, read: Reading) -> StandIns<'a>
         ensures { result ≡ needed read self.entry }
     {
@@ -37,7 +37,7 @@ impl<'a> StandIns<'a> {
 
 /// The words of a command line of `lock`, with DIR and ID if they were left out and something stands in
 /// for them: DIR after the command's name, ID in front of `--` or at the end. Short options are spelled
-/// out. Fewer than two words are none.
+/// out. The result is empty if there are fewer than two words.
 ///
 /// # Errors
 /// If memory runs out.

@@ -12,11 +12,11 @@ abbrev pub refused_for : ErrorKind → Fault
 refused_for BrokenPipe = Closed
 refused_for _ = Output
 
--- by the error that the system answered
+-- by the error that the system returned
 abbrev pub output_fault : Error → Fault
 output_fault error = refused_for (error_kind error)
 
--- it failed, or its reader is gone
+-- standard output failed, or its reader is gone
 abbrev pub IsUntaken : Fault → Type 0
 IsUntaken fault = (fault ≡ Output) ⊎ (fault ≡ Closed)
 
@@ -25,18 +25,18 @@ abbrev pub first_error : Option Error → Error → Option Error
 first_error None error = Some error
 first_error (Some first) error = Some first
 
--- After a call that succeeded the error that was kept is the same; after one that failed with an error it is
--- the first one.
+-- After a call that succeeded, the kept error is the same as before; after a call that failed with an error,
+-- it is the first one.
 abbrev pub KeepsFirst : {A E : Type 0} → Result A E → Option Error → Option Error → Type 0
 KeepsFirst (Ok x) before after = after ≡ before
 KeepsFirst (Err e) before after = (error : Error) × (after ≡ first_error before error)
 
--- a fault of the output is that of the first error that was kept; any other is as it is
+-- a fault of the output becomes that of the first error, if one was kept; any other fault stays as it is
 abbrev pub kept_fault : Fault → Option Error → Fault
 kept_fault Output (Some error) = output_fault error
 kept_fault fault first = fault
 
--- so a fault of the output stays one, and any other the same
+-- so a fault of the output stays one, and any other fault stays the same
 abbrev pub IsKeptAs : Fault → Fault → Type 0
 IsKeptAs Output said = IsUntaken said
 IsKeptAs fault said = said ≡ fault

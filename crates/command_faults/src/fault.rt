@@ -6,8 +6,8 @@ ghost use Rattle.command_faults.specs.declared.fault.Fault.TheVariants.{Network}
 use network_file::NetworkFault;
 use std::fmt;
 
-/// Why a command ends with status 1, or quietly if nobody reads on. Printed, it is the fault's line
-/// without `tokentree: `.
+/// Why a command ends with status 1, or quietly if the reader of standard output is gone. Printed,
+/// it is the fault's line without `tokentree: `.
 #[derive(Clone, Copy, Debug, PartialEq, Eq, Drop)]
 pub enum Fault {
     /// The network file gives no network.

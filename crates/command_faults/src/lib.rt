@@ -7,7 +7,7 @@
 //! ```
 //!
 //! The trap: only a pipe without a reader counts as closed; any other error of standard output is
-//! said on standard error.
+//! reported on standard error.
 #![tactic(auto)]
 
 mod fault;

@@ -6,8 +6,8 @@ use crate::fault::Fault;
 use std::io;
 use std::io::ErrorKind;
 
-/// The fault of a command to which standard output answered with this error. Unless the reader is gone,
-/// the system's words are said on standard error.
+/// The fault of a command if standard output fails with this error. Unless the reader is gone, prints
+/// the system's words on standard error.
 pub fn output_fault<R: Eprint>(rt: &R, error: io::Error) -> Fault
     ensures fault { result ≡ output_fault error }
     ensures untaken { IsUntaken result }
@@ -23,7 +23,7 @@ pub fn output_fault<R: Eprint>(rt: &R, error: io::Error) -> Fault
 /// The answer of standard output to a write, with the command's fault in place of the error.
 ///
 /// # Errors
-/// As [`output_fault`].
+/// Those of [`output_fault`].
 pub fn printed<R: Eprint, T: Drop>(rt: &R, answer: io::Result<T>) -> Result<T, Fault>
     ensures answer { MatchResult answer (λ value. result ≡ Ok value)
         (λ error. result ≡ Err (output_fault error)) }
@@ -35,8 +35,8 @@ pub fn printed<R: Eprint, T: Drop>(rt: &R, answer: io::Result<T>) -> Result<T, F
     }
 }
 
-/// The fault that a command ends with after this one, by the first error of its sink: one of the output
-/// is that of the error.
+/// The fault with which a command ends that had this one. A fault of the output becomes that of the
+/// first error of its sink, if there was one.
 pub fn kept_fault<R: Eprint>(rt: &R, fault: Fault, first: Option<io::Error>) -> Fault
     ensures fault { result ≡ kept_fault fault first }
     ensures kept { IsKeptAs fault result }

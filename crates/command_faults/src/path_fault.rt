@@ -12,7 +12,7 @@ use std::fmt;
 /// `tokentree: `.
 #[derive(Clone, Copy, Debug, Drop)]
 pub enum PathFault<'a> {
-    /// What may happen to any command.
+    /// A fault that any command may have.
     Fault(Fault),
     /// The file of this path cannot be written, or is no plain file.
     Unwritable(&'a str),

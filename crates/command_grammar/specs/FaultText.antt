@@ -1,4 +1,4 @@
--- What is said of a word that is refused.
+-- What is said about a word that is invalid.
 use Rattle.std.specs.Prelude.{ℕ, List, ◌++◌, codes, decimal}
 use Rattle.command_grammar.specs.declared.words.WordFault.{WordFault}
 use Rattle.command_grammar.specs.declared.words.WordFault.TheVariants.{Absent, NoNumber}

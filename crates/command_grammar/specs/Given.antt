@@ -1,4 +1,5 @@
--- What the words of a command line mean that a parser took: `first_value` is the word of a parameter.
+-- The meaning of the words that a parser took from a command line: `first_value` is the word of a
+-- parameter.
 use Rattle.std.specs.Prelude.{◌≡◌, ◌≢◌, ◌≤◌, ◌⊎◌, ℕ, List, Option, Some, None, Result, Ok, Err, Bool, true, false, codes, decimal}
 use Rattle.std.specs.Borrow.{Bor}
 use Rattle.clap.specs.Matches.{first_value, one_text}

@@ -1,4 +1,4 @@
--- What the parser reads of a table: of each parameter clap's rule for it, of each command and of the program the rules of all.
+-- What the parser gets from a table: clap's rule and the help for each parameter.
 use Rattle.std.specs.Prelude.{◌≡◌, ℕ, Bool, true, false, List, [], ◌∷◌, Some}
 use Rattle.std.specs.Option.{option_map}
 use Rattle.clap.specs.Lexer.{usize_max}
@@ -22,7 +22,7 @@ several id = record (new_rule id) { action = Some Append; range = Some (record {
 abbrev pub flag : List ℕ → Rule
 flag id = record (new_rule id) { long = Some id; action = Some SetTrue }
 
--- clap's rule for a parameter, beside which any other may stand
+-- clap's rule for a parameter that may be given with any others
 abbrev pub rule_for : Parameter → Rule
 rule_for (Place id help) = record (new_rule id.now) { required = true; action = Some Set }
 rule_for (Places id help) = several id.now
@@ -32,7 +32,7 @@ rule_for (ValueOr id name default help) = record (valued id.now) { value_names =
 rule_for (Flag id help) = flag id.now
 rule_for (HiddenFlag id) = flag id.now
 
--- what the help says of it
+-- what the help says about it
 abbrev pub help_for : Parameter → List ℕ
 help_for (Place id help) = help.now
 help_for (Places id help) = help.now

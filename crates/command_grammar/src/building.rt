@@ -1,4 +1,4 @@
-//! The parser of a program, made of its table.
+//! The parser of a program, made from its table.
 ghost use Rattle.std.specs.Prelude.{◌≡◌};
 ghost use Rattle.clap.specs.Walk.{rule_of};
 ghost use Rattle.command_grammar.specs.Parsers.{IsArgOf, rule_for, several, valued};
@@ -60,7 +60,7 @@ fn group_of<'a>(alloc: Global, choice: Choice<'a>) -> Result<ArgGroup<'a>, Alloc
         .args(choice.of)
 }
 
-/// A parameter with what the grammar asks of others beside it.
+/// A parameter, with what the grammar asks of others given with it.
 fn bound_arg<'a>(
     alloc: Global,
     parameter: Parameter<'a>,
@@ -81,8 +81,8 @@ fn bound_arg<'a>(
     Ok(arg)
 }
 
-/// A parameter that needs this other one: what excludes that excludes this one, too. For the parser asks
-/// for no parameter that is excluded.
+/// A parameter that needs this other one. What excludes the other one excludes this one too, since the
+/// parser does not ask for a parameter that is excluded.
 fn beside<'a>(
     mut arg: Arg<'a>,
     needed: &'a str,

@@ -2,8 +2,8 @@
 ghost use Rattle.std.specs.Prelude.{◌≡◌};
 ghost use Rattle.command_grammar.specs.Parsers.{help_for, is_hidden};
 
-/// A parameter of a command. Each names its id first, and its help last; an option or a flag is
-/// given as `--` and its id.
+/// A parameter of a command. Each names its id first, and its help, if it has one, last; an option
+/// or a flag is given as `--` and its id.
 #[derive(Clone, Copy)]
 pub enum Parameter<'a> {
     /// A word in its place, which must be given.
@@ -14,7 +14,7 @@ pub enum Parameter<'a> {
     Rest(&'a str, &'a str),
     /// An option with a value, which has the second name in the help.
     Value(&'a str, &'a str, &'a str),
-    /// The same, with the value that it has if it is not given as the third.
+    /// The same, with a default value as the third text.
     ValueOr(&'a str, &'a str, &'a str, &'a str),
     /// A flag.
     Flag(&'a str, &'a str),
@@ -23,7 +23,7 @@ pub enum Parameter<'a> {
 }
 
 impl<'a> Parameter<'a> {
-    /// What the help says of it; nothing if the help leaves it out.
+    /// What the help says about it; an empty text if the help leaves it out.
     pub fn help(&self) -> &'a str
         ensures { result.now ≡ help_for self.now }
     {
@@ -66,18 +66,18 @@ pub struct Grammar<'a> {
     pub help: &'a str,
     /// Parameters that it shares with other commands; the help shows these options first.
     pub shared: &'a [Parameter<'a>],
-    /// What it takes beside them. Places are taken in this order, and the help shows options in it.
+    /// What it takes besides them. Places are taken in this order, and the help shows options in it.
     pub parameters: &'a [Parameter<'a>],
-    /// Pairs of ids: the first is refused unless the second is given.
+    /// Pairs of ids: the first is invalid unless the second is given.
     pub needs: &'a [(&'a str, &'a str)],
-    /// Pairs of ids: the first is refused if the second is given.
+    /// Pairs of ids: the first is invalid if the second is given.
     pub excludes: &'a [(&'a str, &'a str)],
     /// The choice that must be made, if there is one.
     pub choice: Option<Choice<'a>>,
 }
 
-/// A command of no name that takes nothing. From it a table takes what it leaves out, such as the rules of
-/// parameters that may stand beside any others.
+/// A command without a name that takes nothing. A table takes from it what it leaves out, such as the
+/// rules of parameters that may be given with any others.
 pub const FREE: Grammar<'static> = Grammar {
     name: "",
     about: "",

@@ -7,7 +7,7 @@
 //! const BOUND: Grammar<'static> = Grammar {
 //!     name: "bound",
 //!     about: "Shows a network's numbers",
-//!     help: "Statuses: 0 done; 2 the command line was refused.",
+//!     help: "Statuses: 0 done; 2 invalid arguments.",
 //!     parameters: &[Parameter::Place("FILE", "The network file"), Parameter::Flag("sharp", "..")],
 //!     ..FREE
 //! };
@@ -15,7 +15,7 @@
 //!
 //! A word is read as a number by [`Number`], which says its range.
 //!
-//! The trap: a table is not checked. A name that stands in it twice is the parser's to refuse.
+//! The trap: a table is not checked. It is left to the parser to refuse a name that is in it twice.
 #![tactic(auto)]
 
 mod building;

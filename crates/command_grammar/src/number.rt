@@ -9,7 +9,7 @@ use line_words::decimal_number;
 pub struct Number<'a> {
     /// The id of its parameter.
     pub id: &'a str,
-    /// The same, as messages name it.
+    /// The name of the parameter in messages.
     pub name: &'a str,
     /// The least that it may be.
     pub least: u64,
@@ -19,7 +19,7 @@ pub struct Number<'a> {
 
 impl Number<'_> {
     /// The number that a word spells: decimal, with no sign and no leading zero, from `least` to
-    /// `most`; none of any other word. (`clap`'s own numbers take `+1` and `01`.)
+    /// `most`; none for any other word. (`clap`'s own numbers take `+1` and `01`.)
     pub fn read(&self, word: &str) -> Option<u64>
         ensures { IsRead self.now.least self.now.most word.now result }
     {

@@ -7,7 +7,7 @@ use crate::number::Number;
 use clap::ArgMatches;
 use std::fmt;
 
-/// Why a word is refused that the parser took. Printed, it is what the message says after the
+/// Why a word that the parser took is invalid. Printed, it is what the message says after the
 /// program's name.
 #[derive(Clone, Copy, Debug, Drop)]
 pub enum WordFault<'a> {

@@ -1,4 +1,4 @@
--- Which part of the records the words of `gather` say.
+-- Which part of the records the words of `gather` ask for.
 use Rattle.std.specs.Prelude.{◌⊎◌, None, Some, codes}
 use Rattle.clap.specs.declared.parser.matches.Found.{Found}
 use Rattle.command_grammar.specs.Given.{IsGiven, IsRefused}
@@ -14,7 +14,7 @@ IsStretchOf found (Last seconds) =
 IsStretchOf found Whole =
     IsGiven found (codes "from") 0 4294967295 None × IsGiven found (codes "last") 0 4294967295 None
 
--- one of the numbers is refused
+-- one of the numbers is invalid
 abbrev pub IsStretchRefused : Found → WordFault → Type 0
 IsStretchRefused found fault =
     IsRefused found (codes "from") 0 4294967295 fault ⊎ IsRefused found (codes "last") 0 4294967295 fault

@@ -23,6 +23,6 @@ AreNumbersRefused found (Word fault) =
     IsRefused found (codes "runs") 1 1000000 fault ⊎ IsRefused found (codes "seed") 0 4294967295 fault
 AreNumbersRefused found _ = ⊥
 
--- or the order of the events is
+-- one of the numbers, or the order of the events, is invalid
 abbrev pub IsPlanRefused : Found → Refusal → Type 0
 IsPlanRefused found refusal = AreNumbersRefused found refusal ⊎ IsSchedulerRefused found refusal

@@ -11,7 +11,7 @@ use Rattle.command_words.specs.declared.refusal.Refusal.{Refusal}
 use Rattle.command_words.specs.declared.refusal.Refusal.TheVariants.{Word, Schedule}
 use Rattle.command_words.specs.declared.refusal.ScheduleFault.TheVariants.{Unknown, SlowAlone}
 
--- the order with a name, and with this share if something is slow in it
+-- the order that has this name, with this share if something is slow in it
 abbrev pub scheduler_named : List ℕ → ℕ → Option Scheduler
 scheduler_named name share =
     if bytes_eq name (codes "rounds") then Some Rounds
@@ -34,7 +34,7 @@ IsNamedScheduler found name scheduler =
     × (scheduler_named name (unwrap_or share 10) ≡ Some scheduler)
     × (is_some share ≡ true → is_slow scheduler ≡ true)
 
--- why it is refused: the share is no such number; there is no such order; or there is a share, and
+-- why it is invalid: the share is no such number; there is no such order; or there is a share, and
 -- nothing is slow
 abbrev pub IsNamedRefused : Found → List ℕ → Refusal → Type 0
 IsNamedRefused found name (Word (NoNumber number)) = (number.id.now ≡ codes "share") × IsUnread found (codes "share") 1 100
@@ -45,7 +45,8 @@ IsNamedRefused found name (Schedule SlowAlone) =
     × (scheduler_named name share ≡ Some scheduler) × (is_slow scheduler ≡ false)
 IsNamedRefused found name _ = ⊥
 
--- the order of the word of `--schedule`; without one random steps with `--random`, and else rounds
+-- the order that `--schedule` names; without that option, random steps if `--random` is given, and
+-- rounds if not
 abbrev pub IsSchedulerBy : Found → Option (List ℕ) → Scheduler → Type 0
 IsSchedulerBy found None scheduler =
     (flag : Bool) × IsFlag found (codes "random") flag × (scheduler ≡ (if flag then Random else Rounds))
@@ -54,7 +55,7 @@ IsSchedulerBy found (Some name) scheduler = IsNamedScheduler found name schedule
 abbrev pub IsSchedulerOf : Found → Scheduler → Type 0
 IsSchedulerOf found scheduler = IsSchedulerBy found (first_value found (codes "schedule")) scheduler
 
--- why that is refused; without the option it never is
+-- why that is invalid; without the option it never is
 abbrev pub IsSchedulerRefused : Found → Refusal → Type 0
 IsSchedulerRefused found refusal =
     (name : List ℕ) × (first_value found (codes "schedule") ≡ Some name) × IsNamedRefused found name refusal

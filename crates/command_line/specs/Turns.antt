@@ -8,8 +8,8 @@ use Rattle.subcommands.specs.declared.schedule.Turns.{Turns}
 use Rattle.subcommands.specs.declared.schedule.Turns.TheVariants.{Rounds, Random}
 
 -- with `--rounds`, that many rounds; else as many steps as `--random` says, drawn from `--seed`,
--- with `--loss` of a hundred takes lost, by default 0, and with moves of clients if `--clients` is
--- given
+-- with `--loss` percent of the takes lost, by default 0, and with moves of clients if `--clients`
+-- is given
 abbrev pub AreTurnsOf : Found → Turns → Type 0
 AreTurnsOf found (Rounds count) = IsGiven found (codes "rounds") 0 4294967295 (Some count)
 AreTurnsOf found (Random steps seed chances) =

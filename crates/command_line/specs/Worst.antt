@@ -1,4 +1,4 @@
--- The plan that the words of `worst` say.
+-- The plan that the words of `worst` ask for.
 use Rattle.std.specs.Prelude.{◌≡◌, ◌⊎◌, Bool, None, Some, codes}
 use Rattle.clap.specs.declared.parser.matches.Found.{Found}
 use Rattle.command_grammar.specs.Given.{IsGiven, IsRefused}
@@ -21,12 +21,12 @@ IsSearchOf found progress plan =
     × IsGiven found (codes "steps") 0 1000000000 (Some plan.steps)
     × (plan.progress ≡ progress)
 
--- the number of minutes or of searches is refused
+-- the number of minutes or of searches is invalid
 abbrev pub IsExtentRefused : Found → WordFault → Type 0
 IsExtentRefused found fault =
     IsRefused found (codes "minutes") 1 10080 fault ⊎ IsRefused found (codes "searches") 1 1000000 fault
 
--- one of the numbers is refused
+-- one of the numbers is invalid
 abbrev pub IsSearchRefused : Found → WordFault → Type 0
 IsSearchRefused found fault =
     IsExtentRefused found fault ⊎ IsRefused found (codes "seed") 0 4294967295 fault

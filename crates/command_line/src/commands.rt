@@ -15,7 +15,7 @@ use process_words::{node, up};
 use std::convert::AsStr;
 use std::process::ExitCode;
 
-/// What follows the commands in its help.
+/// What follows the commands in the help of `tokentree`.
 const HELP: &str = "\
 Examples:
   tokentree bound examples/square.toml
@@ -31,7 +31,7 @@ Statuses: 0 done; 1 a file, memory or standard output failed, and a line on
 standard error says which; 2 invalid arguments; 3 simulate is done, and refused
 some lines of its events.";
 
-/// Does what the words say, after the first, the program's name, and returns the exit status.
+/// Does what the words after the first one, the program's name, say, and returns the exit status.
 /// Shows progress if standard error is a terminal.
 pub fn run_words<R: Runtime, S: AsStr>(rt: &R, words: &[S], on_terminal: bool) -> ExitCode {
     if is_of_service(words) {
@@ -74,7 +74,7 @@ fn commands() -> [&'static Grammar<'static>; 17]
     ]
 }
 
-/// Does what a line says if a part of the program has its command.
+/// Does what a command line says if its command belongs to a part of the program.
 fn run_part<R: Runtime, S: AsStr>(rt: &R, words: &[S]) -> ExitCode {
     match words {
         [_, name, ..] if is_of_networks(name.as_str()) => network_words::run_words(rt, words),
@@ -87,7 +87,7 @@ fn run_part<R: Runtime, S: AsStr>(rt: &R, words: &[S]) -> ExitCode {
     }
 }
 
-/// Whether a command is one for networks.
+/// Whether a command is about networks.
 fn is_of_networks(name: &str) -> bool
     ensures { result ≡ (bytes_eq name.now (codes "bound") || bytes_eq name.now (codes "network")) }
 {

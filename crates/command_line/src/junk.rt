@@ -36,7 +36,7 @@ pub fn grammar() -> &'static Grammar<'static>
     &JUNK
 }
 
-/// The numbers of lines of junk.
+/// How many lines of junk are printed.
 const LINES: Number<'static> = Number {
     id: "LINES",
     name: "LINES",

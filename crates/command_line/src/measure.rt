@@ -117,7 +117,7 @@ const RUNS: Number<'static> = Number {
     most: 1_000_000,
 };
 
-/// In how many of a hundred rounds a slow link or node has its part.
+/// In how many of a hundred rounds a slow link or node acts.
 const SHARE: Number<'static> = Number {
     id: "share",
     name: "--share",
@@ -125,7 +125,7 @@ const SHARE: Number<'static> = Number {
     most: 100,
 };
 
-/// That number if it is left out.
+/// The share if `--share` is left out.
 const USUAL_SHARE: u64 = 10;
 
 /// Does what the words of `measure` say. `progress` says whether to show progress.
@@ -161,7 +161,7 @@ fn form(given: &ArgMatches) -> Form
     }
 }
 
-/// Plots the runs of a plan, and prints their rows. The status says whether that failed, or a run.
+/// Plots the runs of a plan, and prints their rows. The status says whether that, or a run, failed.
 fn plot<R: Files + Print + Eprint + Clock + AllocGlobal + Threads + Sync>(
     rt: &R,
     file: &str,
@@ -179,7 +179,8 @@ fn plot<R: Files + Print + Eprint + Clock + AllocGlobal + Threads + Sync>(
 /// The plan, by the words of `measure`.
 ///
 /// # Errors
-/// If a word spells no number in its range, or the order of the events is unknown or takes no share.
+/// If a word spells no number in its range, or the order of the events is unknown, or takes no
+/// share and one is given.
 fn plan(given: &ArgMatches, progress: bool) -> Result<MeasurePlan, Refusal>
     ensures ok { IfOk result (IsPlanOf (found_of given.now) progress) }
     ensures err { IfErr result (IsPlanRefused (found_of given.now)) }
@@ -196,7 +197,7 @@ fn plan(given: &ArgMatches, progress: bool) -> Result<MeasurePlan, Refusal>
 /// The order of the events, by the words of `measure`.
 ///
 /// # Errors
-/// If it is unknown, or takes no share, or the share is no number in its range.
+/// If it is unknown, or takes no share and one is given, or the share is no number in its range.
 fn given_scheduler(given: &ArgMatches) -> Result<Scheduler, Refusal>
     ensures ok { IfOk result (IsSchedulerOf (found_of given.now)) }
     ensures err { IfErr result (IsSchedulerRefused (found_of given.now)) }
@@ -218,10 +219,11 @@ fn plain_scheduler(is_random: bool) -> Scheduler
     }
 }
 
-/// The order of the events that has this name, with the share that the words say.
+/// The order of the events that has this name, with the share that the words give.
 ///
 /// # Errors
-/// If none has it, or it takes no share, or the share is no number in its range.
+/// If no order has this name, or it takes no share and one is given, or the share is no number in
+/// its range.
 fn named_scheduler(given: &ArgMatches, name: &str) -> Result<Scheduler, Refusal>
     ensures ok { IfOk result (IsNamedScheduler (found_of given.now) name.now) }
     ensures err { IfErr result (IsNamedRefused (found_of given.now) name.now) }
@@ -236,8 +238,8 @@ fn named_scheduler(given: &ArgMatches, name: &str) -> Result<Scheduler, Refusal>
     Ok(scheduler)
 }
 
-/// The order of the events with a name, and with this share if something is slow in it; none for any
-/// other word.
+/// The order of the events that has this name, with this share if something is slow in it; none for
+/// any other word.
 fn scheduler_named(name: &str, share: u16) -> Option<Scheduler>
     ensures { result ≡ scheduler_named name.now share }
 {

@@ -16,8 +16,8 @@ use std::rt::Files;
 use subcommands::schedule::Turns;
 use subcommands::{Chances, schedule};
 
-/// What `schedule` takes. Options for random steps conflict with `--rounds` too: beside that, the
-/// parser does not require `--random`.
+/// What `schedule` takes. Options for random steps also conflict with `--rounds`, since beside it
+/// the parser does not require `--random`.
 static SCHEDULE: Grammar<'static> = Grammar {
     name: "schedule",
     about: "Prints a list of events for simulate: damage, rounds, random steps",
@@ -33,7 +33,7 @@ each direction of each edge, by ascending source and destination: one of each
 more than the link holds items. A round is a sweep if no node lends the lock
 after its tick.
 
-With --give-back, a client releases the lock once its node has lent it for so
+With --give-back, a client releases the lock once its node has lent it for this
 many ticks in a row: after the round, or right after that tick among random
 steps. --rounds with --give-back 1 is a run as measure makes it.
 

@@ -39,7 +39,7 @@ which simulate shows the same:
 
 All memory is taken before the first turn, so a run that does not fit fails at
 once. Nothing is printed before the end. On a terminal, a line on standard error
-shows meanwhile how many turns node 0 has done.
+shows how many turns node 0 has done so far.
 
 Statuses: 0 done; 1 a file, memory, a thread or standard output failed, and a
 line on standard error says which; 2 invalid arguments.",

@@ -33,8 +33,8 @@ latest run of all searches is judged once more from its start:
 
 After one sweep less than the line 'sweeps' says, that run did not serve yet, so
 no bound below this number is true. 'sharp' and 'sweeps-bound' are proved ones.
-'simulate' and 'draw' take the file of --events. After each pass, whoever has
-the lock gives it back.
+'simulate' and 'draw' take the file of --events. After each pass, the client
+that has the lock releases it.
 
 The same words find the same run, on any machine. More searches, or more steps,
 may find a later one; if they find none, that says nothing.
@@ -43,7 +43,7 @@ With --minutes it begins 16 searches at a time until that time has passed, and
 ends those that it began. 'searches' says how many there were. With that number
 as --searches, and the same seed and steps, the same run is found again.
 
-Statuses: 0 done; 1 a file, memory or standard output was refused, and a line on
+Statuses: 0 done; 1 a file, memory or standard output failed, and a line on
 standard error says which; 2 invalid arguments.",
     parameters: &[
         FILE,
@@ -106,7 +106,7 @@ const STEPS: Number<'static> = Number {
     most: 1_000_000_000,
 };
 
-/// Does what the words of `worst` say, and shows its progress if that is asked for.
+/// Does what the words of `worst` say. `progress` says whether to show progress.
 pub fn run<R: Runtime>(rt: &R, given: &ArgMatches, progress: bool) -> Result<ExitCode, Refusal>
     ensures { DoneMeansZero result }
 {
@@ -114,7 +114,7 @@ pub fn run<R: Runtime>(rt: &R, given: &ArgMatches, progress: bool) -> Result<Exi
     Ok(worst::run(rt, file, plan, given.get_str("events"))?)
 }
 
-/// The plan that the words of `worst` say.
+/// The plan that the words of `worst` ask for.
 ///
 /// # Errors
 /// If a word spells no number in its range.
@@ -130,7 +130,7 @@ fn plan(given: &ArgMatches, progress: bool) -> Result<SearchPlan, WordFault<'sta
     })
 }
 
-/// How long it searches, by the words of `worst`.
+/// How long the search goes on, by the words of `worst`.
 ///
 /// # Errors
 /// If a word spells no number in its range.

@@ -20,12 +20,12 @@ text_of es = flat_map event_line es
 abbrev pub GrowsByText : Option (List ℕ) → List Event → Option (List ℕ) → Type 0
 GrowsByText old es new = Appends old new (text_of es)
 
--- by the text of no event they do not grow
+-- the text of no event adds no bytes
 pub grows-nowhere : (known : Option (List ℕ)) → GrowsByText known [] known
 grows-nowhere None = tt
 grows-nowhere (Some bytes) = sym (append-nil bytes)
 
--- the text of two lists of events is both texts
+-- the text of two lists of events is both texts, one after the other
 pub grows-both : (a b c : Option (List ℕ)) (xs ys : List Event) → GrowsByText a xs b → GrowsByText b ys c → GrowsByText a (xs ++ ys) c
 grows-both None b c xs ys one two = tt
 grows-both (Some first) None c xs ys one two = absurd one

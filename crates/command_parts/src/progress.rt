@@ -12,7 +12,7 @@ pub struct Progress {
     started: Instant,
     /// The name of what is counted, in the plural.
     things: &'static str,
-    /// How many there are.
+    /// How many things there are.
     most: u32,
     /// How many are done, if they are counted here.
     done: AtomicU64,
@@ -33,7 +33,7 @@ impl Progress {
         })
     }
 
-    /// One more is done.
+    /// Counts one more of them as done, and shows how many are.
     pub fn advance<R: Clock + Eprint>(&self, rt: &R) {
         let done = self.done.fetch_add(1, Ordering::SeqCst).wrapping_add(1);
         self.say(rt, done);
@@ -53,7 +53,7 @@ impl Progress {
         }
     }
 
-    /// All is done: removes the line.
+    /// Removes the line, as all is done.
     pub fn end<R: Eprint>(&self, rt: &R) {
         if self.said.load(Ordering::SeqCst) > 0 {
             let _ = eprint!(rt; "\r\x1b[K");

@@ -1,4 +1,4 @@
-//! Whether a text has carriage returns: so that a user learns why its lines are refused.
+//! Whether a text has carriage returns, so that a user learns why its lines are refused.
 ghost use Rattle.std.specs.Prelude.{◌≡◌, ◌||◌, false, length, option_map};
 ghost use Rattle.byte_streams.specs.Streams.{Reads};
 ghost use Rattle.command_parts.specs.Returns.{gave_return, has_return, return_hint};

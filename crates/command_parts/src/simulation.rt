@@ -22,7 +22,7 @@ pub const STANDARD_INPUT: &str = "-";
 /// The status if a line was refused.
 const LINES_REFUSED: u8 = 3;
 
-/// Simulates from the source to the sink, and writes all its text; after a fault, the text up to
+/// Simulates from the source to the sink, and writes all its text or, after a fault, the text up to
 /// there.
 ///
 /// What is unproved: that the bytes that were simulated are those of the file or of standard

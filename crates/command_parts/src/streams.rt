@@ -96,8 +96,9 @@ impl<W: Write + Drop> WriteSink<W> {
         }
     }
 
-    /// The fault that a command ends with after this one, if the sink writes to standard output. One of
-    /// the output is that of the sink's first error, as [`output_fault`](command_faults::output_fault) has it.
+    /// The fault that a command ends with after this fault, if the sink writes to standard output. For a
+    /// fault of the output, it is that of the sink's first error, as
+    /// [`output_fault`](command_faults::output_fault) has it.
     pub fn fault<R: Eprint>(&self, rt: &R, fault: Fault) -> Fault
         ensures fault { result ≡ kept_fault fault self.now.first }
         ensures kept { IsKeptAs fault result }

@@ -22,7 +22,7 @@ abbrev pub asks_for_lock : List (List ℕ) → Bool
 asks_for_lock (program ∷ command ∷ words) = bytes_eq command (codes "lock")
 asks_for_lock _ = false
 
--- the word after the program's name, if one of these commands is called so
+-- the word after the program's name, if one of these commands has that name
 abbrev pub known_command : List Command → List (List ℕ) → Option (List ℕ)
 known_command commands (program ∷ name ∷ words) = if list_any (λ c. aliases_to c name) commands then Some name else None
 known_command commands _ = None
@@ -31,7 +31,7 @@ known_command commands _ = None
 abbrev pub is_version : List ℕ → Bool
 is_version word = bytes_eq word (codes "version") || bytes_eq word (codes "-v")
 
--- the only word after it is `version` or `-v`, or the second of two is `--version`
+-- the only word after the program's name is `version` or `-v`, or the second of two is `--version`
 abbrev pub asks_for_version : List (List ℕ) → Bool
 asks_for_version (program ∷ word ∷ []) = is_version word
 asks_for_version (program ∷ command ∷ word ∷ []) = bytes_eq word (codes "--version")
@@ -49,7 +49,7 @@ abbrev pub names_service : List (List ℕ) → Bool
 names_service (program ∷ command ∷ words) = serves command
 names_service _ = false
 
--- or the words ask for the version
+-- the words name such a command, or ask for the version
 abbrev pub is_of_service : List (List ℕ) → Bool
 is_of_service words = asks_for_version words || names_service words
 

@@ -1,4 +1,4 @@
--- Why a command refuses its words: what several commands share.
+-- Why the words of a command are invalid: what several commands share.
 use Rattle.std.specs.Prelude.{◌≡◌, ℕ, List, None, codes}
 use Rattle.clap.specs.Matches.{first_value}
 use Rattle.clap.specs.declared.parser.matches.Found.{Found}

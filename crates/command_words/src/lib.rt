@@ -1,5 +1,6 @@
-//! What the lines of all commands share: words that several commands take, how a line is read, why it
-//! fails, and how it ends. Each has a file here, except that `line` has both how it is read and how it ends.
+//! What the command lines of all commands share: words that several commands take, how a line is read, why
+//! it fails, and how it ends. Each has a file here, except that `line` has both how a line is read and how
+//! it ends.
 //!
 //! ```
 //! let matches = matches_of(rt, words, HELP, &COMMANDS)?; // or the status of a line that showed help

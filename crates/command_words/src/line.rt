@@ -1,5 +1,5 @@
-//! What the lines of all commands share: whether they name a command of the service, how they are
-//! read, and how they end.
+//! What the command lines of all commands share: whether they name a command of the service, how
+//! they are read, and how they end.
 ghost use Rattle.std.specs.Prelude.{◌≡◌, ◌⊎◌, map, option_map};
 ghost use Rattle.std.specs.Process.{exit_status};
 ghost use Rattle.clap.specs.Facts.{subcommands_of};
@@ -64,7 +64,7 @@ fn known_command<'a, S: AsStr>(parser: &Command<'_>, words: &'a [S]) -> Option<&
     }
 }
 
-/// The parser of these commands, in whose texts the program has its own name. Its help ends with this text.
+/// The parser of these commands, whose texts call the program by its own name. Its help ends with this text.
 ///
 /// # Errors
 /// If memory runs out.
@@ -105,7 +105,7 @@ pub fn ends<R: Runtime>(
     status(rt, done, is_lock, matches.subcommand_name())
 }
 
-/// Before a fault's own line, says which file it is and what is wrong with it.
+/// Before a fault's own line, says which file is at fault and what is wrong with it.
 fn explain<R: Runtime>(rt: &R, given: &ArgMatches, fault: Fault) {
     match fault {
         Fault::Network(fault) => {

@@ -51,7 +51,7 @@ pub const EVENTS: Parameter<'static> = Parameter::Place(
 /// The folder in the commands that use the lock.
 pub const DIR: Parameter<'static> = Parameter::Place("DIR", "The folder of the nodes' sockets");
 
-/// The ids that the parser takes. The network, or the folder, says which there are.
+/// The ids that the parser takes. The network, or the folder, says which of them exist.
 pub const ID: Number<'static> = Number {
     id: "ID",
     name: "ID",

@@ -5,7 +5,7 @@ ghost use Rattle.command_words.specs.Ends.{status_of};
 
 use command_grammar::WordFault;
 use program_ends::{
-    Fault, LINE_REFUSED, PathFault, PathFaultLine, explain_network, explain_writing, fails,
+    Fault, INVALID_ARGUMENTS, PathFault, PathFaultLine, explain_network, explain_writing, fails,
     fault_status,
 };
 use recovery_times::TimeFault;
@@ -50,7 +50,7 @@ impl fmt::Display for KindFault {
 pub enum ScheduleFault {
     /// There is no order of that name.
     Unknown,
-    /// An order in which nothing is slow has a share.
+    /// A share is given for an order in which nothing is slow.
     SlowAlone,
 }
 
@@ -169,7 +169,7 @@ pub fn status<R: Eprint>(
         Err(refusal) => {
             let command = command.unwrap_or("");
             let _ = eprintln!(rt; "tokentree: {refusal}; try: tokentree help {command}");
-            ExitCode::from(LINE_REFUSED)
+            ExitCode::from(INVALID_ARGUMENTS)
         }
     }
 }

@@ -15,7 +15,7 @@ pub record ConfigurationView : Type 0 where
   pub nodes : List NodeView
   pub links : LinksView
 
--- the node at a place without one
+-- stands for a node at a place without one
 abbrev pub no_node : NodeView
 no_node = record {
   id = 0;

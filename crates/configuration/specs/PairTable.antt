@@ -10,6 +10,6 @@ pub record PairTableView : Type 0 where
 abbrev pub place_of : ℕ → ℕ → ℕ → ℕ
 place_of nodes u v = u * nodes + v
 
--- the number of u and v; 0 if one is no node
+-- the number of u and v, if v is a node; 0 if u is no node
 abbrev pub value_at : PairTableView → ℕ → ℕ → ℕ
 value_at t u v = slice_index_or t.values (place_of t.nodes u v) 0

@@ -1,4 +1,4 @@
--- What becomes of the nodes if one of them takes over its neighbours in another network.
+-- What becomes of the nodes if one of them takes over its neighbours in a different network.
 use Rattle.std.specs.Prelude.{◌≡◌, ◌≢◌, ℕ, List, length}
 use Rattle.topology.specs.Network.{Network, neighbours_of}
 use Rattle.run_model.specs.node_core.Site.{site_of}

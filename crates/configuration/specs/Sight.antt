@@ -19,19 +19,19 @@ sight_of w v = record {
   lending = is_lending w v;
 }
 
--- if the event is v's own, v is the named node; harms are left out
+-- if the event touches v, v is the named node; harms are left out
 abbrev pub IsOwnNode : Event → Option ℕ → Type 0
 IsOwnNode (Damage h) own = Unit {0}
 IsOwnNode e own = (v : ℕ) → IsTrue (is_node_touched e v) → own ≡ Some v
 
--- The sight of the node whose event it is, if that is one of the network. It says nothing about a
--- harm, which may touch two nodes or an edge.
+-- The sight of the node that the event touches, if that is a node of the network. It says nothing
+-- about a harm, which may touch two nodes or an edge.
 abbrev pub IsTouchedSight : World → Event → Option Sight → Type 0
 IsTouchedSight w (Damage h) sight = Unit {0}
 IsTouchedSight w e sight = (v : ℕ) → v < w.net.nodes → IsTrue (is_node_touched e v) → sight ≡ Some (sight_of w v)
 
--- If an event is no damage, and leaves the sight of each node that it touches, the network serves
--- after it exactly if it served before.
+-- If an event is not damage, and leaves the sight of each node that it touches unchanged, the
+-- network serves after it exactly if it served before.
 abbrev pub SightsDecide : Type 0
 SightsDecide =
     (w : World) (e : Event) → is_damage w e ≡ false

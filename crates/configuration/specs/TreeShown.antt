@@ -8,6 +8,6 @@ abbrev pub IsNodeShown : World → ℕ → Type 0
 IsNodeShown w v =
     ((w.node v).distance ≡ distance_of w.net v) × ((w.node v).parent ≡ parent_of w.net v)
 
--- and each node has
+-- each node has its distance from the root and its true parent
 abbrev pub IsTreeShown : World → Type 0
 IsTreeShown w = (v : ℕ) → v < w.net.nodes → IsNodeShown w v

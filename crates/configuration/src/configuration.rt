@@ -141,7 +141,7 @@ impl<A: Allocator + Copy> Configuration<A> {
 
     /// Every configuration is in range: each field of a node, and what is under way on each link.
     /// Looks at each node once, and changes nothing.
-    pub fn assure_ranges(&self)
+    pub fn ranges_hold(&self)
         ensures { IsWorldInRange (world_of self.now) }
     {
         topology_laws::joined();
@@ -198,7 +198,7 @@ impl<A: Allocator + Copy> Configuration<A> {
         count
     }
 
-    /// Refuses an id without a node.
+    /// The place of the node with an id; refuses an id without a node.
     #[inline(always)]
     fn find_node(&self, v: u16) -> Result<usize, EventFault>
         ensures ok { IfOk result (λ place. (place ≡ v) × (v < (world_of self.now).net.nodes)
@@ -285,7 +285,7 @@ impl<A: Allocator + Copy> Configuration<A> {
         }
     }
 
-    /// An item of a link is lost; 0 is the oldest.
+    /// Loses the item at an index of a link; 0 is the oldest.
     #[inline(never)]
     fn lose(&mut self, from: u16, to: u16, item: u16) -> Result<Happened, EventFault>
         ensures { Answers self.old (Lose from to item) self.new result }
@@ -309,7 +309,7 @@ impl<A: Allocator + Copy> Configuration<A> {
         Ok(Happened::Other)
     }
 
-    /// A client releases the lock at a node, or waits no longer.
+    /// A client releases the lock at a node, or stops waiting.
     #[inline(never)]
     fn leave(&mut self, node: u16, ticket: u16) -> Result<Happened, EventFault>
         ensures { Answers self.old (Leave node ticket) self.new result }
@@ -329,8 +329,8 @@ impl<A: Allocator + Copy> Configuration<A> {
     pub fn step(&mut self, event: &Event) -> Result<Happened, EventFault>
         ensures { Answers self.old event.now self.new result }
     {
-        // A result that is passed on whole goes through memory for every event; one taken apart
-        // and made again does not.
+        // A result that is passed on whole goes through memory for every event; one taken apart and
+        // rebuilt does not.
         match *event {
             Event::Send { from, to } => self.send(from, to),
             Event::Take { from, to } => self.take(from, to),

@@ -7,9 +7,9 @@ pub use run_model::laws::{
     sweep_numbers, ticks,
 };
 
-/// An event that is no damage, and leaves the sight of what it touches, does not change whether
-/// the network serves. So along a run it is enough to look at one node for each event, and at the
-/// whole network only if that node's sight has changed.
+/// An event that is not damage, and leaves the sight of what it touches unchanged, does not change
+/// whether the network serves. So along a run it is enough to look at one node for each event, and
+/// at the whole network only if that node's sight has changed.
 pub fn sights()
     ensures { SightsDecide }
 {

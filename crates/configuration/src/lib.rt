@@ -6,7 +6,7 @@
 //!
 //! ```
 //! let mut configuration = Configuration::new(alloc, &net)?;
-//! configuration.step(&Event::Tick { node: 0 })?;      // refused, as NoNode is, it changes nothing
+//! configuration.step(&Event::Tick { node: 0 })?;      // an event that is refused changes nothing
 //! ```
 //!
 //! Its contracts use the run's model: as functions of the nodes' ids, the nodes and links are a
@@ -29,7 +29,7 @@
 //! served = serves_after(&configuration, &event, served, before);
 //! ```
 //!
-//! The traps: a send on a full link is no refusal; the frame is lost, and the step is `Ok`. A
+//! The traps: a send on a full link is not refused; the frame is lost, and the step is `Ok`. A
 //! network may serve by chance, and not at the next moment: only a legitimate one keeps serving.
 #![tactic(auto)]
 

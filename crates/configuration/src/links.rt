@@ -21,9 +21,9 @@ use std::alloc::{AllocError, Allocator, Global};
 use std::marker::Model;
 use topology::{Net, NetFault};
 
-/// The links of a network: one each way for each edge, close together, after one without places
-/// that stands for all pairs without an edge. There are also spare pairs of links, each for one
-/// more edge.
+/// The links of a network: one each way for each edge, close together, after a first link without
+/// places, which stands for all pairs without an edge. There are also spare pairs of links, each
+/// for one more edge.
 #[derive(Drop)]
 pub struct Links<A: Allocator + Copy = Global> {
     net: Net<A>,
@@ -58,8 +58,8 @@ fn link_count<A: Allocator + Copy>(net: &Net<A>, pairs: u16) -> u16
     2 * (net.edges().len() as u16 + pairs)
 }
 
-/// Empty links, after one without places, and their places, all of them spare. There is room for
-/// the places of all.
+/// Empty links, after one without places, and the list of their places, all of them spare. The list
+/// has room for the places of all links.
 fn stock<A: Allocator + Copy>(
     alloc: A,
     capacity: usize,
@@ -114,7 +114,8 @@ fn give_back<A: Allocator>(places: &mut PairTable<A>, spares: &mut Vec<u16, A>, 
     places.set(from, to, 0);
 }
 
-/// The place of each link of a network, if there are enough spare ones.
+/// Lays the links of a network from the spare ones, of which there must be enough, and returns
+/// their places.
 fn lay_all<A: Allocator + Copy, N: Allocator + Copy>(
     alloc: A,
     net: &Net<N>,
@@ -261,7 +262,7 @@ impl<A: Allocator + Copy> Links<A> {
     pub fn lose(&mut self, from: u16, to: u16, index: usize) -> Result<(), NoItem>
         requires from_in { from < self.old.net.nodes }
         requires to_in { to < self.old.net.nodes }
-        // There is an item to lose exactly if the index is below their number.
+        // There is an item to lose exactly if the index is below the number of items.
         ensures variant { IsOk result ↔ (index < length (under_way self.old from to)) }
         ensures net { self.new.net ≡ self.old.net }
         ensures spares { self.new.spares ≡ self.old.spares }
@@ -289,7 +290,8 @@ impl<A: Allocator + Copy> Links<A> {
 
     /// Joins two nodes by an edge, with the two empty links of a spare pair. Takes no memory.
     pub fn join(&mut self, u: u16, v: u16)
-        // No edge joins the two nodes, and there are fewer edges than a network may have.
+        // The two are different nodes that no edge joins, and there are fewer edges than a network
+        // may have.
         requires allowed { join_fault self.old.net u v ≡ None }
         requires spare { 0 < spare_pairs self.old }
         ensures net { self.new.net ≡ joined_net self.old.net u v }

@@ -1,4 +1,4 @@
-//! Numbers by two nodes' ids.
+//! A table of numbers by two nodes' ids.
 ghost use Rattle.std.specs.Prelude.{◌≡◌, ◌*◌, ◌<◌, ℕ, IfOk, length, replicate};
 ghost use Rattle.run_model.specs.World.{at_pair};
 ghost use Rattle.configuration.specs.PairTable.{place_of, value_at};
@@ -94,7 +94,7 @@ impl<A: Allocator> PairTable<A> {
         write_zeros(&mut self.values);
     }
 
-    /// Two pairs exchange their numbers; every other pair keeps its own.
+    /// Exchanges the numbers of two pairs; every other pair keeps its own.
     pub fn swap(&mut self, one: (u16, u16), other: (u16, u16))
         requires one { (one.0 < self.old.nodes) × (one.1 < self.old.nodes) }
         requires other { (other.0 < self.old.nodes) × (other.1 < self.old.nodes) }

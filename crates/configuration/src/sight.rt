@@ -1,4 +1,4 @@
-//! The test along a run, which looks at one node for each event.
+//! The test of whether a network serves, along a run: it looks at one node for each event.
 ghost use Rattle.std.specs.Prelude.{◌≡◌, ◌↔◌, ◌<◌, IsTrue};
 ghost use Rattle.run_model.specs.World.{World};
 ghost use Rattle.run_model.specs.Step.{step};
@@ -12,7 +12,7 @@ use crate::whole::serves;
 use run_model::Event;
 use std::alloc::Allocator;
 
-/// What counts at one node for whether the network serves.
+/// What matters at one node for whether the network serves.
 #[derive(Clone, Copy, Debug, PartialEq, Eq)]
 pub struct Sight {
     /// Its distance.
@@ -39,7 +39,7 @@ fn sight_at<A: Allocator + Copy>(configuration: &Configuration<A>, v: u16) -> Si
     }
 }
 
-/// The node whose event it is; none for a harm.
+/// The node that an event touches, if there is one; none for a harm.
 fn own_node(event: &Event) -> Option<u16>
     ensures { IsOwnNode event.now result }
 {
@@ -50,8 +50,8 @@ fn own_node(event: &Event) -> Option<u16>
     }
 }
 
-/// The sight of the node that an event touches, if it is no harm and there is such a node. The
-/// event may have happened, or be about to.
+/// The sight of the node that an event touches, if the event is not a harm and there is such a
+/// node. The event may have happened already, or be about to.
 pub fn touched_sight<A: Allocator + Copy>(
     configuration: &Configuration<A>,
     event: &Event,
@@ -64,9 +64,9 @@ pub fn touched_sight<A: Allocator + Copy>(
     }
 }
 
-/// Whether a network serves after an event; `served` says whether it served before, and `before`
-/// is what [`touched_sight`] said then. It looks only at that node, unless it looks different now
-/// or the event is a harm.
+/// Whether a network serves after an event; `served` says whether it served before, and `before` is
+/// what [`touched_sight`] returned then. Looks only at the node that the event touches, unless that
+/// node looks different now or the event is a harm.
 pub fn serves_after<A: Allocator + Copy>(
     configuration: &Configuration<A>,
     event: &Event,

@@ -1,4 +1,4 @@
-//! The test, over all nodes.
+//! The test of whether a network serves, over all nodes.
 ghost use Rattle.std.specs.Prelude.{◌↔◌, ◌<◌, ◌≤◌, IsTrue};
 ghost use Rattle.run_model.specs.NodeCounts.{lending_count, privileged_count};
 ghost use Rattle.run_model.specs.Headline.{IsServing};
@@ -9,12 +9,12 @@ use crate::configuration::Configuration;
 use std::alloc::Allocator;
 
 /// Whether each node has its distance and its true parent, at most one node is privileged, and at
-/// most one lends. Looks only at nodes, at no link, and takes no memory.
+/// most one lends. Looks only at nodes, not at links, and takes no memory.
 pub fn serves<A: Allocator + Copy>(configuration: &Configuration<A>) -> bool
     ensures { IsTrue result ↔ IsServing (world_of configuration.now) }
 {
     topology::laws::tree();
-    configuration.assure_ranges();
+    configuration.ranges_hold();
     // Counting the nodes costs less than looking for their parents.
     has_few(configuration) && shows_tree(configuration)
 }

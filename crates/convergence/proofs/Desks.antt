@@ -1,5 +1,5 @@
--- A node that lends moves no machine, so a loan with privilege keeps it; and a full tick ends
--- every other loan.
+-- A node that lends moves no machine, so a loan with privilege keeps its privilege; and a full tick
+-- ends every other loan.
 use Rattle.std.proofs.Common.{◌≡◌, ℕ, ◌<◌, inl, inr, true, false, ◌==◌, ◌&&◌, List, [], ◌∷◌, Option, Some, None, refl, sym, ◌∙◌, ap, subst}
 use Rattle.std.specs.Prelude.{is_some, is_none, if◌then◌else◌}
 use Rattle.std.specs.List.{list_any}

@@ -1,6 +1,6 @@
--- The head moves at least once in any 8(n - 1) sweeps, so the token ring is good after 48(n - 1)(n
--- - 1). And it is good after 16(n - 1): half of these make known every value of the ring, and the
--- others hold a move of the head.
+-- The head moves at least once in any 8(n - 1) sweeps, so the token ring is good after
+-- 48(n - 1)(n - 1) sweeps. It is good even after 16(n - 1) sweeps: half of these make every value
+-- of the ring known, and the others hold a move of the head.
 use Rattle.std.proofs.Common.{◌≡◌, ◌≢◌, ℕ, zero, suc, ◌+◌, ◌*◌, ◌-◌, ◌<◌, ◌≤◌, inl, inr, true, List, [], ◌∷◌, ◌++◌, length, refl, sym, ◌∙◌, ap, subst, arith}
 use Rattle.std.proofs.lemmas.Bool.{cases_eq, cases_lt}
 use Rattle.topology.specs.Network.{Network, ring_of}

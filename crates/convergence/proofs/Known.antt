@@ -209,7 +209,7 @@ module _ (b : Below) (net : Network) (tour : IsTour net) (start bound : ℕ) (sm
       (λ x e now k. (staged-stays j l x e now k.0, up_to first (old (staged_value x (leg j))) (old (staged_value (step x e) (leg j))) k.1 (staged-rises x e j now l k.0.staged)))
       w es h (c, omega arith)).1
 
-  -- until the end a machine says no value older than the one that it has then
+  -- until the end a machine says no value older than the one that it has at the end
   says-young : (j : ℕ) → j ≤ end → (w : World) (es : List Event) → IsWithin w es → IsKnown leg old w j
       → AlwaysPresent (young (old (machine_value (run w es) (leg j)))) w es (leg j).here (leg j).onward
   says-young j l w [] h c =
@@ -221,7 +221,7 @@ module _ (b : Below) (net : Network) (tour : IsTour net) (start bound : ℕ) (sm
     says-young j l (step w e) es (rest-within w e es h) (known-event j l w e (event-within w e es h) c),
   )
 
-  -- and its node stages none older than the one that it has staged then
+  -- and its node stages none older than the one that it has staged at the end
   stages-young : (j : ℕ) → j ≤ end → (w : World) (es : List Event) → IsWithin w es → IsStaged leg old w j
       → AlwaysStaged (young (old (staged_value (run w es) (leg j)))) w es (leg j).here (leg j).onward
   stages-young j l w [] h c = within (old (staged_value w (leg j))) (old (staged_value w (leg j))) (omega arith)

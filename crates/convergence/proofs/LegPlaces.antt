@@ -3,7 +3,7 @@ use Rattle.std.proofs.Common.{◌≡◌, ℕ, zero, suc, ◌<◌, ◌≤◌, inl
 use Rattle.convergence.specs.Ring.{Leg}
 use Rattle.convergence.specs.Legs.{IsFollowed, IsAmong, last_leg}
 
--- the leg at a place of p and its followers; beyond them the last
+-- the leg at a place of p and its followers; beyond them, the last leg
 abbrev pub leg_at : Leg → List Leg → ℕ → Leg
 leg_at p ls zero = p
 leg_at p [] (suc i) = p
@@ -28,7 +28,7 @@ pub last-at : (p : Leg) (ls : List Leg) → last_leg p ls ≡ leg_at p ls (lengt
 last-at p [] = refl
 last-at p (l ∷ ls) = last-at l ls
 
--- where a leg of the list stands
+-- the place of a leg of the list
 pub place-of : (l p : Leg) (ls : List Leg) → IsAmong l (p ∷ ls) → (i : ℕ) × (i ≤ length ls) × (l ≡ leg_at p ls i)
 place-of l p ls (inl e) = (0, omega arith, e)
 place-of l p [] (inr a) = absurd a

@@ -1,5 +1,5 @@
--- The places of a leg's values on the token ring: the machine's is three times the leg's own
--- place. So what is known about privilege on a good ring holds for legs.
+-- The places of a leg's values on the token ring: the place of the machine's value is three times
+-- the place of the leg. So what is known about privilege on a good ring holds for legs.
 use Rattle.std.proofs.Common.{◌≡◌, ℕ, zero, suc, ◌*◌, ◌<◌, ◌≤◌, inl, inr, Bool, true, false, List, [], ◌∷◌, length, refl, sym, ◌∙◌, ap, subst, arith}
 use Rattle.std.specs.Prelude.{flat_map}
 use Rattle.std.proofs.lemmas.Bool.{cases_Bool}

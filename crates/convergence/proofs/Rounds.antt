@@ -1,7 +1,7 @@
 -- On a good token ring each machine moves in any 8(n - 1) sweeps. A machine without the head's
--- value takes it, after 4 sweeps a leg from the head. If it has the head's value, so have all
--- before it: so the head moves within 4 sweeps for each leg from the machine on, and then the
--- machine no longer has its value.
+-- value takes it, after 4 sweeps for each leg from the head. If it has the head's value, so have
+-- all before it: then the head moves within 4 sweeps for each leg from the machine on, and then the
+-- machine no longer has the head's value.
 use Rattle.std.proofs.Common.{◌≡◌, ◌≢◌, ℕ, zero, suc, ◌+◌, ◌*◌, ◌-◌, ◌<◌, ◌≤◌, inl, inr, List, [], ◌∷◌, ◌++◌, length, refl, sym, ◌∙◌, ap, subst, arith}
 use Rattle.std.specs.List.{AllByRecursion}
 use Rattle.std.proofs.lemmas.Bool.{cases_eq}
@@ -164,8 +164,8 @@ module _ (b : Below) (net : Network) (tour : IsTour net) where
         next = λ i l. equals older (machine_value w (place (suc i))) (copied_value w (place i)) ((all i l).3 ∙ sym (all i l).2);
       }
 
-  -- If a machine has the head's value, the head moves within 4 sweeps for each leg from the
-  -- machine on; then the machine no longer has its value.
+  -- If a machine has the head's value, the head moves within 4 sweeps for each leg from the machine
+  -- on; then the machine no longer has the head's value.
   with-head : (w : World) (xs ys : List Event) (k : ℕ) → IsSettledOn net w → IsUndamaged w xs → IsUndamaged (run w xs) ys → IsTokenRingGood w → k ≤ count
       → machine_value w (place k) ≡ machine_value w tour.first → Sweeps w ((4 * (count - k) + 3) + 1) xs → Sweeps (run w xs) (4 * k) ys → Moment w (xs ++ ys) (place k)
   with-head w xs ys k s u v g h same sweeps more =

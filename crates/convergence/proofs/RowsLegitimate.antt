@@ -46,7 +46,7 @@ calm-is_legitimate = record {
   desks = λ v l lends. absurd cc;
 }
 
--- node 1's machine has another value
+-- node 1's machine has a different value
 forged-ring : token_ring forged ≡ (0 ∷ 0 ∷ 0 ∷ 1 ∷ 0 ∷ 0 ∷ [])
 forged-ring = refl
 
@@ -68,7 +68,7 @@ reached-like_calm desk link = record {
   copied = λ v u j. let p = calm-tree_reached.copied v u j in record { distance = p.distance; parent = p.parent };
 }
 
--- ---- not legitimate, just for its loans
+-- ---- not legitimate, only because of its loans
 
 -- node 1 lends, and only node 0 is privileged
 abbrev unprivileged : World
@@ -97,7 +97,7 @@ unprivileged-serves = record {
   one_lending = one-of_two (λ v. IsTrue (is_lending unprivileged v)) (λ a b. false≢true a);
 }
 
--- ---- not legitimate, just for its links
+-- ---- not legitimate, only because of its links
 
 -- a frame is under way to node 1 with the number of node 0's port, and a ring value that node 0 has
 -- not staged

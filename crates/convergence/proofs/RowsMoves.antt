@@ -12,7 +12,7 @@ use Rattle.convergence.specs.Moves.{head_move, head_moves}
 -- ---- The token ring needs more values than it has places: with 4 values on the 6 places of two
 -- nodes it may go round for ever and never be good.
 
--- values are copied to the right and the head moves, so many times, and no ring on the way or at
+-- values are copied to the right and the head moves this many times, and no ring on the way or at
 -- the end is good
 data NeverGood (q : ℕ) : ℕ → List ℕ → List ℕ → Type 0 where
   Ends : {xs : List ℕ} → NeverGood q zero xs xs
@@ -34,9 +34,9 @@ third-value : (q a c : ℕ) (front back : List ℕ) → c ≢ a → root_moved c
 third-value q a c front back ne low g =
     elim (one_of_two (λ x. x ≡ a) (λ x. root_moved x q ≡ a) c (a ∷ front) back g) [ inl e ↦ ne e | inr e ↦ low e ]
 
--- With a, b, c, d each one above the next, modulo 4: from right to left, each place takes the
--- value on its left, and then the head moves from a to b. The six places are the machine of node
--- 0, what it stages, what node 1 copies, and the same for node 1.
+-- With a, b, c, d each one below the next, modulo 4: from right to left, each place takes the value
+-- on its left, and then the head moves from a to b. The six places are the machine of node 0, what
+-- it stages, what node 1 copies, and the same for node 1.
 round_by_one : (a b c d : ℕ) → root_moved a 4 ≡ b → c ≢ a → root_moved c 4 ≢ a → d ≢ b → root_moved d 4 ≢ b
     → NeverGood 4 1 (a ∷ d ∷ c ∷ b ∷ a ∷ a ∷ []) (b ∷ a ∷ d ∷ c ∷ b ∷ b ∷ [])
 round_by_one a b c d e ca ca' db db' =

@@ -55,7 +55,7 @@ not_refused (Some f) h = absurd (false≢true (sym h))
 abbrev desk : World → ℕ → DeskState
 desk w v = (w.node v).desk
 
--- what holds for the desk, and still after an ask, a leave or a tick, holds after the event
+-- what holds for the desk, and still holds after an ask, a leave or a tick, holds after the event
 module _ (P : DeskState → Type 0) (w : World) (v : ℕ) (stays : P (desk w v)) (asks : (s : ℕ) → P (asked s (desk w v)))
     (ticks : (privileged : Bool) → P (desk_ticked (site w v).lease privileged (desk w v))) where
   changed-desk : (e : Event) → is_damage w e ≡ false → is_some (refusal w e) ≡ false → ((s : ℕ) → e ≡ Leave v s → P (after_leave s (desk w v))) → P (desk (changed w e) v)
@@ -182,8 +182,8 @@ turned t k before after (Some y) (Some x) was served e c s = inr (record {
   ready = elim s.ready [ inl l ↦ inl l | inr q ↦ absurd (false≢true (sym q.0)) ];
 })
 
--- a tick after which the desk lends to nobody leaves the list; and a tick that ends a loan had one
--- before
+-- a tick after which the desk lends to nobody leaves the list as it is; and before a tick that ends
+-- a loan there was one
 same-list : (before after : List ℕ) (old new : Option ℕ) → is_some new ≡ false → IsTurn before after (act_between old new) → before ≡ after
 same-list before after None None h e = e
 same-list before after (Some y) None h e = e
@@ -297,7 +297,7 @@ module _ (b : Below) where
         stands = record { place = s.place; at = subst (IsAtPlace t s.place) list s.at; most = omega (arith, l); ready = inr (clear.0, clear.1) };
       }
 
-  -- so it is in each round
+  -- in each round the ticket gets the lock, or one move fewer may come
   round-over : (w : World) (es : List Event) (v t k : ℕ) → IsSettled w → IsUndamaged w es → IsTokenRingGood w → v < w.net.nodes → gives_up w es v t ≡ false
       → StandsAt t k (desk w v) → Sweeps w (8 * (w.net.nodes - 1)) es → (is_lent_once w es v t ≡ true) ⊎ OneFewer t k (desk (run w es) v)
   round-over w es v t k s u g h stays st sweeps =

@@ -135,7 +135,7 @@ module _ (b : Below) (net : Network) (tour : IsTour net) where
           let same : head_value (step w e) ≡ head_value w = head-is b net tour (step w e) (settled-event b net w e s d).1 ∙ k ∙ sym (head-is b net tour w s.1) in
           ap (λ c. if c then 0 else 1) (eq-eqb (head_value (step w e)) (head_value w) same)
 
-  -- and after the move the head has another value
+  -- and after the move the head has a different value
   pub head-leaves : (w : World) (e : Event) → IsSettledOn net w → is_damage w e ≡ false → head_move w e ≢ 0 → machine_value (step w e) tour.first ≢ machine_value w tour.first
   head-leaves w e s d ne k =
       let same : head_value (step w e) ≡ head_value w = head-is b net tour (step w e) (settled-event b net w e s d).1 ∙ k ∙ sym (head-is b net tour w s.1) in

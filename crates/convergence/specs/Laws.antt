@@ -1,5 +1,5 @@
 -- The world becomes legitimate, stays so, and serves: each law for the number of sweeps that it
--- uses.
+-- needs.
 use Rattle.std.specs.Prelude.{◌≡◌, ℕ, ◌+◌, ◌-◌, ◌*◌, ◌<◌, false, IsTrue, List, ◌++◌, Contains}
 use Rattle.topology.specs.Network.{are_joined, bound_of}
 use Rattle.run_model.specs.World.{World, IsWorldInRange}

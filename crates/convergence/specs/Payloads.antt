@@ -8,9 +8,9 @@ use Rattle.run_model.specs.Count.{after_damage}
 use Rattle.run_model.specs.declared.event.Event.{Event}
 use Rattle.convergence.specs.Said.{said_in}
 
--- If the events since the last damage are a part that holds 4(C + 1) sweeps and then three sweeps,
--- what u has staged for v now, and what v has copied from u now, is what u would have said to v at
--- some moment of these three.
+-- If the events since the last damage are a part that contains 4(C + 1) sweeps, followed by three
+-- sweeps, what u has staged for v now, and what v has copied from u now, is what u would have said
+-- to v at some moment of these three.
 abbrev pub ArePayloadsFresh : World → List Event → World → Type 0
 ArePayloadsFresh start es now =
     (first last : List Event) (u v : ℕ) → (after_damage start es).rest ≡ first ++ last

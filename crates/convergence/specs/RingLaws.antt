@@ -78,7 +78,7 @@ TokenRingTurnsGood =
     (w : World) (es : List Event) → IsSettled w → IsUndamaged w es
     → Sweeps w (48 * (w.net.nodes - 1) * (w.net.nodes - 1)) es → IsTokenRingGood (run w es)
 
--- and so do 16(n - 1)
+-- and so do 16(n - 1) sweeps
 abbrev pub TokenRingTurnsGoodSoon : Type 0
 TokenRingTurnsGoodSoon =
     (w : World) (es : List Event) → IsSettled w → IsUndamaged w es

@@ -22,7 +22,7 @@ LegitimateVisits =
     → v < w.net.nodes
     → Sweeps w (16 * (w.net.nodes - 1)) es → IsTrue (is_privileged_once w es v)
 
--- from any world, at some moment of as many sweeps after it became legitimate
+-- from any world, at some moment of this many sweeps after it became legitimate
 abbrev pub EachStateVisits : Type 0
 EachStateVisits =
     (w : World) (es : List Event) (v : ℕ) → IsWorldInRange w → IsUndamaged w es → v < w.net.nodes
@@ -45,7 +45,7 @@ MovesClearDesks =
     → ((step w e).node v).value t ≢ (w.node v).value t
     → IsFalse (is_lending (step w e) v) × (((step w e).node v).desk.served ≡ false)
 
--- the ticket stands at that place of the list, 0 the first
+-- the ticket is at that place of the list; the first place is 0
 abbrev pub IsAtPlace : ℕ → ℕ → List ℕ → Type 0
 IsAtPlace t i [] = ⊥
 IsAtPlace t zero (x ∷ xs) = x ≡ t

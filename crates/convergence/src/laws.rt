@@ -1,4 +1,4 @@
-//! From any state to a world that serves, and then for good: each law is the contract of a
+//! From any state to a world that serves, and then always does: each law is the contract of a
 //! function that does nothing.
 ghost use Rattle.convergence.specs.Below.{Below};
 ghost use Rattle.convergence.specs.Laws.{LoansStayPrivileged, DesksTurnPrivileged, LegitimateStays};
@@ -18,7 +18,8 @@ use run_model::laws as run_model_laws;
 use tree_convergence::laws as tree_convergence_laws;
 pub use tree_convergence::laws::links;
 
-/// All that this crate knows about the layers below. Each law here is proved only from these.
+/// Everything that this crate knows about the layers below. Each law here is proved only from
+/// these.
 pub fn below()
     ensures { Below }
 {
@@ -55,9 +56,9 @@ pub fn closure()
 }
 
 /// Convergence: from every world in range, over every list of events without damage, the links are
-/// stable after 4(C + 1) sweeps, and from then on any three sweeps replace all that is staged and
-/// copied. The tree is reached after 4(n + 1) more, and the token ring is good after 48(n - 1)(n -
-/// 1) more. After one more, the R-th, the world is legitimate, and so it serves.
+/// stable after 4(C + 1) sweeps, and from then on any three sweeps replace everything that is
+/// staged and copied. The tree is reached after 4(n + 1) more, and the token ring is good after
+/// 48(n - 1)(n - 1) more. After one more, the R-th, the world is legitimate, and so it serves.
 pub fn converge()
     ensures links { LinksConverge }
     ensures payloads { PayloadsConverge }
@@ -84,10 +85,11 @@ pub fn sharp()
 }
 
 /// Service: from a legitimate world, over every list of events without damage, each node is
-/// privileged at some moment of any 16(n - 1) sweeps; from any other world, once it is legitimate.
-/// The privilege passes a desk at which a ticket waits only if the desk had served, or a loan ends
-/// in that very tick; after that the desk is ready to lend. So a ticket that waits after i others,
-/// and does not leave while it waits, is lent the lock within 8(n - 1)(i + 2) sweeps.
+/// privileged at some moment of any 16(n - 1) sweeps; from any other world, this holds once it is
+/// legitimate. The privilege passes a desk at which a ticket waits only if the desk had served, or
+/// a loan ends in that very tick; after that the desk is ready to lend. So a ticket that waits
+/// after i others, and does not leave while it waits, is lent the lock within 8(n - 1)(i + 2)
+/// sweeps.
 pub fn service()
     ensures legitimate { LegitimateVisits }
     ensures each_state { EachStateVisits }

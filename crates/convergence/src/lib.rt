@@ -1,10 +1,10 @@
 //! Self-stabilisation: from every state the lock comes to serve, and then always serves.
 //!
-//! Over any list of events without damage (losses, asks, leaves and refused events are none),
-//! sweeps repair one layer after the other: the links become stable, the tree is reached, the
-//! token ring becomes good, and each node that lends is privileged. Then the world is legitimate
-//! and stays so: each node has its shortest distance and its true parent, and at most one node
-//! holds the privilege and lends the lock.
+//! Over any list of events without damage (losses, asks, leaves and refused events are not damage),
+//! sweeps repair one layer after the other: the links become stable, the tree is reached, the token
+//! ring becomes good, and each node that lends is privileged. Then the world is legitimate and
+//! stays so: each node has its shortest distance and its true parent, and at most one node holds
+//! the privilege and lends the lock.
 //!
 //! The token ring is Dijkstra's K-state machines on a tree, laid along its Euler tour. On a
 //! *settled* world (in range, every link stable, the tree reached) each event of the network copies

@@ -26,8 +26,8 @@ pub fn legs()
     run_model_laws::the_tour();
 }
 
-/// All that this crate knows about the layers below, and about the tour. The laws below are proved
-/// only from these.
+/// Everything that this crate knows about the layers below, and about the tour. The laws below are
+/// proved only from these.
 pub fn below()
     ensures { Below }
 {
@@ -69,8 +69,8 @@ pub fn settled()
 }
 
 /// The token ring of a settled world, by moves of its head: an event copies values to the right and
-/// moves the head at most once, 6(n - 1) moves make the ring good, and any 8(n - 1) sweeps have
-/// one.
+/// moves the head at most once, 6(n - 1) moves make the ring good, and any 8(n - 1) sweeps contain
+/// a move.
 pub fn head()
     ensures runs { EventIsRingRun }
     ensures moves_turn_good { MovesTurnRingGood }
@@ -79,8 +79,8 @@ pub fn head()
     below();
 }
 
-/// The token ring of a settled world, by sweeps: 48(n - 1)(n - 1) make it good, and 16(n - 1) do
-/// too; and it stays good.
+/// The token ring of a settled world, by sweeps: 48(n - 1)(n - 1) sweeps make it good, and so do
+/// 16(n - 1); and it stays good.
 pub fn ring()
     ensures stays { TokenRingStaysGood }
     ensures turns { TokenRingTurnsGood }
@@ -90,8 +90,8 @@ pub fn ring()
 }
 
 /// Where the privilege goes on a good token ring: while the head moves twice, and so in any 16(n -
-/// 1) sweeps, each node is privileged at some moment; and a machine of each node moves in any 8(n
-/// - 1).
+/// 1) sweeps, each node is privileged at some moment. And in any 8(n - 1) sweeps a machine of each
+/// node moves.
 pub fn visits()
     ensures in_two_moves { PrivilegeGoesRound }
     ensures in_sweeps { PrivilegeVisits }

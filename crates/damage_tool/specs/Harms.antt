@@ -13,7 +13,7 @@ use Rattle.run_model.specs.declared.event.Harm.TheVariants as harm
 use Rattle.damage_tool.specs.declared.draws.PortDraw.{PortDraw}
 use Rattle.damage_tool.specs.Draws.{draw, draw_parent, draw_payload, draw_port}
 
--- one is drawn after the other, and their events stand in that order
+-- the draws for these numbers, one after the other, and their events in that order
 abbrev pub draw_each : (ℕ → Lcg → List Event × Lcg) → List ℕ → Lcg → List Event × Lcg
 draw_each draws [] g = ([], g)
 draw_each draws (x ∷ xs) g =
@@ -37,12 +37,12 @@ port_harms v w d =
     ∷ Damage (harm.Value v w d.value)
     ∷ []
 
--- all of a port of v to w
+-- the harms that write a drawn port of v to w
 abbrev pub draw_port_harms : Ranges → ℕ → ℕ → Lcg → List Event × Lcg
 draw_port_harms r v w g = let port = draw_port r g in (port_harms v w port.0, port.1)
 
--- A desk: whether it has served, and then one time in three no loan, else one to the ticket 65535,
--- with at most the lease left.
+-- A desk: whether it has served, and then, in one of three draws, no loan; else a loan to the
+-- ticket 65535, with at most the lease left.
 abbrev pub draw_desk : ℕ → ℕ → Lcg → Event × Lcg
 draw_desk lease v g =
     let served = draw 2 g in
@@ -69,7 +69,7 @@ draw_item r g =
     if kind.0 == 0 then (Noise, kind.1)
     else (Frame (record { seq = seq.0; ack = ack.0; payload = payload.0 }), payload.1)
 
--- one more item on the link from u to v
+-- a drawn item that is put on the link from u to v
 abbrev pub draw_item_harm : Ranges → ℕ → ℕ → ℕ → Lcg → List Event × Lcg
 draw_item_harm r u v i g = let item = draw_item r g in (Damage (harm.Item u v item.0) ∷ [], item.1)
 

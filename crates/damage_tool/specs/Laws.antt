@@ -14,7 +14,7 @@ abbrev pub AreAccepted : World → List Event → Type 0
 AreAccepted w [] = Unit {0}
 AreAccepted w (e ∷ es) = (refusal w e ≡ None) × AreAccepted (step w e) es
 
--- the ticket waits at no node; if no client waits, no ticket does
+-- the ticket waits at no node; so it is for every ticket if no client waits
 abbrev pub WaitsNowhere : World → ℕ → Type 0
 WaitsNowhere w t = (v : ℕ) → v < w.net.nodes → waits (w.node v).desk t ≡ false
 
@@ -31,6 +31,6 @@ ScrambleKeepsNetwork =
     (w : World) (g : Lcg) → IsWorldInRange w → WaitsNowhere w 65535
     → (run w (draw_world w.net g).0).net ≡ w.net
 
--- what is drawn of k numbers is below k
+-- a draw from k numbers is below k
 abbrev pub DrawsAreBelow : Type 0
 DrawsAreBelow = (k : ℕ) (g : Lcg) → 0 < k → (draw k g).0 < k

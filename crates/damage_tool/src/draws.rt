@@ -8,7 +8,7 @@ use rand_core::utils::NextWord;
 use rand_pcg::Lcg64Xsh32;
 use topology::{Payload, Ranges};
 
-/// A number below `values`: the next word modulo how many values there are.
+/// A number below `values`: the generator's next word modulo `values`.
 pub(crate) fn draw_below(generator: &mut Lcg64Xsh32, values: u16) -> u16
     requires { 0 < values }
     ensures drawn { result ≡ (draw values generator.old).0 }
@@ -18,7 +18,7 @@ pub(crate) fn draw_below(generator: &mut Lcg64Xsh32, values: u16) -> u16
     (generator.next_word() % u32::from(values)) as u16
 }
 
-/// A number of at most `greatest`: the next word modulo how many of these there are.
+/// A number from 0 to `greatest`: the generator's next word modulo `greatest` + 1.
 pub(crate) fn draw_to(generator: &mut Lcg64Xsh32, greatest: u16) -> u16
     ensures drawn { result ≡ (draw (greatest + 1) generator.old).0 }
     ensures generator { generator.new ≡ (draw (greatest + 1) generator.old).1 }

@@ -2,8 +2,8 @@
 ghost use Rattle.damage_tool.specs.Laws.{ScrambleIsAccepted, ScrambleKeepsNetwork, DrawsAreBelow};
 
 /// Every harm of a scramble is accepted if no client waits: what it writes is in range, no link
-/// gets more items than it holds, and no edge joins or goes. Whoever lets the harms happen need
-/// look at no refusal, and may speak of the network after them as of the one before.
+/// gets more items than it can hold, and no edge joins or parts. Code that lets the harms happen
+/// need not check for refusals, and may take the network after them to be the one before.
 pub fn scramble()
     ensures accepted { ScrambleIsAccepted }
     ensures network { ScrambleKeepsNetwork }
@@ -11,8 +11,8 @@ pub fn scramble()
     topology::laws::limits();
 }
 
-/// What is drawn of a count of numbers is one of them. Whoever draws a node or an edge by its
-/// place needs it.
+/// A draw from a count of numbers gives one of them. Drawing a node or an edge by its place relies
+/// on this.
 pub fn draws()
     ensures { DrawsAreBelow }
 {}

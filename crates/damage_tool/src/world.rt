@@ -178,9 +178,10 @@ fn push_world<A: Allocator, N: Allocator + Copy>(
 
 /// Puts the harms that write every part of a world at the end of `out`: each node by ascending id,
 /// with its ports by ascending neighbour, and then each link by ascending source and destination.
-/// All but who waits at a desk is drawn. In a world in which no client waits each harm is accepted.
+/// Everything is drawn except which tickets wait at a desk. In a world in which no client waits,
+/// each harm is accepted.
 ///
-/// If memory is refused neither `out` nor the generator changes.
+/// If memory is refused, neither `out` nor the generator changes.
 pub fn scramble_world<A: Allocator, N: Allocator + Copy>(
     net: &Net<N>,
     generator: &mut Lcg64Xsh32,

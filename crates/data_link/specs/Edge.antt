@@ -1,5 +1,5 @@
--- One edge between two nodes, near and far. All here is of the direction in which near sends its
--- payloads; the other one is the same, seen from far.
+-- One edge between two nodes, near and far. Everything here is about the direction in which near
+-- sends its payloads; the other direction is the same, seen from far.
 use Rattle.std.specs.Prelude.{◌≡◌, ℕ, ◌+◌, ◌*◌, ◌<◌, ◌≤◌, ◌==◌, List, [], ◌∷◌, ◌++◌, length, drop, remove, if◌then◌else◌}
 use Rattle.std.specs.List.{AllByRecursion}
 use Rattle.link_model.specs.topology.declared.frame.Frame.{Frame}
@@ -18,9 +18,9 @@ pub record EdgeState : Type 0 where
   pub out : List Item
   pub back : List Item
 
--- What can happen to an edge. Who takes an item hands in the payload that is present: what it has
--- to say to the other before the item. The last case is an event of the network that does not touch
--- this edge.
+-- What can happen to an edge. The node that takes an item hands in the payload that is present:
+-- what it has to say to the other node before the item. The last case is an event of the network
+-- that does not touch this edge.
 pub data EdgeEvent : Type 0 where
   SendOut : EdgeEvent
   SendBack : EdgeEvent
@@ -112,8 +112,8 @@ abbrev pub link_ring : EdgeState → List ℕ
 link_ring s =
     s.near.seq ∷ (newest_first (λ f. f.seq) s.out ++ s.far.last ∷ newest_first (λ f. f.ack) s.back)
 
--- the payload that belongs to a number: the staged one to the port's own, another one to every
--- other
+-- the payload that belongs to a number: the staged one to the port's own number, and this other
+-- payload to every other number
 abbrev pub payload_under : PortState → Payload → ℕ → Payload
 payload_under p other number = if number == p.seq then p.staged else other
 
@@ -123,8 +123,8 @@ CarriesItsPayload p other item.Noise = Unit {0}
 CarriesItsPayload p other (item.Frame f) = f.payload ≡ payload_under p other f.seq
 
 -- The link is stable for numbers with this modulus: its ring is good, and there is one other
--- payload such that each frame on its way out, and far's copy, is what near has staged if it
--- came with near's number, and that other payload else.
+-- payload such that each frame on its way out, and far's copy, is what near has staged if it came
+-- with near's number, and otherwise that other payload.
 pub record IsStableWith (modulus : ℕ) (s : EdgeState) : Type 0 where
   pub good : IsGood modulus (link_ring s)
   pub other : Payload

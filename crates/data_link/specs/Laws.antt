@@ -1,5 +1,5 @@
 -- The laws of one edge, for every capacity of its links and whatever payloads are handed in as
--- present. Each is of the direction from near to far.
+-- present. Each is about the direction from near to far.
 use Rattle.std.specs.Prelude.{◌≡◌, ℕ, ◌+◌, ◌*◌, ◌<◌, ◌≤◌, ◌⊎◌, Bool, IsTrue, List, ◌∷◌, ◌++◌}
 use Rattle.std.specs.List.{AllByRecursion}
 use Rattle.link_model.specs.topology.Ranges.{frame_fits, payload_fits}
@@ -15,8 +15,8 @@ use Rattle.data_link.specs.Sweep.{IsStrictSweep, IsSweep, PresentPasses, Sweeps}
 
 -- ---- steps
 
--- an event is some changes of the link ring, and then as many head moves as near's number makes;
--- with every modulus of the numbers
+-- an event is some changes of the link ring, followed by as many head moves as near's number makes;
+-- this holds with every modulus of the numbers
 abbrev pub EventIsStep : Type 0
 EventIsStep =
     (modulus capacity : ℕ) (s : EdgeState) (e : EdgeEvent)
@@ -57,14 +57,14 @@ StrictSweepIsSweep =
     (capacity : ℕ) (s : EdgeState) (es : List EdgeEvent) → IsEdgeInRange capacity s
     → IsStrictSweep capacity s es → IsSweep capacity s es
 
--- two sweeps in a row hold a move of near's number
+-- two sweeps in a row contain a move of near's number
 abbrev pub TwoSweepsMove : Type 0
 TwoSweepsMove =
     (capacity : ℕ) (s : EdgeState) (first second : List EdgeEvent) → IsSweep capacity s first
     → IsSweep capacity (edge_run capacity s first) second
     → 0 < moves_in capacity s (first ++ second)
 
--- so 2k sweeps hold k moves
+-- so 2k sweeps contain at least k moves
 abbrev pub SweepsMove : Type 0
 SweepsMove =
     (capacity k r : ℕ) (s : EdgeState) (es : List EdgeEvent) → 2 * k ≤ r → Sweeps capacity s r es
@@ -103,7 +103,7 @@ TakenIsCopied =
     → (edge_step capacity s (TakeOut present)).far.copy ≡ f.payload
 
 -- on a stable link, what holds of the staged payload, of far's copy and of each payload handed in
--- goes on holding of both
+-- goes on holding of the staged payload and of far's copy
 abbrev pub PayloadsKeep : Type 0
 PayloadsKeep =
     (test : Payload → Bool) (capacity : ℕ) (s : EdgeState) (e : EdgeEvent)
@@ -113,7 +113,7 @@ PayloadsKeep =
     × IsTrue (test (edge_step capacity s e).far.copy)
 
 -- a payload that was handed in is staged once near's number has moved: what holds of each payload
--- handed in holds of the staged one then
+-- handed in then holds of the staged one
 abbrev pub MoveRefreshesStaged : Type 0
 MoveRefreshesStaged =
     (test : Payload → Bool) (capacity : ℕ) (s : EdgeState) (es : List EdgeEvent)
@@ -121,7 +121,8 @@ MoveRefreshesStaged =
     → IsTrue (test (edge_run capacity s es).near.staged)
 
 -- on a stable link a sweep brings the staged payload to far's copy: what holds of the staged
--- payload and of each payload handed in holds of both after it
+-- payload and of each payload handed in holds, after the sweep, of the staged payload and of far's
+-- copy
 abbrev pub SweepRefreshesCopy : Type 0
 SweepRefreshesCopy =
     (test : Payload → Bool) (capacity : ℕ) (s : EdgeState) (es : List EdgeEvent)

@@ -1,4 +1,4 @@
--- A port: what a node keeps of one neighbour to exchange numbered frames with it.
+-- A port: what a node keeps about one neighbour to exchange numbered frames with it.
 use Rattle.std.specs.Prelude.{ℕ, Bool, ◌&&◌, ◌==◌, nat_lt, None, if◌then◌else◌}
 use Rattle.link_model.specs.topology.Ranges.{payload_fits}
 use Rattle.link_model.specs.topology.declared.frame.Frame.{Frame}
@@ -7,7 +7,8 @@ use Rattle.link_model.specs.topology.declared.frame.Ranges.{Ranges}
 use Rattle.k_state.specs.Machine.{root_moved}
 
 -- The number under which the staged payload goes out, the last number that was accepted from the
--- neighbour, and the copy of the neighbour's payload that came with it.
+-- neighbour, the staged payload, and the copy of the neighbour's payload that came with that last
+-- number.
 pub record PortState : Type 0 where
   pub seq : ℕ
   pub last : ℕ
@@ -46,7 +47,7 @@ abbrev pub port_acked : ℕ → PortState → Frame → Payload → PortState
 port_acked modulus p f present =
     if f.ack == p.seq then record p { seq = root_moved p.seq modulus; staged = present } else p
 
--- a frame with another number than the last one is accepted: number and payload are taken from it
+-- a frame whose number differs from the last one is accepted: its number and payload are taken over
 abbrev pub port_heard : PortState → Frame → PortState
 port_heard p f = if f.seq == p.last then p else record p { last = f.seq; copy = f.payload }
 

@@ -1,4 +1,4 @@
--- How a staged payload comes to the copy.
+-- How a staged payload reaches the copy.
 use Rattle.std.specs.Prelude.{ℕ, Bool, IsTrue, List, [], ◌∷◌}
 use Rattle.link_model.specs.topology.declared.frame.Payload.{Payload}
 use Rattle.data_link.specs.Edge.{EdgeState, EdgeEvent, IsEdgeInRange, IsStable, edge_run, edge_step}

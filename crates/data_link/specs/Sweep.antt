@@ -26,7 +26,7 @@ is_out_renewed capacity s es = is_renewed capacity (map act_out es) s.out
 abbrev pub is_back_renewed : ℕ → EdgeState → List EdgeEvent → Bool
 is_back_renewed capacity s es = is_renewed capacity (map act_back es) s.back
 
--- a sweep renews both
+-- a sweep renews both ways
 pub record IsSweep (capacity : ℕ) (s : EdgeState) (es : List EdgeEvent) : Type 0 where
   pub out : IsTrue (is_out_renewed capacity s es)
   pub back : IsTrue (is_back_renewed capacity s es)

@@ -1,6 +1,7 @@
-//! The laws of a port and of one edge, each the contract of a function that does nothing. A proof that needs one
-//! calls it and cites its clauses. They hold for every capacity, and whatever payloads are handed
-//! in as present. Those of an edge speak of one direction; the other is the same edge seen from its other end.
+//! The laws of a port and of one edge, each the contract of a function that does nothing. A proof
+//! that needs one calls it and cites its clauses. They hold for every capacity, and whatever
+//! payloads are handed in as present. Those of an edge are about one direction; the other direction
+//! is that of the same edge seen from its other end.
 ghost use Rattle.data_link.specs.Refreshing.{SweepCopiesStaged};
 ghost use Rattle.data_link.specs.Laws.{CopyIsStaged, EventIsStep, MoveRefreshesStaged};
 ghost use Rattle.data_link.specs.Laws.{PayloadsKeep, RangeStays};
@@ -14,7 +15,8 @@ ghost use Rattle.data_link.specs.SixSweeps.{StableAfterSixSweeps};
 use k_state::laws as k_state_laws;
 pub use link_model::topology::laws::neighbours;
 
-/// A port in range stays in range, whatever frame in range it takes. Whoever keeps ports needs it.
+/// A port in range stays in range, whatever frame in range it takes, with whatever payload in range
+/// as present. The crates that keep ports need this.
 pub fn ports()
     ensures { PortStaysInRange }
 {}
@@ -34,7 +36,7 @@ pub fn stays_stable()
     k_state_laws::fresh_value();
 }
 
-/// Sweeps move numbers: a strict sweep is a sweep, and two sweeps in a row hold a move.
+/// Sweeps move numbers: a strict sweep is a sweep, and two sweeps in a row contain a move.
 pub fn sweeps()
     ensures strict { StrictSweepIsSweep }
     ensures two_move { TwoSweepsMove }
@@ -50,9 +52,9 @@ pub fn turns_stable()
     k_state_laws::fresh_value();
 }
 
-/// A link becomes stable within six sweeps, whatever its capacity. Two leave no number on it but
-/// those that its sender has had since; two hold a move, to a number that stands nowhere else; and
-/// two more hold the move that makes the link stable.
+/// A link becomes stable within six sweeps, whatever its capacity. After the first two, the only
+/// numbers on it are those that its sender has had since; the next two contain a move to a number
+/// that is nowhere else; and the last two contain the move that makes the link stable.
 pub fn six_sweeps()
     ensures { StableAfterSixSweeps }
 {
@@ -62,8 +64,8 @@ pub fn six_sweeps()
 }
 
 /// Payloads on a stable link: what is staged was present, what is copied was staged, and three
-/// sweeps replace both. The clauses speak of tests that every payload handed in passes: a world
-/// takes for the test what holds of a node throughout.
+/// sweeps replace both. The clauses are about tests that every payload handed in passes: as the
+/// test, a world takes what holds of a node throughout.
 pub fn payloads()
     ensures staged { StagedIsPresent }
     ensures copy { CopyIsStaged }

@@ -11,7 +11,7 @@ use link_model::topology::{Frame, Net, Payload, Ranges};
 use std::alloc::Allocator;
 use std::marker::Model;
 
-/// What a node keeps of one neighbour: the number of its staged payload, the last number that it
+/// What a node keeps about one neighbour: the number of its staged payload, the last number that it
 /// accepted, the staged payload, and the copy of the neighbour's payload. Each field is in its
 /// range.
 #[derive(Debug, Drop)]
@@ -59,7 +59,7 @@ impl Port {
         }
     }
 
-    /// Makes it as it was made by `new`.
+    /// Makes the port as `new` made it.
     pub fn reset(&mut self)
         ensures { self.new ≡ record self.old { state = default_port self.old.ranges } }
     {
@@ -155,8 +155,7 @@ impl Port {
         Heard { moved, accepted }
     }
 
-    /// Writes both numbers. `OutOfRange` comes exactly if one is not below the counters'
-    /// modulus.
+    /// Writes both numbers. Returns `OutOfRange` exactly if one is not below the counters' modulus.
     pub fn set_counters(&mut self, seq: u16, last: u16) -> Result<(), OutOfRange>
         // It is written exactly if it is in range.
         ensures variant { IsOk result ↔ IsTrue (counters_fit self.old.ranges seq last) }
@@ -172,7 +171,7 @@ impl Port {
         Ok(())
     }
 
-    /// Writes the staged payload. `OutOfRange` comes exactly if a field of it is not in its
+    /// Writes the staged payload. Returns `OutOfRange` exactly if a field of it is not in its
     /// range.
     pub fn set_staged(&mut self, payload: Payload) -> Result<(), OutOfRange>
         // It is written exactly if it is in range.
@@ -188,8 +187,8 @@ impl Port {
         Ok(())
     }
 
-    /// Writes the copy of the neighbour's payload. `OutOfRange` comes exactly if a field of it
-    /// is not in its range.
+    /// Writes the copy of the neighbour's payload. Returns `OutOfRange` exactly if a field of it is
+    /// not in its range.
     pub fn set_copy(&mut self, payload: Payload) -> Result<(), OutOfRange>
         // It is written exactly if it is in range.
         ensures variant { IsOk result ↔ IsTrue (payload_fits self.old.ranges payload) }

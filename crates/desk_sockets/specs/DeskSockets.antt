@@ -7,15 +7,15 @@ use Rattle.std.specs.Ordering.{nat_cmp}
 use Rattle.std.specs.Str.{bytes_eq}
 use Rattle.std.specs.declared.fs.dir.DirEntry.{DirEntry}
 
--- the name of its socket
+-- the name of the socket of a node's desk
 abbrev pub desk_name : ℕ → List ℕ
 desk_name node = codes "desk-" ++ (decimal node ++ codes ".sock")
 
--- its path in a folder
+-- the path of that socket in a folder
 abbrev pub desk_path : List ℕ → ℕ → List ℕ
 desk_path folder node = folder ++ (codes "/" ++ desk_name node)
 
--- the path of the socket at which a node says how it stands
+-- the path of the socket at which a node shows how it stands
 abbrev pub look_path : List ℕ → ℕ → List ℕ
 look_path folder node = folder ++ (codes "/look-" ++ (decimal node ++ codes ".sock"))
 

@@ -1,5 +1,5 @@
-//! The sockets of nodes in a folder: where a node's desk listens, where whoever looks at the node connects,
-//! and which nodes have a desk there.
+//! The sockets of nodes in a folder: where a node's desk listens, where lookers connect, and which nodes
+//! have a desk there.
 //!
 //! ```
 //! let path = desk_path(alloc, "run", 1)?;       // run/desk-1.sock
@@ -7,7 +7,7 @@
 //! let nodes = nodes_in(rt, "run")?;             // by ascending id
 //! ```
 //!
-//! The trap: a socket may be there whose node has ended.
+//! The trap: the socket of a node that has ended may still be there.
 #![tactic(auto)]
 
 mod sockets;

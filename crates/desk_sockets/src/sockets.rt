@@ -1,5 +1,4 @@
-//! Where a node's desk listens, where whoever looks at the node connects, and which nodes have a desk in a
-//! folder.
+//! Where a node's desk listens, where lookers connect, and which nodes have a desk in a folder.
 ghost use Rattle.std.specs.Prelude.{◌≡◌, ◌↔◌, ◌<◌, ℕ, IfOk, IfErr, Some, None, IsSorted, string_bytes};
 ghost use Rattle.std.specs.Fs.{dir_entry_name};
 ghost use Rattle.std.specs.Iterator.{IsFinite};
@@ -22,7 +21,7 @@ pub fn desk_path(alloc: Global, folder: &str, node: u16) -> Result<String, Alloc
     format!(in alloc; "{folder}/desk-{node}.sock")
 }
 
-/// The path of the socket in a folder at which a node says how it stands, `FOLDER/look-ID.sock`.
+/// The path of the socket in a folder at which a node shows how it stands, `FOLDER/look-ID.sock`.
 ///
 /// # Errors
 /// If memory runs out.
@@ -73,7 +72,8 @@ fn nodes_among<F: Files + Drop, I: Iterator<Item = io::Result<DirEntry<F>>>>(
     Ok(nodes)
 }
 
-/// The node whose desk this entry of a folder is, if it is a desk's. An entry whose name is no text is not.
+/// The node whose desk this entry of a folder is, if it is a desk's. An entry whose name is no text is no
+/// desk's.
 fn node_at<F: Files + Drop>(entry: io::Result<DirEntry<F>>) -> Option<u16>
     ensures named { IfOk entry (λ entry. (node : ℕ)
         → (result ≡ Some node) ↔ ((node < 65536) × (dir_entry_name entry ≡ desk_name node))) }

@@ -14,7 +14,7 @@ abbrev pub is_on : List ℕ → ℕ → Bool
 is_on ts w = list_any (λ t. t == w) ts
 
 -- an edge of the tree joins v and its neighbour w, by v's own word and its copies: w is v's parent,
--- or names v as its own
+-- or names v as its parent
 abbrev pub is_tree_neighbour : Option ℕ → ℕ → (ℕ → Option ℕ) → ℕ → Bool
 is_tree_neighbour parent v copied_parent w = is_named parent w || is_named (copied_parent w) v
 
@@ -50,6 +50,6 @@ abbrev pub source_for : List ℕ → ℕ → ℕ
 source_for ts w = unwrap_or (highest (below w ts)) (unwrap_or (highest ts) w)
 
 -- the special machine is the root's for its smallest tree neighbour; no other node has one, nor has
--- a root alone
+-- a root without tree neighbours
 abbrev pub special : Bool → List ℕ → Option ℕ
 special is_root ts = if is_root then lowest ts else None

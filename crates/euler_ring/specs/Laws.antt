@@ -71,7 +71,7 @@ abbrev pub IsStopOf : List Stop → Stop → Type 0
 IsStopOf [] s = ⊥
 IsStopOf (p ∷ ps) s = (s ≡ p) ⊎ IsStopOf ps s
 
--- no stop stands twice
+-- no stop occurs twice
 abbrev pub NoStopTwice : List Stop → Type 0
 NoStopTwice [] = Unit {0}
 NoStopTwice (p ∷ ps) = ¬ IsStopOf ps p × NoStopTwice ps

@@ -8,8 +8,8 @@ ghost use Rattle.euler_ring.specs.Laws.{TourLength, TourComesToEach};
 use topology::laws as topology_laws;
 
 /// Round one node, `next_after` and `source_for` undo each other and stay among the tree
-/// neighbours: each machine's value leaves towards one neighbour, and each neighbour is left to by
-/// one machine.
+/// neighbours: each machine's value leaves towards one neighbour, and towards each neighbour the
+/// value of one machine leaves.
 pub fn round_a_node()
     ensures source_of_next { SourceOfNext }
     ensures next_of_source { NextOfSource }

@@ -65,11 +65,11 @@ pub fn without_lowest(ids: u64) -> u64
     }
 }
 
-/// The ids with one more.
+/// The ids with this one added.
 pub fn with(ids: u64, id: u16) -> u64
     requires { id < 64 }
     ensures same { has_id result id ≡ true }
-    // Every other id is in it if it was.
+    // Every other id is in the set exactly if it was before.
     ensures others { (i : ℕ) → i < 64 → i ≢ id → has_id result i ≡ has_id ids i }
 {
     ids | 1 << id

@@ -11,7 +11,7 @@ use std::marker::Model;
 /// node knows. Contracts see them as an ascending list.
 ///
 /// They are kept as the bits of one word, so what comes next is found without going through them. They are computed at
-/// each use: else each writer of a copy or a parent would have to keep them, too.
+/// each use: else each writer of a copy or a parent would have to keep them up to date, too.
 #[derive(Debug, Drop)]
 pub struct TreeNeighbours {
     ids: u64,
@@ -34,7 +34,7 @@ impl TreeNeighbours {
         mask::count(self.ids)
     }
 
-    /// Whether there is none.
+    /// Whether there are none.
     pub fn is_empty(&self) -> bool
         ensures { result ≡ (length self.now == 0) }
     {
@@ -62,8 +62,8 @@ impl TreeNeighbours {
         mask::lowest(rest).unwrap()
     }
 
-    /// Where the tour goes on that came in from the tree neighbour `t`: the next one up, and after
-    /// the largest the smallest. Of a single one it is `t` itself.
+    /// Where the tour goes on after it came in from the tree neighbour `t`: to the next one up, and
+    /// after the largest to the smallest. If there is only one, that is `t` itself.
     #[tactic(auto, using(crate::proofs::Masks::on_below, crate::proofs::Ascending::next_on))]
     pub fn next_after(&self, t: u16) -> u16
         requires { IsTrue (is_on self.now t) }
@@ -76,7 +76,7 @@ impl TreeNeighbours {
             .unwrap_or(t)
     }
 
-    /// Where the tour came in from that leaves towards the tree neighbour `w`: the next one down,
+    /// Where the tour came in from if it leaves towards the tree neighbour `w`: the next one down,
     /// and before the smallest the largest.
     #[tactic(auto, using(crate::proofs::Masks::on_below))]
     pub fn source_for(&self, w: u16) -> u16
@@ -91,7 +91,7 @@ impl TreeNeighbours {
     }
 
     /// The tree neighbour from which the special machine comes in: the smallest, at the root; none
-    /// at another node, or if there is none.
+    /// at any other node, or if there is no tree neighbour.
     pub fn special(&self, is_root: bool) -> Option<u16>
         ensures { result ≡ special is_root self.now }
     {
@@ -113,7 +113,7 @@ fn is_named(parent: Option<u16>, id: u16) -> bool
 /// A node's tree neighbours, from what it believes: its parent, if that is a neighbour, and each
 /// neighbour whose copied parent is the node `id`.
 ///
-/// `neighbours` ascend and are below 64, as those of an accepted network. `copied_parent` gives a
+/// `neighbours` ascend and are below 64, as in an accepted network. `copied_parent` gives a
 /// neighbour's copied parent, and is called for neighbours alone. What it gives must be a function
 /// of the neighbour, as it is if it reads a field; the clause names that function.
 pub fn tree_neighbours<F: Fn(u16) -> Option<u16>>(
@@ -126,7 +126,7 @@ pub fn tree_neighbours<F: Fn(u16) -> Option<u16>>(
     requires ascending { IsStrictlyIncreasing neighbours.now }
     // The copied parent of each neighbour may be asked for.
     requires readable { (w : ℕ) → Contains neighbours.now w → F.pre copied_parent w }
-    // Whatever function of the neighbour the call computes.
+    // The result is that for whatever function of the neighbour the call computes.
     ensures found { (parent_of : ℕ → Option ℕ)
         → ((w : ℕ) (p : Option ℕ) → Contains neighbours.now w → F.post copied_parent w p
         → p ≡ parent_of w)

@@ -11,7 +11,7 @@ use Rattle.run_model.specs.declared.event.Harm.TheVariants as harm
 use Rattle.line_words.specs.Words.{Word}
 use Rattle.events_text.specs.EventLine.{line_event}
 
--- the words that say which number, if any; whether; and a payload
+-- the words for a number or none, for yes or no, and for a payload
 abbrev pub word_or_none : Option ℕ → Word
 word_or_none None = codes "none"
 word_or_none (Some n) = decimal n

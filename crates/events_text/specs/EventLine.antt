@@ -82,7 +82,7 @@ join_of = reads number (λ u. reads number (λ v. ends (harm.Join u v)))
 abbrev pub part_of : List Word → Option Harm
 part_of = reads number (λ u. reads number (λ v. ends (harm.Part u v)))
 
--- what the first of these names that is this word reads of the words after it
+-- what the first row whose name is this word reads from the words after it
 abbrev pub by_name : {Y : Type 0} → List (Word × (List Word → Option Y)) → Word → List Word → Option Y
 by_name [] word words = None
 by_name (row ∷ rows) word words = if bytes_eq word row.0 then row.1 words else by_name rows word words

@@ -3,8 +3,8 @@ ghost use Rattle.events_text.specs.EventLaws.{EventsHaveOneSpelling, EventsAreRe
 
 /// Each event whose numbers are below 65536 is read from one line and from no other: its words,
 /// with a space between each two and each number in decimal. So an events text can be written again
-/// from what was read, up to the lines that are passed over or unread; and whoever doubts the
-/// grammar may read these words in place of it.
+/// from what was read, except for the lines that are passed over or unread; and a reader who doubts
+/// the grammar may read these words in place of it.
 pub fn one_spelling()
     ensures events_spelled { EventsHaveOneSpelling }
     ensures events_read { EventsAreRead }

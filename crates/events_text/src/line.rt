@@ -8,7 +8,8 @@ use line_words::Words;
 use run_model::Event;
 
 /// The event that a line spells, if any. The line is without its newline. A number is decimal, at
-/// most 65535, with no leading zero; 65535 is a number like others, and `none` a word of its own.
+/// most 65535, with no leading zero; 65535 is a number like any other, and `none` a word of its
+/// own.
 pub fn parse_line(line: &[u8]) -> Option<Event>
     ensures { result ≡ line_event line.now }
 {
@@ -17,8 +18,8 @@ pub fn parse_line(line: &[u8]) -> Option<Event>
     event(verb, &mut words)
 }
 
-/// The event that a verb and the words after it name. After `send U V`, `take U V`, in which V takes
-/// from the link from U, `ask V T` and `leave V T` no word is left.
+/// The event that a verb and the words after it name. No word may follow `send U V`, `take U V`, in
+/// which V takes from the link from U, `ask V T` or `leave V T`.
 fn event(verb: &[u8], words: &mut Words) -> Option<Event>
     ensures { result ≡ event_of verb.now words.old }
 {

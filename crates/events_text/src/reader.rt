@@ -27,7 +27,7 @@ impl Model for EventReader {
     ghost view = { λ r. r.half };
 }
 
-/// What a reader took of a piece.
+/// What a reader took from a piece.
 #[derive(Clone, Copy)]
 pub struct PieceTaken {
     /// How many bytes it took.
@@ -37,7 +37,7 @@ pub struct PieceTaken {
 }
 
 impl EventReader {
-    /// A reader to which no byte came.
+    /// A reader to which no byte has come.
     pub fn new() -> EventReader
         // No byte has come.
         ensures { StandsAfter 64 [] result }
@@ -71,9 +71,9 @@ impl EventReader {
         PieceTaken { used, line }
     }
 
-    /// Takes the line in front of a piece, if none is under way and it is a usual one: `send U
+    /// Takes the line at the front of a piece, if none is under way and it is a usual one: `send U
     /// V`, `take U V` or `tick V` with ids below 100. The answer is its event and how many bytes it
-    /// took; if there is none, nothing is taken, and [`EventReader::take`] is to read on.
+    /// took. If there is none, nothing is taken, and [`EventReader::take`] must read on.
     #[inline(always)]
     pub fn take_usual(&self, piece: &[u8]) -> Option<(Event, usize)>
         ensures used { IfSome result (λ taken. (0 < taken.1) × (taken.1 ≤ length piece.now)) }
@@ -108,7 +108,7 @@ impl EventReader {
     }
 }
 
-/// What a line of an events text is. Of a long one the first byte shows whether it is a comment.
+/// What a line of an events text is. The first byte of a long one shows whether it is a comment.
 struct TextLines;
 
 impl LineReading<LONGEST> for TextLines {

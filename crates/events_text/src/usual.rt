@@ -1,4 +1,4 @@
-//! The usual lines in front of a text, each read in one pass.
+//! The usual lines at the front of a text, each read in one pass.
 ghost use Rattle.std.specs.Prelude.{◌≡◌, ◌<◌, ◌∷◌, ◌++◌, ℕ, List, IfSome, decimal};
 ghost use Rattle.byte_lines.specs.Lines.{newline, HasNoNewline};
 ghost use Rattle.events_text.specs.EventsText.{text_line};
@@ -6,9 +6,10 @@ ghost use Rattle.events_text.specs.declared.text_line.TextLine.TheVariants.{Said
 
 use run_model::Event;
 
-/// The event of the line in front of a text, and the text after its newline, if the line is
-/// `send U V`, `take U V` or `tick V` with ids below 100. Most lines of a long run are, and this
-/// reads them without looking for their ends first; of any other line it says nothing.
+/// The event of the line at the front of a text, and the text after its newline, if the line is
+/// `send U V`, `take U V` or `tick V` with ids below 100. Most lines of a long run are of this
+/// form, and this reads them without looking for their ends first. For any other line the result is
+/// none.
 #[inline(always)]
 pub fn usual_line(text: &[u8]) -> Option<(Event, &[u8])>
     ensures { IfSome result (λ front. (line : List ℕ) × (text.now ≡ line ++ newline ∷ front.1.now)
@@ -34,7 +35,7 @@ pub fn usual_line(text: &[u8]) -> Option<(Event, &[u8])>
     }
 }
 
-/// The number in front of a text, and the text after the byte that ends it, if it has one or
+/// The number at the front of a text, and the text after the byte that ends it, if it has one or
 /// two digits and no leading zero.
 #[inline(always)]
 fn short_number(text: &[u8], end: u8) -> Option<(u16, &[u8])>

@@ -1,4 +1,5 @@
--- Schedules in which whoever has the lock gives it back after so many ticks of the node that lent it.
+-- Schedules in which whoever has the lock gives it back after a given number of ticks of the node
+-- that lent it.
 use Rattle.std.specs.Prelude.{◌≡◌, ℕ, ◌-◌, ◌==◌, zero, suc, nat_lt, if◌then◌else◌, List, [], ◌∷◌, ◌++◌, Option, None, Some, replicate, slice_index_or, slice_set}
 use Rattle.std.specs.List.{range_with_len}
 use Rattle.std.proofs.Common.{◌∙◌, ap, sym, refl}
@@ -26,7 +27,8 @@ due more v (Some ticket) left =
     if slice_index_or left v 0 == 0 then (Some ticket, slice_set left v more)
     else (None, slice_set left v (slice_index_or left v 0 - 1))
 
--- the event by which the lock is given back at a node after its tick, if it is, and what is left then; nothing at no node
+-- the event by which the lock is given back at a node after its tick, if it is, and what is left
+-- then; nothing if there is no such node
 abbrev pub back_at : ℕ → World → List ℕ → ℕ → List Event × List ℕ
 back_at more w left v =
     let d = due more v (w.node v).desk.lent left in
@@ -77,12 +79,12 @@ random_back more w left c (suc n) g =
     let first = step_back more w left (admitted w drawn.0) in
     first.0 ++ random_back more (run w first.0) first.1 c n drawn.1
 
--- what an order says from a world on, if each loan lasts one tick and so many more
+-- what an order says from a world on, if each loan lasts one tick and `more` further ones
 abbrev pub ordered_back : Network → ℕ → World → Order → List Event
 ordered_back net more w (Rounds count) = rounds_back net more w (replicate 64 more) count
 ordered_back net more w (Random steps chances g) = random_back more w (replicate 64 more) chances steps g
 
--- These events have happened, and so many ticks are left.
+-- These events have happened, and these ticks are left.
 pub record WentBack {A : Type 0} (old : Lending A) (back : List Event × List ℕ) (new : Lending A) : Type 0 where
   pub world_is : world_of new.configuration ≡ run (world_of old.configuration) back.0
   pub left_is : new.left ≡ back.1

@@ -1,4 +1,4 @@
--- When each layer of the proof stood for good in a measured run.
+-- When each layer of the proof stood permanently in a measured run.
 use Rattle.std.specs.Prelude.{◌≡◌, ◌≤◌, ℕ, ◌+◌, ◌-◌, ◌*◌, List, length, Option}
 use Rattle.topology.specs.Network.{Network}
 use Rattle.topology.specs.Eccentricity.{eccentricity_of, sharp_of}
@@ -17,13 +17,15 @@ use Rattle.experiments.specs.Shown.{scrambled, seeded}
 use Rattle.experiments.specs.declared.layered_run.Settling.{Settling}
 use Rattle.experiments.specs.declared.measured_run.Scheduler.{Scheduler}
 
--- after so many sweeps the fact held for good: one more than there had been when it last failed, or 0
+-- after this many sweeps the fact held permanently: one more than there had been when it last
+-- failed, or 0 if it never failed
 abbrev pub HoldsFrom : (World → Type 0) → World → List Event → ℕ → Type 0
 HoldsFrom Fact start events sweeps =
     (last : Option ℕ) × FailsLast Fact start events last × (sweeps ≡ counted_from last)
 
--- These events, without damage, have happened from the start on: so many events and sweeps, and after
--- so many sweeps each layer stood for good, as the proof defines it.
+-- These events, without damage, have happened from the start on. There were this many events and
+-- sweeps, and each layer stood permanently after its number of sweeps, as the proof defines the
+-- layer.
 pub record IsSettlingShown (start : World) (events : List Event) (s : Settling) : Type 0 where
   pub undamaged : IsUndamaged start events
   pub events_are : s.events ≡ counted_up_to (length events)

@@ -26,7 +26,7 @@ abbrev pub ordered : Network → World → Order → List Event
 ordered net w (Rounds count) = rounds net count
 ordered net w (Random steps chances g) = random_steps w chances steps g
 
--- the same, if each loan lasts so many ticks, at least one; for ever, if nothing is said
+-- the same, if each loan lasts this many ticks, at least one; for ever if no number is given
 abbrev pub turns : Network → World → Option ℕ → Order → List Event
 turns net w None order = ordered net w order
 turns net w (Some ticks) order = ordered_back net (ticks - 1) w order
@@ -35,7 +35,7 @@ turns net w (Some ticks) order = ordered_back net (ticks - 1) w order
 abbrev pub planned : Network → Option Lcg → Option ℕ → Order → List Event
 planned net scramble loan order = harms_of net scramble ++ turns net (run (default_world net) (harms_of net scramble)) loan order
 
--- that the sink failed is answered only if its count of failures rose
+-- `Sink` is returned only if the sink's count of failures rose
 abbrev pub CountsSinkFailures : {T : Type 0} → Result T PlanFault → ℕ → ℕ → Type 0
 CountsSinkFailures (Ok _) failures more = failures ≤ more
 CountsSinkFailures (Err Memory) failures more = failures ≤ more

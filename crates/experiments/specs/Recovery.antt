@@ -25,8 +25,8 @@ abbrev pub HoldsAfterEach : (World → Type 0) → World → List Event → Type
 HoldsAfterEach Fact w [] = Unit {0}
 HoldsAfterEach Fact w (e ∷ es) = Fact (step w e) × HoldsAfterEach Fact (step w e) es
 
--- The fact failed after these first events, among which there were that many sweeps, and not any
--- more from then on.
+-- The fact failed after these first events, among which there were this many sweeps, and never
+-- failed after that.
 pub record IsLastFailure (Fact : World → Type 0) (start : World) (es : List Event) (sweeps : ℕ) : Type 0 where
   pub front : List Event
   pub back : List Event
@@ -46,7 +46,7 @@ FailsLast Fact start es (Some sweeps) = IsLastFailure Fact start es sweeps
 abbrev pub FailedLast : World → List Event → Option ℕ → Type 0
 FailedLast = FailsLast IsServing
 
--- The same of each layer of the proof; and so many events there were. A world that is said to have
+-- The same of each layer of the proof, and how many events there were. A world that is said to have
 -- settled is legitimate.
 pub record AreLayersSeen (start : World) (es : List Event) (l : LayersSeen) : Type 0 where
   pub events_are : l.events ≡ counted_up_to (length es)
@@ -84,7 +84,7 @@ IsLastNow Fact now sweeps before after = (Fact now × (after ≡ before)) ⊎ ((
 abbrev pub unseen : LayersSeen
 unseen = record { events = 0; links = None; tree = None; ring = None; settled = false }
 
--- and so of each layer
+-- the same of each layer
 pub record AreLayersNow (now : World) (sweeps : ℕ) (before after : LayersSeen) : Type 0 where
   pub links : IsLastNow AreLinksStable now sweeps before.links after.links
   pub tree : IsLastNow IsTreeReached now sweeps before.tree after.tree
@@ -98,8 +98,8 @@ AreAnyLayersFirst now sweeps true None = ⊥
 AreAnyLayersFirst now sweeps false (Some l) = ⊥
 AreAnyLayersFirst now sweeps false None = Unit {0}
 
--- Whatever run the layers were seen of before, after one more event, which led to this world and to so
--- many sweeps, they are seen of that run and the event.
+-- Whatever run the layers were seen of before, they are afterwards seen of that run with one more
+-- event, which led to this world and to this many sweeps.
 abbrev pub LayersGoOn : World → Event → ℕ → LayersSeen → LayersSeen → Type 0
 LayersGoOn now e sweeps before after =
     (start : World) (es : List Event) (count : ℕ) → IsWorldInRange start → now ≡ run start (es ++ e ∷ [])
@@ -113,7 +113,7 @@ AnyLayersGoOn now e sweeps (Some before) None = ⊥
 AnyLayersGoOn now e sweeps None (Some after) = ⊥
 AnyLayersGoOn now e sweeps None None = Unit {0}
 
--- one sweep more than at the last failure; none if there was none
+-- one sweep more than at the last failure; 0 if there was no failure
 abbrev pub counted_from : Option ℕ → ℕ
 counted_from None = 0
 counted_from (Some last) = counted_up_to (last + 1)

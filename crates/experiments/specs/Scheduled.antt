@@ -28,16 +28,17 @@ plain_steps net (suc n) g =
     let drawn = draw_step net plain before.1 in
     (before.0 ++ drawn.0 ∷ [], drawn.1)
 
--- The stretch after n others, and the generator after it: a round; or as many steps as there are nodes
--- and four times the edges; or round n with the slow link, or the slow node, that the generator's next
--- words name. Rounds draw nothing, so that is the same link or node in each of them.
+-- The stretch after n others, and the generator after it: a round; or as many steps as there are
+-- nodes, plus four for each edge; or round n with the slow link, or the slow node, that the
+-- generator's next words name. Rounds draw nothing, so that is the same link or node in each of
+-- them.
 abbrev pub stretch_of : Scheduler → Network → ℕ → Lcg → List Event × Lcg
 stretch_of Rounds net n g = (round net, g)
 stretch_of Random net n g = plain_steps net (net.nodes + 4 * length net.edges) g
 stretch_of (SlowLink share) net n g = (slow_round net (slow_link net g) share n, g)
 stretch_of (SlowNode share) net n g = (slow_round net (slow_node net g) share n, g)
 
--- the ticket that a node lends to; none at no node
+-- the ticket that a node lends to; none if there is no such node
 abbrev pub lent_at : World → ℕ → Option ℕ
 lent_at w v = if nat_lt v w.net.nodes then (w.node v).desk.lent else None
 

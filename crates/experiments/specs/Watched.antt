@@ -22,7 +22,7 @@ GoesOn old last es new now =
 pub goes-nowhere : (judge : JudgeView) (last : LastFailures) → GoesOn judge last [] judge last
 goes-nowhere judge last start before watched = subst (λ es. IsWatched start es judge last) (sym (append-nil before)) watched
 
--- events and then others are both
+-- what goes on by some events and then by others goes on by both together
 pub goes-both : (a b c : JudgeView) (p q r : LastFailures) (xs ys : List Event) → GoesOn a p xs b q → GoesOn b q ys c r → GoesOn a p (xs ++ ys) c r
 goes-both a b c p q r xs ys one two start before watched =
     subst (λ es. IsWatched start es c r) (append_assoc before xs ys) (two start (before ++ xs) (one start before watched))

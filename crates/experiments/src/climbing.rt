@@ -16,7 +16,7 @@ use topology::Net;
 /// How a search goes.
 #[derive(Clone, Copy, Debug)]
 pub struct Search {
-    /// What all of it is drawn from.
+    /// The seed from which everything is drawn.
     pub seed: u64,
     /// How many changes it tries.
     pub steps: u32,
@@ -29,20 +29,20 @@ pub struct SlowRun {
     pub harms: Vec<Event>,
     /// What happens then.
     pub events: Vec<Event>,
-    /// How late that serves.
+    /// How late the run serves.
     pub delay: Delay,
 }
 
-/// For each sweep of the sharper bound, how many passes a trial has at most.
+/// The number of passes of a trial for each sweep of the sharper bound.
 const PASSES_A_SWEEP: usize = 3;
 
-/// Looks for a run that serves late: from a trial that is drawn, by one change after the other, of
-/// which each stays that serves no earlier.
+/// Looks for a run that serves late. It begins with a trial that is drawn, and tries one change
+/// after the other. A change stays if the run then serves no earlier.
 ///
 /// # Errors
 /// `AllocError` if memory is refused.
 pub fn climb(alloc: Global, net: &Net, search: Search) -> Result<SlowRun, AllocError>
-    // The list that it answers serves as late as it says.
+    // The list that it returns serves as late as it says.
     ensures { IfOk result (λ run. IsReplayed net.now run.harms.items run.events.items
         (Some run.delay)) }
 {

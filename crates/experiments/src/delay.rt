@@ -15,8 +15,8 @@ use topology::Net;
 /// How late a run serves.
 #[derive(Clone, Copy)]
 pub struct Delay {
-    /// After how many sweeps the network served at each moment of the run: if that is more than 0,
-    /// it did not serve at some moment after one sweep less.
+    /// After how many sweeps the network served at each moment of the run. If this is more than 0,
+    /// the network did not serve at some moment after one sweep fewer.
     pub sweeps: u64,
     /// How many sweeps there were.
     pub seen: u64,
@@ -29,8 +29,8 @@ fn has_harm(events: &[Event]) -> bool
     events.iter().any(|event| matches!(event, Event::Damage(_)))
 }
 
-/// Lets harms happen in the default world of a network, and then judges a list of events. There is
-/// no answer if one of those is a harm itself.
+/// Lets harms happen in the default world of a network, and then judges a list of events. Returns
+/// none if one of these events is a harm itself.
 ///
 /// # Errors
 /// `AllocError` if the memory of the world is refused.

@@ -1,4 +1,4 @@
-//! Schedules in which whoever has the lock gives it back after so many ticks of its node.
+//! Schedules in which whoever has the lock gives it back after a given number of ticks of its node.
 ghost use Rattle.std.specs.Prelude.{◌≡◌, ◌-◌, ◌<◌, [], ◌∷◌, OnOk, replicate};
 ghost use Rattle.std.specs.List.{range_with_len};
 ghost use Rattle.byte_streams.specs.Streams.{CountsFailures};
@@ -17,7 +17,7 @@ use schedules::{Chances, EventSink, give_round, laws as schedules_laws, next_ste
 use std::alloc::Allocator;
 use topology::Net;
 
-/// The nodes that a network has at most.
+/// The most nodes that a network may have.
 const MOST_NODES: usize = 64;
 
 /// The nodes and links of a run, and how long each loan lasts.
@@ -45,7 +45,8 @@ impl<A: Allocator + Copy> Lending<A> {
         }
     }
 
-    /// The ticket that leaves at a node after its tick, if one does, of the ticket that it lends to.
+    /// The ticket that leaves at a node after its tick, if one does. `lent` is the ticket that the
+    /// node lends to.
     fn due(&mut self, node: u16, lent: Option<u16>) -> Option<u16>
         requires { node < 64 }
         ensures due { (result, self.new.left) ≡ due self.old.more node lent self.old.left }
@@ -91,7 +92,7 @@ impl<A: Allocator + Copy> EventSink for Lending<A> {
 /// Gives the sink what the order says, with what is given back.
 ///
 /// # Errors
-/// [`Failed`] if the sink failed; then it took a beginning of the events.
+/// [`Failed`] if the sink failed; then it took an initial part of the events.
 pub(crate) fn give_order_back<A: Allocator + Copy, S: EventSink>(
     net: &Net<A>,
     order: Order,
@@ -114,7 +115,7 @@ pub(crate) fn give_order_back<A: Allocator + Copy, S: EventSink>(
     }
 }
 
-/// Gives the sink as many rounds, with what is given back after each.
+/// Gives the sink `count` rounds, with what is given back after each.
 fn give_rounds_back<A: Allocator + Copy, S: EventSink>(
     net: &Net<A>,
     count: u64,
@@ -206,7 +207,7 @@ fn give_leave<A: Allocator + Copy, S: EventSink>(
     sink.take(&leave)
 }
 
-/// Gives the sink as many random steps, and after each tick what is given back there.
+/// Gives the sink `steps` random steps, and after each tick what is given back at its node.
 fn give_steps_back<A: Allocator + Copy, S: EventSink>(
     chances: Chances,
     steps: u64,
@@ -226,7 +227,7 @@ fn give_steps_back<A: Allocator + Copy, S: EventSink>(
     Ok(())
 }
 
-/// Gives the sink a random step, and after a tick what is given back there.
+/// Gives the sink a random step, and after a tick what is given back at its node.
 fn give_step_back<A: Allocator + Copy, S: EventSink>(
     chances: Chances,
     generator: &mut Lcg64Xsh32,

@@ -5,8 +5,8 @@ use run_model::laws as run_model_laws;
 use schedules::laws as schedules_laws;
 pub use schedules::laws::taking;
 
-/// No event of a schedule is refused if it begins in the default world: whoever lets the events
-/// happen, as from the text of them, need look at no refusal.
+/// No event of a schedule is refused if it begins in the default world: code that lets the events
+/// happen, for example from their text, need not check for refusals.
 pub fn accepted()
     ensures { PlansAreAccepted }
 {

@@ -1,4 +1,4 @@
-//! One run, and when each layer of the proof stood in it for good.
+//! One run, and when each layer of the proof stood in it permanently.
 ghost use Rattle.std.specs.Prelude.{IfOk};
 ghost use Rattle.experiments.specs.Layered.{IsSettlingOf};
 
@@ -8,10 +8,10 @@ use run_model::laws as run_model_laws;
 use std::alloc::{AllocError, Allocator};
 use topology::Net;
 
-/// When each layer of the proof stood for good in a run, in sweeps since its start.
+/// When each layer of the proof stood permanently in a run, in sweeps since its start.
 #[derive(Clone, Copy)]
 pub struct Settling {
-    /// The seed that the run was made of.
+    /// The seed of the run.
     pub seed: u64,
     /// How many events there were.
     pub events: u64,
@@ -27,9 +27,9 @@ pub struct Settling {
     pub seen: u64,
 }
 
-/// Makes the run that [`measure_run`](crate::measure_run) makes, and says of each layer of the proof
-/// after how many sweeps it stood for good. Until all of them stand the whole network is looked at
-/// after each event, so this takes longer.
+/// Makes the run that [`measure_run`](crate::measure_run) makes, and says for each layer of the
+/// proof after how many sweeps it stood permanently. Until all layers stand, the whole network is
+/// looked at after each event, so this takes longer.
 ///
 /// # Errors
 /// `AllocError` if the memory of the world or of its harms is refused.

@@ -15,11 +15,11 @@ use std::alloc::Allocator;
 pub(crate) struct LayersSeen {
     /// How many events there were.
     pub(crate) events: u64,
-    /// How many sweeps there had been when last a link was not stable.
+    /// How many sweeps there had been when a link was last not stable.
     pub(crate) links: Option<u64>,
-    /// The same of the tree, when last it was not reached.
+    /// How many sweeps there had been when the tree was last not reached.
     pub(crate) tree: Option<u64>,
-    /// The same of the token ring, when last it was not good.
+    /// How many sweeps there had been when the token ring was last not good.
     pub(crate) ring: Option<u64>,
     /// Whether the network was legitimate when it was looked at last, and nothing was damaged since.
     settled: bool,
@@ -44,8 +44,8 @@ impl LayersSeen {
         unseen.looked(configuration, sweeps)
     }
 
-    /// What has been seen after one event more, which has led to this configuration and to so many
-    /// sweeps. A network that has settled needs no look until something is damaged.
+    /// What has been seen after one event more, which has led to this configuration and to this
+    /// many sweeps. A network that has settled needs no look until something is damaged.
     pub(crate) fn after<A: Allocator + Copy>(
         self,
         configuration: &Configuration<A>,
@@ -81,7 +81,7 @@ impl LayersSeen {
         }
     }
 
-    /// What has been seen after one look more, when there have been so many sweeps.
+    /// What has been seen after one look more, when there have been this many sweeps.
     fn looked<A: Allocator + Copy>(
         self,
         configuration: &Configuration<A>,
@@ -111,15 +111,16 @@ fn all_stand(links: bool, tree: bool, ring: bool, loans: bool) -> bool
     links && tree && ring && loans
 }
 
-/// The sweeps at the last moment at which something failed, with one moment more.
+/// How many sweeps there had been at the last moment at which something failed, with one moment
+/// more.
 pub(crate) fn last_failure(holds: bool, sweeps: u64, last: Option<u64>) -> Option<u64>
     ensures { result ≡ (if holds then last else Some sweeps) }
 {
     if holds { last } else { Some(sweeps) }
 }
 
-/// After how many sweeps something has held at every moment, by when it last failed: the least such
-/// number.
+/// The least number of sweeps after which something has held at every moment, by when it last
+/// failed.
 pub(crate) fn sweeps_after(last: Option<u64>) -> u64
     ensures { result ≡ counted_from last }
 {

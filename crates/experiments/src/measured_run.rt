@@ -28,16 +28,17 @@ pub enum Scheduler {
     Rounds,
     /// Each step is drawn: a tick, a send or a take.
     Random,
-    /// Rounds in which one link, which the seed names, carries its items only in `share` of a hundred.
+    /// Rounds in which one link, which the seed names, carries its items only in `share` of a
+    /// hundred rounds.
     SlowLink { share: u16 },
-    /// Rounds in which one node, which the seed names, ticks only in `share` of a hundred.
+    /// Rounds in which one node, which the seed names, ticks only in `share` of a hundred rounds.
     SlowNode { share: u16 },
 }
 
 /// What a run has shown.
 #[derive(Clone, Copy, PartialEq, Eq)]
 pub struct Recovery {
-    /// The seed that it was made of.
+    /// The seed of the run.
     pub seed: u64,
     /// After how many sweeps the network served at each moment of the run.
     pub sweeps: u64,
@@ -45,8 +46,9 @@ pub struct Recovery {
     pub seen: u64,
 }
 
-/// How many stretches a run has at most for each sweep of the bound. By rounds one is enough, and with
-/// a slow link or node 100 are; of random steps a sweep takes a random number of stretches.
+/// The most stretches that a run may have for each sweep of the bound. With rounds one is enough,
+/// and with a slow link or node 100 are; with random steps a sweep takes a random number of
+/// stretches.
 const STRETCHES_A_SWEEP: u64 = 1000;
 
 /// A run of random steps draws nothing but ticks, sends and takes.
@@ -57,8 +59,8 @@ const PLAIN: Chances = Chances {
 
 /// Scrambles a world by a seed, and lets the scheduler's events happen until there have been as
 /// many sweeps as the sharper bound says, or 1000 stretches for each of them. A stretch is a round,
-/// or as many random steps as there are nodes and four times the edges; after it, whoever has the
-/// lock gives it back. A slow link or node has its part in the rounds that
+/// or a number of random steps: as many as there are nodes, plus four for each edge. After each
+/// stretch, whoever has the lock gives it back. A slow link or node has its part in the rounds that
 /// [`has_part`](schedules::has_part) says.
 ///
 /// # Errors
@@ -81,8 +83,8 @@ pub fn measure_run<A: Allocator + Copy>(
     })
 }
 
-/// The run of a seed on a network under a scheduler, as a watch has seen it, which looks at the layers of
-/// the proof or does not.
+/// The run of a seed on a network under a scheduler, as a watch has seen it. `layered` says whether
+/// the watch looks at the layers of the proof.
 pub(crate) fn watched_run<A: Allocator + Copy>(
     alloc: A,
     net: &Net<A>,
@@ -126,7 +128,7 @@ fn scrambled_world<A: Allocator + Copy>(
     Ok(world)
 }
 
-/// Lets harms happen; none is refused if no client waits.
+/// Lets harms happen. Those that a scramble draws are not refused if no client waits.
 pub(crate) fn happen<A: Allocator + Copy>(world: &mut World<A>, harms: &[Event])
     ensures { world_of world.new ≡ run (world_of world.old) harms.now }
 {
@@ -135,7 +137,7 @@ pub(crate) fn happen<A: Allocator + Copy>(world: &mut World<A>, harms: &[Event])
     }
 }
 
-/// Gives the watch stretches, until it has seen as many sweeps as the sharper bound says, or had
+/// Gives the watch stretches until it has seen as many sweeps as the sharper bound says, or has had
 /// 1000 stretches for each of them.
 fn give_stretches<A: Allocator + Copy>(
     net: &Net<A>,
@@ -156,7 +158,7 @@ fn give_stretches<A: Allocator + Copy>(
     }
 }
 
-/// The stretch after `before` others.
+/// Gives the watch the stretch that comes after `before` others.
 fn give_stretch<A: Allocator + Copy>(
     net: &Net<A>,
     scheduler: Scheduler,
@@ -182,7 +184,7 @@ fn give_stretch<A: Allocator + Copy>(
     }
 }
 
-/// One round.
+/// Gives the watch one round.
 fn give_one_round<A: Allocator + Copy>(net: &Net<A>, watch: &mut ServiceWatch<A>)
     ensures { GoesOn watch.old.judge watch.old.last (round net.now) watch.new.judge
         watch.new.last }
@@ -191,7 +193,7 @@ fn give_one_round<A: Allocator + Copy>(net: &Net<A>, watch: &mut ServiceWatch<A>
     let _given = give_round(net, watch);
 }
 
-/// Round `round` with a slow link or node.
+/// Gives the watch round `round` with a slow link or node.
 fn give_one_slow_round<A: Allocator + Copy>(
     net: &Net<A>,
     slow: Slow,
@@ -206,7 +208,7 @@ fn give_one_slow_round<A: Allocator + Copy>(
     let _given = give_slow_round(net, slow, share, round, watch);
 }
 
-/// As many random steps as there are nodes and four times the edges.
+/// Gives the watch as many random steps as there are nodes, plus four for each edge.
 fn give_steps<A: Allocator + Copy>(
     net: &Net<A>,
     generator: &mut Lcg64Xsh32,
@@ -234,7 +236,7 @@ fn leave_all<A: Allocator + Copy>(watch: &mut ServiceWatch<A>)
     }
 }
 
-/// Whoever has the lock at a node gives it back; at no node nothing happens.
+/// Whoever has the lock at a node gives it back. If there is no such node, nothing happens.
 fn leave<A: Allocator + Copy>(node: u16, watch: &mut ServiceWatch<A>)
     ensures { GoesOnBy (λ w. leave_at w node) watch.old.judge watch.old.last watch.new.judge
         watch.new.last }
@@ -244,7 +246,7 @@ fn leave<A: Allocator + Copy>(node: u16, watch: &mut ServiceWatch<A>)
     }
 }
 
-/// The ticket that a node lends to, if there is that node and it lends.
+/// The ticket that a node lends to, if the node exists and lends.
 fn lent_at<A: Allocator + Copy>(configuration: &Configuration<A>, node: u16) -> Option<u16>
     ensures { result ≡ lent_at (world_of configuration.now) node }
 {

@@ -18,11 +18,11 @@ use topology::Net;
 /// What follows the scramble.
 #[derive(Drop)]
 pub enum Order {
-    /// As many rounds.
+    /// This many rounds.
     Rounds {
         count: u64,
     },
-    /// As many random steps, drawn from the generator.
+    /// This many random steps, drawn from the generator.
     Random {
         steps: u64,
         chances: Chances,
@@ -56,13 +56,14 @@ impl From<Failed> for PlanFault {
 }
 
 /// Gives the sink a whole schedule for a network: the harms that a scramble draws from its
-/// generator, if there is one, and then what the order says. If `loan` says so, whoever has the lock
-/// gives it back after so many ticks of its node; 0 counts as 1. The schedule begins in the default
-/// world, and there none of the events is refused. Of memory it takes a world and the list of the harms.
+/// generator, if there is one, and then what the order says. If `loan` is given, whoever has the
+/// lock gives it back after that many ticks of its node; 0 counts as 1. The schedule begins in the
+/// default world, and there none of the events is refused. The memory that it takes is a world and
+/// the list of the harms.
 ///
 /// # Errors
-/// `Memory` if that is refused; `Sink` if the sink failed, and then it took a beginning of
-/// the events.
+/// `Memory` if that memory is refused; `Sink` if the sink failed, and then it took an initial part
+/// of the events.
 pub fn give_plan<A: Allocator + Copy, S: EventSink>(
     alloc: A,
     net: &Net<A>,

@@ -14,10 +14,10 @@ use schedules::EventSink;
 use std::alloc::{AllocError, Global};
 use topology::Net;
 
-/// For how many sweeps at least a network is to serve before its run ends.
+/// The fewest sweeps for which a network must have served before its run may end early.
 const PATIENCE: u64 = 8;
 
-/// How late a run serves: the more sweeps the later, and then the more events.
+/// How late a run serves. More sweeps are later; of equally many sweeps, more events are later.
 #[derive(Clone, Copy, Debug, PartialEq, Eq, PartialOrd, Ord)]
 pub(crate) struct Score {
     /// After how many sweeps it served.
@@ -26,7 +26,7 @@ pub(crate) struct Score {
     pub(crate) events: usize,
 }
 
-/// The moves of one pass: each node ticks once; each link gets a frame, and gives an item up.
+/// The moves of one pass: each node ticks once; each link gets a frame and gives up an item.
 pub(crate) fn moves_of(alloc: Global, net: &Net) -> Result<Vec<Event>, AllocError>
     ensures { IfOk result (λ moves. AreMoves moves.items) }
 {
@@ -64,7 +64,7 @@ pub(crate) struct Playing {
 }
 
 impl Playing {
-    /// Nothing has happened yet but the harms of a trial.
+    /// A run in which only the harms of a trial have happened.
     fn new(alloc: Global, net: &Net, harms: &[Event]) -> Result<Playing, AllocError>
         ensures { IfOk result (λ playing. playing.events.items ≡ []) }
     {
@@ -80,7 +80,7 @@ impl Playing {
         })
     }
 
-    /// How late it serves, as far as it has come.
+    /// How late the run serves, judged by what has happened so far.
     pub(crate) fn score(&self) -> Score
         ensures { result.events ≡ self.now.late }
     {
@@ -90,8 +90,8 @@ impl Playing {
         }
     }
 
-    /// Whether it need not go on: it has served for a third of its sweeps, and for as many as the
-    /// patience says.
+    /// Whether the run need not go on: it has served for the last third of its sweeps, rounded
+    /// down, and for at least `PATIENCE` sweeps.
     fn is_over(&self) -> bool {
         let sweeps = self.watch.sweeps();
         sweeps.saturating_sub(self.watch.served_after()) >= (sweeps / 3).max(PATIENCE)
@@ -112,7 +112,8 @@ impl Playing {
         Ok(())
     }
 
-    /// Lets the moves of a pass happen in an order, and then whoever has the lock gives it back.
+    /// Shuffles the moves of a pass by a seed and lets them happen; then whoever has the lock gives
+    /// it back.
     fn pass(&mut self, order: u32, moves: &mut [Event]) -> Result<(), AllocError>
         requires events { AreMoves self.old.events.items }
         requires moves { AreMoves moves.old }
@@ -153,8 +154,8 @@ impl Playing {
     }
 }
 
-/// Plays a trial: its harms, and then pass after pass, until it has served for long. Each pass
-/// brings the moves into another order.
+/// Plays a trial: its harms, and then pass after pass, until it has served for long or has no more
+/// passes. Each pass shuffles the moves.
 pub(crate) fn play(
     alloc: Global,
     net: &Net,

@@ -17,7 +17,7 @@ pub(crate) struct Trial {
 }
 
 impl Trial {
-    /// A trial whose every part is drawn, with as many passes.
+    /// A trial with `passes` passes, every part of which is drawn.
     pub(crate) fn drawn(
         alloc: Global,
         net: &Net,
@@ -46,7 +46,8 @@ impl Trial {
         self.orders.extend_from_slice(other.orders.as_slice())
     }
 
-    /// Draws a part of it again: one harm, four, or the order of a pass among the first `passes`.
+    /// Draws a part of it again: one harm, four harms, or the order of one of the first `passes` +
+    /// 1 passes. Nothing changes if the pass that is drawn does not exist.
     pub(crate) fn change(&mut self, net: &Net, passes: usize, generator: &mut Lcg64Xsh32)
         ensures harms { length self.new.harms.items ≡ length self.old.harms.items }
         ensures orders { length self.new.orders.items ≡ length self.old.orders.items }
@@ -79,7 +80,7 @@ impl Trial {
         }
     }
 
-    /// Draws the order of a pass again.
+    /// Draws the order of one of the first `passes` + 1 passes again, if that pass exists.
     fn redraw_order(&mut self, passes: usize, generator: &mut Lcg64Xsh32)
         ensures harms { self.new.harms ≡ self.old.harms }
         ensures orders { length self.new.orders.items ≡ length self.old.orders.items }
@@ -124,7 +125,8 @@ fn drawn_item(ranges: Ranges, generator: &mut Lcg64Xsh32) -> Item {
     Item::Frame(Frame { seq, ack, payload })
 }
 
-/// Another harm of the same part of the world; a loan and a link's items stay as they are.
+/// A newly drawn harm of the same part of the world. Harms that write a loan, empty a link, or join
+/// or part an edge stay as they are.
 fn redrawn(ranges: Ranges, harm: Harm, generator: &mut Lcg64Xsh32) -> Harm {
     match harm {
         Harm::Own { node, .. } => Harm::Own {

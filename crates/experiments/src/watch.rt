@@ -23,14 +23,14 @@ pub(crate) struct LastFailures {
     pub(crate) layers: Option<LayersSeen>,
 }
 
-/// Lets events happen from a world on, counts their sweeps, and keeps after how many of them the
-/// network last did not serve. It may look at the layers of the proof, too.
+/// Lets events happen from a world on, counts their sweeps, and keeps how many there had been when
+/// the network last did not serve. It may look at the layers of the proof, too.
 #[derive(Drop)]
 pub struct ServiceWatch<A: Allocator + Copy = Global> {
     judge: Judge<A>,
     last: LastFailures,
-    /// Whether it serves now. It is kept so that an event need be asked of the node alone that it
-    /// touches.
+    /// Whether it serves now. It is kept so that after an event only the node that it touches need
+    /// be looked at.
     serves: bool,
 }
 
@@ -56,8 +56,9 @@ impl<A: Allocator + Copy> ServiceWatch<A> {
         ServiceWatch::begin(world, false)
     }
 
-    /// A watch that also looks at the layers, or does not. It looks at them after each event until all of
-    /// them stand. They stand then until something is damaged, so it looks again only after a harm.
+    /// A watch that also looks at the layers if `layered` is true. It looks at them after each
+    /// event until all of them stand. Then they stand until something is damaged, so it looks again
+    /// only after a harm.
     pub(crate) fn begin(world: World<A>, layered: bool) -> ServiceWatch<A>
         ensures { IsWatched (beginning (world_of world) layered) [] result.judge
             result.last }
@@ -92,7 +93,7 @@ impl<A: Allocator + Copy> ServiceWatch<A> {
         self.judge.sweeps()
     }
 
-    /// After how many sweeps the network has served at every moment: the least such number.
+    /// The least number of sweeps after which the network has served at every moment.
     pub fn served_after(&self) -> u64
         ensures { result ≡ counted_from self.now.last.serving }
     {
@@ -144,8 +145,8 @@ impl<A: Allocator + Copy> EventSink for ServiceWatch<A> {
 
     ghost failures = { λ w. 0 };
 
-    /// It never fails. The whole network is looked at only if the node that the event touches
-    /// looks otherwise after it, and at harms.
+    /// It never fails. The whole network is looked at only if the node that the event touches looks
+    /// different afterwards, and at harms.
     fn take(&mut self, event: &Event) -> Result<(), Failed>
         ensures taken { GoesOn self.old.judge self.old.last (event.now ∷ []) self.new.judge
             self.new.last }

@@ -19,7 +19,7 @@ abbrev pub BeginsWithStart : List Entry → Type 0
 BeginsWithStart [] = Unit {0}
 BeginsWithStart (e ∷ es) = IsTrue (is_start e.noted)
 
--- some entry is there
+-- there is an entry
 abbrev pub is_any : List Entry → Bool
 is_any [] = false
 is_any (e ∷ es) = true
@@ -44,10 +44,10 @@ abbrev pub added : ℕ → Noted → RecorderView → List Entry
 added instant n r =
     if is_passed_over n r || has_no_room r then [] else entry_noted instant n r ∷ []
 
--- A note adds its entry; a page that is written goes to the end of the file; if that is full, a
--- record of no entries is begun. Whoever goes on after the front of a file, and cuts off what stands after
--- it, holds that front. And who reads the file and then the page reads the entries of the front and then
--- these very entries.
+-- A note adds its entry; a page that is written goes to the end of the file; if that is full, a record of
+-- no entries is begun. A recorder that goes on after the front of a file, with what comes after it cut off,
+-- holds that front. Reading the file and then the page gives the entries of the front and then these very
+-- entries.
 pub record FilesAreRecords : Type 0 where
   pub noted : (front : List ℕ) (base : ℕ) (r : RecorderView) (file : List ℕ) (es : List Entry) (instant : ℕ) (n : Noted)
       → HoldsAfter front base r file es → base < 2 ^ 64 → instant < 2 ^ 64 → IsNoted n

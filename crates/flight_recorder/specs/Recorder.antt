@@ -13,7 +13,7 @@ use Rattle.flight_recorder.specs.View.{RecorderView}
 use Rattle.flight_recorder.specs.declared.recorder.Side.{Side}
 use Rattle.flight_recorder.specs.declared.recorder.Side.TheVariants.{First, Second}
 
--- the other one of two files
+-- the other of the two files
 abbrev pub other : Side → Side
 other First = Second
 other Second = First
@@ -32,7 +32,7 @@ at_start size side =
       is_stopped = false;
     }
 
--- nothing is noted yet since the recorder began, or since the present file did
+-- nothing has been noted since the recorder began, or since the present file did
 abbrev pub is_at_start : RecorderView → Bool
 is_at_start r = not r.is_begun
 

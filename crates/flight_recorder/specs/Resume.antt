@@ -48,14 +48,16 @@ abbrev pub Begins : ℕ → ℕ → Result (Entry × List ℕ) Unread → Type 0
 Begins network node (Ok x) = IsTrue (is_start_of x.0.noted network node)
 Begins network node (Err e) = ⊥
 
--- A recorder that goes on after the entries at the front of a file that begins so; nothing is noted yet.
+-- A recorder that goes on after the entries at the front of a file that begins like this; nothing is noted
+-- yet.
 pub record Resumes (size : ℕ) (side : Side) (network node : ℕ) (file : List ℕ) (r : RecorderView) : Type 0 where
   pub entries : List Entry
   pub front : IsFront file r.written r.last entries
   pub begins : Begins network node (entry_at 0 file)
   pub rest : r ≡ record (at_start size side) { written = r.written; last = r.last }
 
--- a file after which none goes on: it begins otherwise, or has no room for a page of 32768 bytes
+-- a file after which no recorder goes on: it begins differently, or has no room for a page of 32768
+-- bytes
 abbrev pub IsLeft : ℕ → ℕ → ℕ → List ℕ → Type 0
 IsLeft size network node file =
     (Begins network node (entry_at 0 file) → ⊥)

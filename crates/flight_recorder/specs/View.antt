@@ -1,6 +1,6 @@
 -- A recorder: the bytes of the page, how long a file may be, how many bytes of the present one are
 -- written, the instant of the entry noted last, the frames noted last, which file it is, whether
--- something is noted since it began, and whether the record has stopped.
+-- something has been noted since it began, and whether the record has stopped.
 use Rattle.std.specs.Prelude.{ℕ, Bool, List}
 use Rattle.flight_records.specs.Frames.{FramesView}
 use Rattle.flight_recorder.specs.declared.recorder.Side.{Side}

@@ -9,13 +9,13 @@ use flight_records::{Entry, LastFrames, Noted, StatePart, write_entry};
 use std::alloc::{AllocError, Allocator, Global};
 use std::marker::Model;
 
-/// How many bytes of entries a recorder keeps at most.
+/// The most bytes of entries that a recorder keeps.
 pub const ROOM: usize = 32768;
 
-/// From how many bytes on the page is due after a quiet turn.
+/// The number of bytes from which on the page is due after a quiet turn.
 const PAGE: usize = 4096;
 
-/// From how many bytes on it is due after any turn.
+/// The number of bytes from which on the page is due after any turn.
 const LARGE_PAGE: usize = 8192;
 
 /// The most bytes of an entry.
@@ -34,7 +34,7 @@ pub enum Side {
 }
 
 impl Side {
-    /// The other one of the two.
+    /// The other of the two.
     pub fn other(self) -> Side
         ensures { result ≡ other self }
     {
@@ -58,7 +58,7 @@ pub struct Recorder<A: Allocator = Global> {
     /// The frames that were noted last in the present file.
     frames: LastFrames,
     side: Side,
-    /// Something is noted since the recorder began, or since the present file did.
+    /// Whether something has been noted since the recorder began, or since the present file did.
     is_begun: bool,
     is_stopped: bool,
 }
@@ -103,9 +103,9 @@ impl<A: Allocator> Recorder<A> {
         })
     }
 
-    /// A recorder that goes on after the whole entries at the front of a file, in front of `file`'s other
-    /// bytes, if it begins with the start of a state of this node, of the network with this number, and
-    /// has room for one more page; else none. All memory is reserved here; `AllocError` comes only if
+    /// A recorder that goes on after the whole entries at the front of `file`, in place of its other
+    /// bytes, if the file begins with the start of a state of this node, of the network with this number,
+    /// and has room for one more page; else none. All memory is reserved here; `AllocError` comes only if
     /// that is refused.
     pub fn resumed(
         alloc: A,
@@ -139,9 +139,9 @@ impl<A: Allocator> Recorder<A> {
         self.last = front.last;
     }
 
-    /// Notes something of this instant, or of the one noted last if that is later. A frame that was
-    /// the last one of its link is noted in its short form. At the start only the start of a state is
-    /// noted. If the page has no room for one more entry, the record stops; then nothing is noted.
+    /// Notes something at this instant, or at the one noted last if that is later. A frame that is the
+    /// last one of its link once more is noted in its short form. At the start only the start of a state
+    /// is noted. If the page has no room for one more entry, the record stops; then nothing is noted.
     pub fn note(&mut self, instant: u64, noted: Noted)
         ensures { self.new ≡ after_note instant noted self.old }
     {
@@ -161,7 +161,7 @@ impl<A: Allocator> Recorder<A> {
         self.is_begun = true;
     }
 
-    /// Whether nothing is noted yet since the recorder began, or since the present file did: then the
+    /// Whether nothing has been noted since the recorder began, or since the present file did: then the
     /// whole state must be noted.
     pub fn is_at_start(&self) -> bool
         ensures { result ≡ is_at_start self.now }
@@ -177,7 +177,7 @@ impl<A: Allocator> Recorder<A> {
     }
 
     /// Whether the page must be written now. `is_quiet` says whether nobody needed the node in the turn
-    /// that has ended: then it may write, and a busy node does better to wait.
+    /// that has ended: then it may write, while a busy node had better wait.
     pub fn is_due(&self, is_quiet: bool) -> bool
         ensures { result ≡ is_due is_quiet self.now }
     {
@@ -194,14 +194,15 @@ impl<A: Allocator> Recorder<A> {
         self.page.as_slice()
     }
 
-    /// The file to whose end it belongs.
+    /// The file to whose end the page belongs.
     pub fn side(&self) -> Side
         ensures { result ≡ self.now.side }
     {
         self.side
     }
 
-    /// The page was written, all of it. Whether the file is full with it, and the other one begins.
+    /// Takes note that the whole page was written. Returns whether the file is full with it, so
+    /// that the other one begins.
     pub fn wrote(&mut self) -> bool
         ensures full { result ≡ fills self.old }
         ensures after { self.new ≡ after_write self.old }
@@ -220,7 +221,7 @@ impl<A: Allocator> Recorder<A> {
         true
     }
 
-    /// The page was not written: the record stops.
+    /// Takes note that the page was not written: the record stops.
     pub fn failed(&mut self)
         ensures { self.new ≡ after_failure self.old }
     {

@@ -13,7 +13,7 @@ use Rattle.flight_records.specs.declared.entry.Deed.TheVariants.{Ticks, Takes, T
 use Rattle.flight_records.specs.declared.entry.Deed.TheVariants.{SendsAgain, Asks, Leaves, Joins}
 use Rattle.flight_records.specs.declared.entry.Deed.TheVariants.{Parts, Connects, Disconnects}
 
--- the same node, or none both times
+-- the same node, or none in both
 abbrev pub same_node : Option ℕ → Option ℕ → Bool
 same_node None None = true
 same_node (Some v) (Some w) = v == w
@@ -70,7 +70,7 @@ abbrev pub frames_after : FramesView → Noted → FramesView
 frames_after v (noted.State part) = after_part v part
 frames_after v (noted.Deed deed) = after_deed v deed
 
--- what stands for it in a record: the short form of a frame that was the last one of its link
+-- what stands for a deed in a record: the short form of a frame that was the last one of its link
 abbrev pub shortened_deed : FramesView → Deed → Deed
 shortened_deed v Ticks = Ticks
 shortened_deed v (Takes from frame) =
@@ -99,7 +99,7 @@ abbrev pub sent_again : ℕ → Option Frame → Option Noted
 sent_again to None = None
 sent_again to (Some frame) = Some (noted.Deed (Sends to frame))
 
--- what was noted that stands so in a record
+-- what was noted, if this deed stands for it in a record
 abbrev pub lengthened_deed : FramesView → Deed → Option Noted
 lengthened_deed v Ticks = Some (noted.Deed Ticks)
 lengthened_deed v (Takes from frame) = Some (noted.Deed (Takes from frame))

@@ -76,26 +76,27 @@ abbrev pub instant_after : ℕ → List Entry → ℕ
 instant_after last [] = last
 instant_after last (e ∷ es) = instant_after e.instant es
 
--- who reads one entry after the other reads these, and then these bytes are left
+-- a reader that goes entry by entry reads these, and then these bytes are left
 abbrev pub AreRead : ℕ → List ℕ → List Entry → List ℕ → Type 0
 AreRead last bytes [] left = bytes ≡ left
 AreRead last bytes (e ∷ es) left =
     (rest : List ℕ) × (entry_at last bytes ≡ Ok (e, rest)) × AreRead e.instant rest es left
 
--- entries that were written are read again, whatever follows
+-- entries that were written are read back, whatever follows
 abbrev pub WrittenIsRead : Type 0
 WrittenIsRead =
     (last : ℕ) (es : List Entry) (left : List ℕ) → AreInOrder last es
     → AreRead last (record_of last es ++ left) es left
 
--- the bytes are less than the whole spelling of the next of these entries; none, if there is none
+-- the bytes are less than the whole spelling of the next of these entries; there are none if there
+-- is no next entry
 abbrev pub AreLess : ℕ → List ℕ → List Entry → Type 0
 AreLess last bytes [] = bytes ≡ []
 AreLess last bytes (e ∷ es) =
     (b : ℕ) × (back : List ℕ) × (spelling last e ≡ bytes ++ b ∷ back)
 
--- In front of a cut stand whole entries and then less than the next one; who reads these bytes reads
--- those entries, and then is short of bytes.
+-- In front of a cut there are whole entries and then less than the next one; a reader of these
+-- bytes reads those entries, and then is short of bytes.
 pub record IsCut (last : ℕ) (es : List Entry) (front : List ℕ) : Type 0 where
   pub whole : List Entry
   pub beyond : List Entry
@@ -123,8 +124,8 @@ WhatIsReadIsWritten =
     (last : ℕ) (bytes : List ℕ) (e : Entry) (rest : List ℕ) → AreBytes bytes
     → entry_at last bytes ≡ Ok (e, rest) → IsWritten last bytes e rest
 
--- what is read of a beginning of bytes that begin with this entry: it, or that they are short; what is
--- left is then a beginning of what is left of all
+-- what is read of a beginning of bytes that begin with this entry: the entry, or that the bytes are
+-- short; if it is the entry, what is left is a beginning of what is left of all the bytes
 abbrev pub IsBegun : List ℕ → Entry → List ℕ → Result (Entry × List ℕ) Unread → Type 0
 IsBegun back e rest (Ok x) = (x.0 ≡ e) × (rest ≡ x.1 ++ back)
 IsBegun back e rest (Err Short) = Unit {0}
@@ -139,7 +140,7 @@ pub record PiecesAreRead : Type 0 where
   pub begun : (last : ℕ) (front back : List ℕ) (e : Entry) (rest : List ℕ)
       → entry_at last (front ++ back) ≡ Ok (e, rest) → IsBegun back e rest (entry_at last front)
 
--- an entry that is written at the end of a record makes a record of one more
+-- an entry that is written at the end of a record makes a record of one entry more
 abbrev pub RecordsGrow : Type 0
 RecordsGrow =
     (last : ℕ) (es : List Entry) (e : Entry) → AreInOrder last es
@@ -171,8 +172,8 @@ abbrev pub frames_after_all : FramesView → List Entry → FramesView
 frames_after_all v [] = v
 frames_after_all v (e ∷ es) = frames_after_all (frames_after v e.noted) es
 
--- an entry as it stands in a record, and entries, of which each frame that was the last one of its
--- link is in the short form
+-- an entry, and entries, as they stand in a record: each frame that was the last one of its link is
+-- in its short form
 abbrev pub short_entry : FramesView → Entry → Entry
 short_entry v e = record { instant = e.instant; noted = shortened v e.noted }
 
@@ -180,7 +181,7 @@ abbrev pub short_entries : FramesView → List Entry → List Entry
 short_entries v [] = []
 short_entries v (e ∷ es) = short_entry v e ∷ short_entries (frames_after v e.noted) es
 
--- who reads the first entries, one after the other, finds that they stood for the second ones
+-- a reader of the first entries, one after the other, finds that they stood for the second ones
 abbrev pub StandFor : FramesView → List Entry → List Entry → Type 0
 StandFor v [] [] = Unit {0}
 StandFor v [] (e ∷ es) = ⊥

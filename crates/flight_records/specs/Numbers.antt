@@ -12,7 +12,7 @@ use Rattle.flight_records.specs.declared.entry.Deed.TheVariants.{Ticks, Takes, T
 use Rattle.flight_records.specs.declared.entry.Deed.TheVariants.{SendsAgain, Asks, Leaves, Joins}
 use Rattle.flight_records.specs.declared.entry.Deed.TheVariants.{Parts, Connects, Disconnects}
 
--- nothing is 0, and a number is one more than itself
+-- nothing becomes 0, and a number becomes one more than itself
 abbrev pub optional : Option ℕ → ℕ
 optional None = 0
 optional (Some n) = n + 1
@@ -26,7 +26,7 @@ truth false = 0
 abbrev pub payload_then : Payload → List ℕ → List ℕ
 payload_then p more = p.distance ∷ optional p.parent ∷ p.ring ∷ more
 
--- a frame's five
+-- a frame's five numbers
 abbrev pub frame_numbers : Frame → List ℕ
 frame_numbers f = f.seq ∷ f.ack ∷ payload_then f.payload []
 

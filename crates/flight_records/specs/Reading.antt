@@ -24,11 +24,11 @@ use Rattle.flight_records.specs.Spelling.{check}
 abbrev pub narrow : ℕ → ℕ
 narrow n = n % 65536
 
--- the number at a place of some fields; 0 past their end
+-- the low sixteen bits of the number at a place of some fields; 0 past their end
 abbrev pub field : List ℕ → ℕ → ℕ
 field fs i = narrow (slice_index fs i)
 
--- a number that may be nothing, at a place
+-- the optional number that a number stands for
 abbrev pub optional_of : ℕ → Option ℕ
 optional_of n = if n == 0 then None else Some (narrow (n - 1))
 
@@ -40,7 +40,7 @@ payload_in fs i = record {
   ring = field fs (i + 2);
 }
 
--- five, after that of a neighbour, as a frame
+-- five numbers, after that of a neighbour, as a frame
 abbrev pub frame_in : List ℕ → Frame
 frame_in fs = record { seq = field fs 1; ack = field fs 2; payload = payload_in fs 3 }
 
@@ -55,7 +55,7 @@ part_in k fs =
     else if k == 6 then Some Whole
     else None
 
--- the only deed
+-- the only deed that fields of a kind may be
 abbrev pub deed_in : ℕ → List ℕ → Option Deed
 deed_in k fs =
     if k == 7 then Some Ticks
@@ -71,7 +71,7 @@ deed_in k fs =
     else if k == 17 then Some (Disconnects (field fs 0))
     else None
 
--- the only thing that may be noted so
+-- the only thing that may be noted: that part or that deed
 abbrev pub candidate_of : Option StatePart → Option Deed → Option Noted
 candidate_of (Some part) deed = Some (noted.State part)
 candidate_of None (Some deed) = Some (noted.Deed deed)
@@ -111,7 +111,7 @@ count_of k =
     else if nat_lt k 18 then Ok 2
     else Err Invalid
 
--- an entry whose numbers were read, by the check that stands after them
+-- the entry whose numbers were read, if the check that stands after them matches
 unfoldable pub checked : ℕ → ℕ → List ℕ → List ℕ → List ℕ → Result (Entry × List ℕ) Unread
 checked last k ns bytes [] = Err Short
 checked last k ns bytes (c ∷ rest) =
@@ -126,7 +126,7 @@ entry_at last bytes = do
   ns ← numbers_at count k.1
   checked last k.0 ns.0 bytes ns.1
 
--- a reader stands after the entry that it read, and where it stood if it read none
+-- a reader is after the entry that it read, and where it was if it read none
 abbrev pub Stands : {X : Type 0} → (X → Entry) → Result X Unread → ℕ → ℕ → Type 0
 Stands entry (Ok x) old new = new ≡ (entry x).instant
 Stands entry (Err e) old new = new ≡ old

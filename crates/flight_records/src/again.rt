@@ -1,4 +1,5 @@
-//! Frames that are noted again, in a short form: that it is the last frame of its link.
+//! Frames that are noted again, in a short form, which says that a frame is the last one of its
+//! link.
 ghost use Rattle.std.specs.Prelude.{◌≡◌, None, Some, replicate, slice_index_or};
 ghost use Rattle.flight_records.specs.Again.{same_node, same_payload, same_frame, is_last};
 ghost use Rattle.flight_records.specs.Again.{put_last, no_frames, frames_after, shortened};
@@ -11,13 +12,13 @@ use topology::{Frame, Payload};
 /// The most nodes of a network.
 const NODES: usize = 64;
 
-/// The frames that were noted last on the links of a node, since the start of its state. Whoever
-/// writes a record has one, and whoever reads it.
+/// The frames that were noted last on the links of a node, since the start of its state. A writer
+/// of a record has one, and so has a reader.
 #[derive(Drop)]
 pub struct LastFrames {
-    /// By the neighbour's id, the frame that was last taken.
+    /// The frame that was last taken, by the neighbour's id.
     taken: [Option<Frame>; NODES],
-    /// By the neighbour's id, the frame that was last sent.
+    /// The frame that was last sent, by the neighbour's id.
     sent: [Option<Frame>; NODES],
 }
 
@@ -40,7 +41,7 @@ impl LastFrames {
         }
     }
 
-    /// What is noted, in its short form if it is the last frame of its link once more.
+    /// What is noted, in its short form if it is the last frame of its link again.
     pub fn shorten(&mut self, noted: &Noted) -> Noted
         ensures short { result ≡ shortened self.old noted.now }
         ensures after { self.new ≡ frames_after self.old noted.now }
@@ -65,8 +66,8 @@ impl LastFrames {
         }
     }
 
-    /// What was noted that stands so in a record; none if it is the last frame of a link on which
-    /// there was none. Then nothing changes.
+    /// What was noted, if this stands for it in a record; none if this is the short form of a frame
+    /// on a link that had none before. Then nothing changes.
     pub fn lengthen(&mut self, noted: &Noted) -> Option<Noted>
         ensures long { result ≡ lengthened self.old noted.now }
         ensures after { self.new ≡ after_long self.old (lengthened self.old noted.now) }
@@ -76,7 +77,7 @@ impl LastFrames {
         Some(long)
     }
 
-    /// What stands so in a record.
+    /// What this stands for in a record.
     fn long(&self, noted: &Noted) -> Option<Noted>
         ensures { result ≡ lengthened self.now noted.now }
     {
@@ -93,7 +94,7 @@ impl LastFrames {
         }
     }
 
-    /// From now on this was noted too.
+    /// Remembers that this was noted too.
     fn remember(&mut self, noted: &Noted)
         ensures { self.new ≡ frames_after self.old noted.now }
     {
@@ -113,7 +114,7 @@ fn last(frames: &[Option<Frame>; NODES], node: u16) -> Option<Frame>
     frames.get(usize::from(node)).copied().unwrap_or(None)
 }
 
-/// From now on this is the last frame of a link. A node that no network has has no link.
+/// Makes this the last frame of a link. Nothing changes for a node that no network has.
 fn put_last(frames: &mut [Option<Frame>; NODES], node: u16, frame: Frame)
     ensures { frames.new ≡ put_last node frame frames.old }
 {

@@ -5,7 +5,7 @@ use topology::{Frame, Payload};
 /// One entry: what was noted, and when.
 #[derive(Clone, Copy, PartialEq, Eq)]
 pub struct Entry {
-    /// When it was, in microseconds of the machine's monotonic clock.
+    /// When that was, in microseconds of the machine's monotonic clock.
     pub instant: u64,
     /// What was noted.
     pub noted: Noted,
@@ -24,7 +24,7 @@ pub enum Noted {
 /// each neighbour, `Waits` for each ticket that waits, in their order, `Loan`, `Whole`.
 #[derive(Clone, Copy, PartialEq, Eq)]
 pub enum StatePart {
-    /// A state begins, of a node of the network with this checksum.
+    /// The state of a node begins, in the network with this checksum.
     Start {
         network: u32,
         node: u16,

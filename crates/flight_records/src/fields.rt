@@ -14,7 +14,7 @@ use topology::{Frame, Payload};
 /// The fields of an entry, at most ten.
 pub(crate) type Fields = ArrayVec<u64, 10>;
 
-/// These fields.
+/// A list of these fields.
 fn fields_of(fields: &[u64]) -> Fields
     requires { length fields.now ≤ 10 }
     ensures { result.items ≡ fields.now }
@@ -24,7 +24,7 @@ fn fields_of(fields: &[u64]) -> Fields
     list
 }
 
-/// What may be nothing, as a number.
+/// An optional number as a number: 0 for none, and otherwise one more than it.
 fn optional(number: Option<u16>) -> u64
     ensures { result ≡ optional number }
 {
@@ -184,7 +184,7 @@ impl Noted {
         }
     }
 
-    /// What a kind and fields note, if there is such a thing.
+    /// What a kind and fields note, if they note anything.
     pub(crate) fn of(kind: u64, fields: &[u64]) -> Option<Noted>
         ensures { result ≡ with_fields fields.now (candidate kind fields.now) }
     {
@@ -290,7 +290,7 @@ fn narrow(number: u64) -> u16
     (number % (1 << 16)) as u16
 }
 
-/// What may be nothing, of a number.
+/// The optional number that a number stands for.
 fn optional_of(number: u64) -> Option<u16>
     ensures { result ≡ optional_of number }
 {
@@ -301,7 +301,7 @@ fn optional_of(number: u64) -> Option<u16>
     }
 }
 
-/// The payload from a place on.
+/// The payload that starts at a place.
 fn payload_in(fields: &[u64], at: usize) -> Payload
     requires { at ≤ 10 }
     ensures { result ≡ payload_in fields.now at }

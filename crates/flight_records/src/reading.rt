@@ -1,4 +1,4 @@
-//! Entries are read.
+//! Reads entries.
 ghost use Rattle.std.specs.Prelude.{◌≡◌, ◌≤◌, ℕ, length, IfOk};
 ghost use Rattle.leb128.specs.Reading.{Gives, number_at, numbers_at};
 ghost use Rattle.flight_records.specs.Reading.{count_of, entry_of};
@@ -41,7 +41,7 @@ fn count_of(kind: u64) -> Result<usize, Unread>
     }
 }
 
-/// As many numbers, and the bytes after them.
+/// This many numbers at the front of some bytes, and the bytes after them.
 fn numbers_at(count: usize, bytes: &[u8]) -> Result<(Following, &[u8]), Unread>
     requires { count ≤ 11 }
     ensures read { Gives (λ x. (x.0.items, x.1.now)) result (numbers_at count bytes.now) }
@@ -57,8 +57,8 @@ fn numbers_at(count: usize, bytes: &[u8]) -> Result<(Following, &[u8]), Unread>
     Ok((numbers, rest))
 }
 
-/// An entry whose numbers were read from the front of some bytes, by the check that stands in front
-/// of the rest.
+/// The entry whose numbers were read from the front of some bytes, if the check at the front of the
+/// rest matches.
 #[tactic(auto, unfolding(crate::specs::Reading::checked))]
 fn checked<'a>(
     last: u64,
@@ -80,7 +80,7 @@ fn checked<'a>(
     Ok((entry_of(last, kind, numbers)?, after))
 }
 
-/// The entry of some numbers.
+/// The entry that some numbers spell.
 #[tactic(auto, unfolding(crate::specs::Reading::entry_of))]
 fn entry_of(last: u64, kind: u64, numbers: &[u64]) -> Result<Entry, Unread>
     ensures { Gives (λ e. e) result (entry_of last kind numbers.now) }
@@ -118,12 +118,12 @@ impl EntryReader {
         EntryReader { instant: 0 }
     }
 
-    /// Reads the next entry, which stands at the front of these bytes, and answers it with the
+    /// Reads the next entry, which stands at the front of these bytes, and returns it with the
     /// bytes after it.
     ///
     /// # Errors
-    /// `Short` if the bytes end within an entry, or there are none; `Invalid` if no entry begins so.
-    /// Then the reader stands where it stood.
+    /// `Short` if the bytes end within an entry, or there are none; `Invalid` if no entry begins
+    /// like this. In both cases the reader stays where it was.
     pub fn next<'a>(&mut self, bytes: &'a [u8]) -> Result<(Entry, &'a [u8]), Unread>
         ensures read { Gives (λ x. (x.0, x.1.now)) result (entry_at self.old bytes.now) }
         ensures stands { Stands (λ x. x.0) result self.old self.new }

@@ -1,4 +1,4 @@
-//! Entries are written.
+//! Writes entries.
 ghost use Rattle.std.specs.Prelude.{◌≡◌, ◌+◌, ◌*◌, ◌≤◌, ◌++◌, length, vec_len, vec_capacity};
 ghost use Rattle.leb128.specs.Spelling.{in_a_row};
 ghost use Rattle.flight_records.specs.Numbers.{fields};
@@ -9,8 +9,8 @@ use crate::fields::frame_fields;
 use leb128::push_number;
 use std::alloc::Allocator;
 
-/// Writes an entry at the end of `out`, into room that is there: at most 121 bytes. `last` is the
-/// instant of the entry before it, and 0 at the start of a record.
+/// Writes an entry at the end of `out`, which must have room for 121 bytes, the most that an entry
+/// takes. `last` is the instant of the entry before it, and 0 at the start of a record.
 #[tactic(auto, unfolding(crate::specs::Spelling::spelling))]
 pub fn write_entry<A: Allocator>(last: u64, entry: &Entry, out: &mut Vec<u8, A>)
     requires later { last ≤ entry.now.instant }
@@ -27,8 +27,9 @@ pub fn write_entry<A: Allocator>(last: u64, entry: &Entry, out: &mut Vec<u8, A>)
     out.push_reserved(check);
 }
 
-/// Writes the fields of what is noted at the end, into room that is there. Most of a record are frames, in
-/// their long or short form: their fields are written without a list of them.
+/// Writes the fields of what is noted at the end of `out`, which must have room for 100 bytes. Most
+/// entries of a record are frames, in their long or short form: their fields are written without
+/// making a list of them.
 fn push_fields<A: Allocator>(noted: &Noted, out: &mut Vec<u8, A>)
     requires { vec_len out.old + 100 ≤ vec_capacity out.old }
     ensures items { out.new.items ≡ out.old.items ++ in_a_row (fields noted.now) }
@@ -44,7 +45,7 @@ fn push_fields<A: Allocator>(noted: &Noted, out: &mut Vec<u8, A>)
     }
 }
 
-/// Writes numbers at the end, into room that is there.
+/// Writes numbers at the end of `out`, which must have room for ten bytes a number.
 fn push_numbers<A: Allocator>(numbers: &[u64], out: &mut Vec<u8, A>)
     requires { vec_len out.old + 10 * length numbers.now ≤ vec_capacity out.old }
     ensures items { out.new.items ≡ out.old.items ++ in_a_row numbers.now }

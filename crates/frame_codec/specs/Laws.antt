@@ -26,7 +26,7 @@ AnyCutting =
     (r : Ranges) (pieces : List (List ℕ))
     → frames_of_pieces r [] pieces ≡ good_lines r (concat pieces)
 
--- whatever stands before a newline, what follows is read as from the start
+-- whatever comes before a newline, what follows it is read as from the start
 abbrev pub JunkEndsAtNewline : Type 0
 JunkEndsAtNewline = (r : Ranges) (junk text : List ℕ)
     → good_lines r (junk ++ newline ∷ text)

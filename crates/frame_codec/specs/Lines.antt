@@ -15,8 +15,8 @@ frames_after r half text = filter_map (frame_of r) (lines_after half text)
 abbrev pub good_lines : Ranges → List ℕ → List Frame
 good_lines r text = frames_after r [] text
 
--- Whatever half line was kept, what is kept now is the half line that then stands at the end of the
--- piece; and these are the frames of the lines that end in it.
+-- Whatever half line was kept before, what is kept now is the half line at the end of the piece;
+-- and these are the frames of the lines that end in it.
 pub record ReadsFrames (r : Ranges) (old new : Kept) (piece : List ℕ) (frames : List Frame)
     : Type 0 where
   pub half : (half : List ℕ) → old ≡ kept 21 half → new ≡ kept 21 (half_after half piece)

@@ -15,12 +15,12 @@ abbrev pub parent_number : Option ℕ → ℕ
 parent_number None = 65535
 parent_number (Some p) = p
 
--- a frame is spelled `F`, and then each field by four digits
+-- a frame is spelled `F`, and then each field as four digits
 unfoldable pub spelling : Frame → List ℕ
 spelling f =
     70 ∷ (digits f.seq ++ (digits f.ack ++ (digits f.payload.distance
     ++ (digits (parent_number f.payload.parent) ++ digits f.payload.ring))))
 
--- a hello is spelled `H`, and then the sender's id by four digits
+-- a hello is spelled `H`, and then the sender's id as four digits
 abbrev pub hello : ℕ → List ℕ
 hello id = 72 ∷ digits id

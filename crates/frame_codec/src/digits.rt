@@ -42,7 +42,8 @@ fn digit_value(byte: u8) -> Option<u16>
     }
 }
 
-/// The number whose four digits stand from an index on; none if no number's do.
+/// The number whose four digits begin at an index; none if the four bytes there are the digits of
+/// no number.
 pub fn number_at(line: &[u8], at: usize) -> Option<u16>
     requires { at + 4 ≤ length line.now }
     // The four bytes are the digits of this number.

@@ -31,13 +31,13 @@ pub fn encode(frame: &Frame) -> [u8; 22]
 /// The frame of a line without its newline: a frame exactly if the line is the frame's spelling
 /// and the frame is in range on the network.
 pub fn decode(line: &[u8], net: &Net) -> Option<Frame>
-    // No frame but one that the line spells, and that is in range.
+    // A frame only if the line spells it and it is in range.
     ensures found { IfSome result (λ f. (line.now ≡ spelling f)
         × IsTrue (frame_fits (ranges_of net.now) f)) }
-    // And that one always.
+    // And that frame always, if there is one.
     ensures only { (f : Frame) → line.now ≡ spelling f → IsTrue (frame_fits (ranges_of net.now) f)
         → result ≡ Some f }
-    // The same as a function that computes, for those who prove.
+    // The same as a function that computes, for proofs.
     ensures exact { result ≡ frame_of (ranges_of net.now) line.now }
 {
     read_line(line, &net.ranges())

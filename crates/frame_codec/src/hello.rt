@@ -1,4 +1,4 @@
-//! The line that says who is there.
+//! The line by which a node says who it is.
 ghost use Rattle.std.specs.Prelude.{◌≡◌, ℕ, ◌<◌, [], ◌∷◌, ◌++◌, IfSome, Some};
 ghost use Rattle.byte_lines.specs.Lines.{newline};
 ghost use Rattle.frame_codec.specs.Spelling.{hello};

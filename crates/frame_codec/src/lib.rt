@@ -14,8 +14,8 @@
 //! ```
 //!
 //! It is no checksum: noise that happens to spell a frame in range is read as one. A stream that
-//! starts over, as after a lost connection, needs `drop_half`, or its first bytes join the half
-//! line of the old one.
+//! starts over, for instance after a lost connection, needs `drop_half`; else its first bytes join
+//! the half line of the old stream.
 #![tactic(auto)]
 
 mod digits;

@@ -38,11 +38,11 @@ impl LineReader {
         }
     }
 
-    /// Reads one byte: a frame exactly if the byte ends a good line.
+    /// Reads one byte. Returns a frame exactly if the byte ends a good line.
     pub fn push(&mut self, byte: u8, net: &Net) -> Option<Frame>
         ensures frames { ReadsFrames (ranges_of net.now) self.old self.new (byte ∷ [])
             (option_to_list result) }
-        // The same, said of the whole stream from its first byte on.
+        // The same, for the whole stream from its first byte on.
         ensures any_cutting { ReadsOn (ranges_of net.now) self.old self.new (byte ∷ [])
             (option_to_list result) }
     {
@@ -52,7 +52,7 @@ impl LineReader {
     }
 
     /// Reads a piece of the stream up to the end of the first good line that ends in it, or all of
-    /// it if none does: how many bytes it read, and the frame of that line.
+    /// it if none does. Returns how many bytes it read, and the frame of that line.
     pub fn next_frame(&mut self, piece: &[u8], net: &Net) -> (usize, Option<Frame>)
         ensures used { result.0 ≤ length piece.now }
         // If no good line ends, the piece is read to its end.
@@ -60,7 +60,7 @@ impl LineReader {
         // The frames are those of the good lines that end in the bytes read: one, or none.
         ensures frames { ReadsFrames (ranges_of net.now) self.old self.new (take result.0 piece.now)
             (option_to_list result.1) }
-        // The same, said of the whole stream from its first byte on.
+        // The same, for the whole stream from its first byte on.
         ensures any_cutting { ReadsOn (ranges_of net.now) self.old self.new
             (take result.0 piece.now)
             (option_to_list result.1) }
@@ -77,7 +77,7 @@ impl LineReader {
     }
 
     /// Reads a piece of the stream, and puts the frames of the good lines that end in it at the end
-    /// of `out`. If the room for as many as can end in it is refused, nothing is read.
+    /// of `out`. If the memory for as many frames as can end in it is refused, nothing is read.
     pub fn feed<A: Allocator>(
         &mut self,
         piece: &[u8],
@@ -91,7 +91,7 @@ impl LineReader {
             × (out.new.items ≡ out.old.items ++ frames)
             × ReadsOn (ranges_of net.now) self.old self.new piece.now frames) }
         ensures refused { OnErr result ((self.new ≡ self.old) × (out.new.items ≡ out.old.items)) }
-        // each frame takes 22 bytes, of which the first may have some already
+        // Each frame takes 22 bytes; of the first one, the reader may keep some already.
         ensures refused_only { OnErr result
             (vec_capacity out.old
             < vec_len out.old + (length self.old.first + length piece.now) / 22) }
@@ -122,7 +122,7 @@ fn find_frame(half: &mut HalfLine<21>, piece: &[u8], lines: &FrameLines) -> (usi
     (at, None)
 }
 
-/// Reads a piece of the stream, and puts its frames into room that is there.
+/// Reads a piece of the stream, and puts its frames into room that is reserved.
 fn read_frames<A: Allocator>(
     half: &mut HalfLine<21>,
     piece: &[u8],
@@ -145,7 +145,7 @@ fn read_frames<A: Allocator>(
 }
 
 /// What a line of a stream is, by the ranges of a frame's fields: a frame or none. No line of more
-/// than 21 bytes is one.
+/// than 21 bytes is a frame.
 #[derive(Drop)]
 struct FrameLines(Ranges);
 
@@ -163,7 +163,7 @@ impl LineReading<21> for FrameLines {
     }
 }
 
-/// Puts a frame, if there is one, into room that is there.
+/// Puts a frame, if there is one, into room that is reserved.
 fn put<A: Allocator>(frame: Option<Frame>, out: &mut Vec<Frame, A>)
     requires { vec_len out.old + option_len frame ≤ vec_capacity out.old }
     ensures items { out.new.items ≡ out.old.items ++ option_to_list frame }

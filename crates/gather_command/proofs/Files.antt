@@ -77,7 +77,7 @@ fresh rest s t held last r after now p q z x =
     (subst (λ (h : List ℕ). ReadsNext 0 r (to_come (rest s) h) after now) q
     (subst (λ (n : ℕ). ReadsNext n r (to_come (rest s) held) after now) z x))
 
--- it stops so
+-- it stops in this way
 pub first-stops : {S : Type 0} (rest : S → Option (List ℕ)) (failures : S → ℕ) (s t left : S) (held page : List ℕ) (last now : ℕ)
     (why named : Stop) → (s ≡ t) × (held ≡ []) × (last ≡ 0) → why ≡ named
     → ReadsNext last (Err why) (to_come (rest s) held) (to_come (rest left) page) now

@@ -1,4 +1,4 @@
--- A record of two files, of which each may be none.
+-- A record of two files, each of which may be missing.
 use Rattle.std.proofs.Common.{◌≡◌, ◌≢◌, ◌∙◌, ap, sym, refl, subst, ℕ, List, [], ◌∷◌, ◌++◌, Ok, Option, Some, None, Bool, true, false, inr}
 use Rattle.std.proofs.lemmas.List.{append-nil}
 use Rattle.std.specs.Prelude.{if◌then◌else◌, nat_lt}
@@ -18,7 +18,7 @@ use Rattle.gather_command.specs.Records.{listed, flaw_of, IsFileOf, IsRecordOf, 
 some-first : {X : Type 0} (x : X) (xs : List X) → x ∷ xs ≢ []
 some-first x xs e = cc e
 
--- what two files gave, that of the second in front if it is earlier
+-- what two files gave, with that of the second in front if it is earlier
 abbrev in-order : {X : Type 0} → Bool → List X → List X → List X
 in-order earlier xs ys = if earlier then ys ++ xs else xs ++ ys
 

@@ -150,7 +150,7 @@ gathered-of C takes failures takes_both net instant nodes start final before aft
       };
     }
 
--- the sink failed no less often
+-- the sink has failed at least as often as before
 pub from-counted : {K : Type 0} (C : Type 0) (takes : K → List Event → K → Type 0) (failures : K → ℕ) (net : Network) (instant : ℕ)
     (start final : WeavingView) (before after : K) (summary : RecordingSummary) (differences : List Difference) (flaws : List Flaw)
     → IsWovenFrom C takes failures net instant start before summary differences flaws final after
@@ -203,7 +203,7 @@ gathered-from C R takes net BeginsAt instant nodes before after summary differen
       part = x.part;
     }
 
--- where a stretch of records begins that come next with these entries
+-- where a stretch begins, of records whose next entries are these
 abbrev pub BeginsAs : TimeStretch → (ℕ → Side → List Entry → Option FlawKind → Type 0) → Network → List (Option Entry) → ℕ → Type 0
 BeginsAs stretch.Whole R net heads instant = ⊥
 BeginsAs (stretch.From seconds) R net heads instant = instant ≡ after_first (least_of heads) seconds

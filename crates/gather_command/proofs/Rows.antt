@@ -1,4 +1,4 @@
--- What is read, and what is watched, by rows that are small enough to see through.
+-- What is read, and what is watched, by rows that are small enough to check by hand.
 use Rattle.std.proofs.Common.{◌≡◌, ◌∙◌, ap, sym, ℕ, List, [], ◌∷◌, Option, Some, None, false, true, refl, arith, codes}
 use Rattle.std.specs.Prelude.{fold, Ok, Err}
 use Rattle.record_gathering.specs.configuration.run_model.World.{World}
@@ -93,7 +93,7 @@ delay = refl
 delay-not : (delays_after under_way 50 (Lose 0 1 0 ∷ Take 0 1 ∷ [])).longest ≡ 40 → ⊥
 delay-not e = cc e
 
--- once their edge went, nothing is under way
+-- once their edge is gone, nothing is under way
 parted : (delays_after under_way 50 (Damage (Part 1 0) ∷ Take 0 1 ∷ [])).longest ≡ 0
 parted = refl
 
@@ -153,7 +153,7 @@ by-none_kept = refl
 by_not-none : (net : Network) → network_by {E = ℕ} (λ why. said.Memory) true (Ok net) ≡ Ok None → ⊥
 by_not-none net e = absurd cc
 
--- a fault of the output is none of the gathering, and so the command passes it on
+-- a fault of the output is no fault of the gathering, and so the command passes it on
 prints-torn : IsPrintFault (print.Gathering fault.Memory)
 prints-torn = tt
 

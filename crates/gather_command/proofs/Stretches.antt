@@ -28,7 +28,7 @@ earliest-step rs i r old new same l one before =
 
 -- ---- one record
 
--- a record was read on by these entries, of which, and of an instant, this is the latest
+-- a record was read on by these entries; of their instants and a given one, this is the latest
 pub record IsReadSoFar (C : Type 0) (old : NodeRecordView) (greatest : ℕ) (es : List Entry) (now : NodeRecordView) (latest : ℕ)
     : Type 0 where
   pub comes : (more : List Entry) (flaws : List Flaw) → IsToCome C now more flaws → IsToCome C old (es ++ more) flaws
@@ -75,7 +75,7 @@ module _ (R : ℕ → Side → List Entry → Option FlawKind → Type 0) (mark 
       subst (λ (l : List Flaw). AreRecordsOf R mark v (first ∷ (ess ++ es ∷ [])) l) (sym (append_assoc flaws more own))
       (OneMore flaws (more ++ own) x (records-more (suc v) n ess more own es there xs one))
 
-  -- the records of the first nodes, so many, gave entries, of which this is the latest instant
+  -- the records of the first n nodes gave entries, of which this is the latest instant
   pub record AreReadThrough (n latest : ℕ) : Type 0 where
     pub entries : List (List Entry)
     pub flaws : List Flaw

@@ -1,4 +1,4 @@
--- A list of events that begins in the midst.
+-- A list of events that begins in the middle of the records.
 use Rattle.std.proofs.Common.{◌≡◌, ◌∙◌, ap, sym, refl, subst, arith, ℕ, ◌<◌, ◌==◌, List, [], ◌∷◌, ◌++◌, Bool, true, false, drop, replicate}
 use Rattle.std.specs.Prelude.{if◌then◌else◌, slice_index_or}
 use Rattle.topology.specs.Network.{Network, IsAcceptedNetwork}

@@ -19,7 +19,7 @@ use Rattle.gather_command.specs.Weave.{Moment, moment_at, events_at, world_after
 use Rattle.gather_command.specs.Watch.{Seen, seen_after}
 use Rattle.gather_command.specs.Woven.{world_in, IsTurn, IsNoted, HasPassed, LeadsOn, HasWoven, IsOneWoven}
 
--- events change no number of nodes
+-- events do not change the number of nodes
 pub nodes-stay : FrameStays → (w after : World) (es : List Event) → after ≡ run w es → after.net.nodes ≡ w.net.nodes
 nodes-stay stays w after es e = ap (λ (x : World). x.net.nodes) e ∙ (stays w es).nodes
 
@@ -93,7 +93,7 @@ head-at (x ∷ rs) (suc v) r e g h = head-at rs v r e g h
 
 -- ---- one entry leads on
 
--- nothing is woven, and what follows is named otherwise
+-- nothing is woven, and what follows is named differently
 stays-at : (w x : World) (q r : List (List ℕ)) (es fs : List (List Entry)) → x ≡ w → r ≡ q → es ≡ fs
     → IsLed w q fs [] x r es
 stays-at w x q r es fs p s t =

@@ -1,4 +1,4 @@
--- Where nodes stand otherwise than what their records led to: which node, when, and which field.
+-- How nodes differ from what their records led to: which node, when, and which field.
 use Rattle.std.specs.Prelude.{ℕ, nat_lt, if◌then◌else◌, List, [], ◌∷◌, ◌++◌, Option, Some, None, length, fold}
 use Rattle.record_gathering.specs.Counts.{one_more}
 use Rattle.record_gathering.specs.declared.fields.Field.{Field}
@@ -12,7 +12,7 @@ pub record DamageView : Type 0 where
 abbrev pub no_damage : DamageView
 no_damage = record { shown = []; count = 0 }
 
--- one more; the first 64 are kept
+-- one difference more; the first 64 are kept
 abbrev pub with_difference : DamageView → Difference → DamageView
 with_difference d x = record {
   shown = if nat_lt (length d.shown) 64 then d.shown ++ x ∷ [] else d.shown;
@@ -24,6 +24,6 @@ abbrev pub with_field : ℕ → ℕ → DamageView → Option Field → DamageVi
 with_field v instant d None = d
 with_field v instant d (Some f) = with_difference d (record { node = v; instant = instant; field = f })
 
--- and these do
+-- these fields of v differ too, at an instant
 abbrev pub with_fields : DamageView → ℕ → ℕ → List (Option Field) → DamageView
 with_fields d v instant fs = fold (with_field v instant) d fs

@@ -12,7 +12,7 @@ abbrev pub since : Option ℕ → ℕ → ℕ
 since None instant = 0
 since (Some before) instant = instant - before
 
--- when each item under way on a link was accepted, the oldest first, by the links; and the longest time
+-- when each item under way on a link was accepted, the oldest first, for each link; and the longest time
 -- that one was under way until it was taken
 pub record DelaysView : Type 0 where
   pub links : List (List ℕ)
@@ -36,7 +36,8 @@ with_link d u v instants = record d { links = slice_set d.links (link_place u v)
 abbrev pub without : List ℕ → ℕ → List ℕ
 without instants i = if nat_lt i (length instants) then take i instants ++ drop (i + 1) instants else instants
 
--- the link accepted a frame at an instant; its oldest one was taken at an instant; one of its items is lost
+-- the link accepted a frame at an instant; its oldest item was taken at an instant; one of its items is
+-- lost
 abbrev pub with_sent : DelaysView → ℕ → ℕ → ℕ → DelaysView
 with_sent d u v instant = with_link d u v (accepted_on d u v ++ instant ∷ [])
 

@@ -30,7 +30,7 @@ abbrev pub print_fault : GatherFault → Option Error → PrintFault
 print_fault fault.Output first = print.Output (kept_fault said.Output first)
 print_fault why first = print.Gathering why
 
--- a fault of the output is said as one
+-- a fault of the output is reported as one
 abbrev pub IsPrintFault : PrintFault → Type 0
 IsPrintFault (print.Gathering fault.Output) = ⊥
 IsPrintFault (print.Gathering why) = Unit {0}

@@ -64,7 +64,7 @@ pub record IsGatheredWhole {K : Type 0} (Fails : Type 0) (takes : K → List Eve
   pub differences_are : differences ≡ (seen_of net.nodes moments).damage.shown
 
 -- why nothing was gathered: the sink failed, or memory ran out, or there are too many entries; or a record
--- is refused, and then the sink is as it was
+-- is missing, unreadable or invalid, and then the sink is as it was
 abbrev pub IsRefused : {K : Type 0} → (ℕ → Side → List Entry → Option FlawKind → Type 0) → (ℕ → Side → Entry → Type 0)
     → (K → ℕ) → Network → K → GatherFault → K → Type 0
 IsRefused Reads Begins failures net before fault.Output after = Rose (failures before) (failures after)

@@ -15,8 +15,8 @@ abbrev pub entries_of : ℕ → List Moment → List Entry
 entries_of v [] = []
 entries_of v (m ∷ ms) = if m.node == v then m.entry ∷ entries_of v ms else entries_of v ms
 
--- None of the events is refused in the world in which weaving began. After those up to an entry, its node
--- lends the lock to whom the entry's moment says. And each entry of each node is woven once, in the order
+-- None of the events is refused in the world in which weaving began. After the events up to an entry, its
+-- node lends the lock as the entry's moment says. And each entry of each node is woven once, in the order
 -- of its record.
 pub record WeavingIsFaithful : Type 0 where
   pub none_refused : (w : World) (queues : List (List ℕ)) (records : List (List Entry)) (ms : List Moment)
@@ -27,10 +27,10 @@ pub record WeavingIsFaithful : Type 0 where
   pub complete : (w : World) (queues : List (List ℕ)) (records : List (List Entry)) (ms : List Moment) (v : ℕ)
       → IsWoven w queues records ms → v < w.net.nodes → entries_of v ms ≡ slice_index_or records v []
 
--- Of a list that begins in the midst: none of its events is refused where the network starts. If the nodes
--- that were joined then are joined once the edges were set, the network is set up as the world stood: each
--- node in its state, each link with its items. And each entry of each node is woven once, in the order of
--- its record, before then or from then on.
+-- Of a list that begins in the middle: none of its events is refused in the network as it starts. If the
+-- nodes that were joined at the list's beginning are joined once the edges are set, the network is set up
+-- as the world stood: each node in its state, each link with its items. And each entry of each node is
+-- woven once, in the order of its record, before the list's beginning or from there on.
 pub record StretchesAreFaithful : Type 0 where
   pub none_refused : (net : Network) (w : World) (queues : List (List ℕ)) (left : List (List Entry)) (back : List Moment)
       → IsWoven (run (world_with_spares net 8) (events_to net w)) queues left back

@@ -1,4 +1,4 @@
--- What is said of records, in lines: which files are refused or damaged, and the numbers of a recording.
+-- What is said of records, in lines: which files are invalid or damaged, and the numbers of a recording.
 use Rattle.std.specs.Prelude.{ℕ, ◌==◌, if◌then◌else◌, List, [], ◌++◌, Option, Some, None, codes, decimal}
 use Rattle.flight_recorder.specs.Names.{record_name}
 use Rattle.record_gathering.specs.declared.found.EventCounts.{EventCounts}
@@ -47,7 +47,7 @@ stretch_line s =
     codes "nodes " ++ (decimal s.nodes ++ (codes ", events " ++ (decimal s.found.events
     ++ (codes ", time " ++ (decimal s.stretch ++ codes " microseconds")))))
 
--- what is wrong by the records, in numbers
+-- what is wrong according to the records, in numbers
 abbrev pub found_line : EventCounts → List ℕ
 found_line f =
     codes "frames lost " ++ (decimal f.lost ++ (codes ", harms " ++ (decimal f.harms
@@ -81,13 +81,13 @@ field_text field.Left = codes "ticks left of the loan"
 field_text field.Served = codes "whether it served"
 field_text (field.Taken u) = codes "a frame that node " ++ (decimal u ++ codes " did not send")
 
--- which field of which node stood otherwise, and when
+-- which field of which node differed, and when
 abbrev pub difference_line : Difference → List ℕ
 difference_line d =
     codes "node " ++ (decimal d.node ++ (codes " differs at microsecond " ++ (decimal d.instant
     ++ (codes ": " ++ field_text d.field))))
 
--- how many did, of which so many are named
+-- how many fields differed, and how many of them are named
 abbrev pub differences_line : ℕ → ℕ → List ℕ
 differences_line count named =
     if count == named then codes "differences " ++ decimal count

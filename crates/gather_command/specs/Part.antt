@@ -95,7 +95,7 @@ pub record IsGatheredFrom {K : Type 0} (Reads : ℕ → Side → List Entry → 
   pub begins : BeginsAt entries instant
   pub part : IsPart takes net instant entries before summary differences after
 
--- where the last seconds of the records begin, which were read to their ends before
+-- where the last seconds of the records begin; the records were read to their ends before
 pub record IsBeforeLast (Reads : ℕ → Side → List Entry → Option FlawKind → Type 0) (net : Network) (seconds instant : ℕ) : Type 0 where
   pub latest : ℕ
   pub is_latest : IsLatest Reads net latest

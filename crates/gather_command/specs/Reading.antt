@@ -22,7 +22,7 @@ abbrev pub MayFail : {S : Type 0} → (S → ℕ) → Type 0
 MayFail {S = S} failures =
     (before : S) × (after : S) × (failures before ≤ failures after) × Rose (failures before) (failures after)
 
--- what is wrong with a file of which no entry is read, for this reason; nothing, at its end
+-- what is wrong with a file that gave no further entry for this reason; none if it is at its end
 abbrev pub flaw_for : Stop → Option FlawKind
 flaw_for stop.End = None
 flaw_for stop.Torn = Some Torn
@@ -33,9 +33,9 @@ flaw_for stop.Failed = Some Unreadable
 abbrev pub in_full : Entry → Noted → Entry
 in_full e long = record { instant = e.instant; noted = long }
 
--- What a file still gives, after an entry of the instant `last` and after these frames: entries, and
--- what is wrong if it was not read to its end. `Fails` says that its source may fail. Of a file that
--- does not say its bytes nothing is said.
+-- What a file still gives, after an entry of the instant `last` and after these frames: entries, and what
+-- is wrong if it was not read to its end. `Fails` says that its source may fail. Nothing is said of a file
+-- that does not say its bytes.
 pub data IsReadOn (Fails : Type 0) : ℕ → FramesView → Option (List ℕ) → List Entry → Option FlawKind → Type 0 where
   Unsaid : {last : ℕ} {frames : FramesView} {es : List Entry} {flaw : Option FlawKind}
       → IsReadOn Fails last frames None es flaw
@@ -55,7 +55,7 @@ pub data IsReadOn (Fails : Type 0) : ℕ → FramesView → Option (List ℕ) �
       → IsReadOn Fails e.instant (frames_after frames long) (Some left) es flaw
       → IsReadOn Fails last frames (Some bytes) (in_full e long ∷ es) flaw
 
--- The same of a file that was opened: one that is not there is read as an empty one, and nothing is read if
+-- The same for a file that was opened: a missing file is read as an empty one, and nothing is read if
 -- memory ran out.
 abbrev pub IsRead : {S : Type 0} → (S → Option (List ℕ)) → Type 0 → Opened S → List Entry → Option FlawKind → Type 0
 IsRead rest Fails (opened.File source) es flaw = IsReadOn Fails 0 no_frames (rest source) es flaw
@@ -63,7 +63,7 @@ IsRead rest Fails opened.Absent es flaw = (es ≡ []) × (flaw ≡ None)
 IsRead rest Fails opened.Unreadable es flaw = (es ≡ []) × (flaw ≡ Some Unreadable)
 IsRead rest Fails opened.NoMemory es flaw = ⊥
 
--- a file of a node's record may be opened, and is read so
+-- a file of a node's record may be opened, and is read like this
 abbrev pub Reads : {S : Type 0} → (ℕ → Side → Opened S → Type 0) → (S → Option (List ℕ)) → Type 0
     → ℕ → Side → List Entry → Option FlawKind → Type 0
 Reads {S = S} opens rest Fails v side es flaw = (o : Opened S) × opens v side o × IsRead rest Fails o es flaw

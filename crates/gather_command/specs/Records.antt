@@ -19,7 +19,7 @@ abbrev pub listed : {X : Type 0} → Option X → List X
 listed None = []
 listed (Some x) = x ∷ []
 
--- the flaw of a file, of which an entry of this instant was read last
+-- the flaw of a file whose last entry that was read is of this instant
 abbrev pub flaw_at : RecordFile → ℕ → Option FlawKind → Option Flaw
 flaw_at file instant None = None
 flaw_at file instant (Some kind) = Some (record { file = file; kind = kind; instant = instant })
@@ -33,15 +33,15 @@ abbrev pub StartsWith : ℕ → ℕ → List Entry → Type 0
 StartsWith mark v [] = Unit {0}
 StartsWith mark v (e ∷ es) = e.noted ≡ start_of mark v
 
--- A file of v's record is read so: it begins with the start of v's state, in the network with this
--- number; and nothing is wrong with it if it has no entries. `Reads` says how files are read.
+-- A file of v's record is read like this: it begins with the start of v's state, in the network with
+-- this number; and nothing is wrong with it if it has no entries. `Reads` says how files are read.
 pub record IsFileOf (Reads : ℕ → Side → List Entry → Option FlawKind → Type 0) (mark v : ℕ) (side : Side)
     (es : List Entry) (flaw : Option FlawKind) : Type 0 where
   pub read : Reads v side es flaw
   pub start : StartsWith mark v es
   pub none : es ≡ [] → flaw ≡ None
 
--- the first entries of one list are earlier than those of another; both have some
+-- the first entry of one list is earlier than that of the other; both lists have entries
 abbrev pub starts_earlier : List Entry → List Entry → Bool
 starts_earlier [] fs = false
 starts_earlier (e ∷ es) [] = false
@@ -74,9 +74,9 @@ pub data AreRecordsOf (Reads : ℕ → Side → List Entry → Option FlawKind �
       → IsRecordOf Reads mark v es flaws → AreRecordsOf Reads mark (suc v) ess more
       → AreRecordsOf Reads mark v (es ∷ ess) (flaws ++ more)
 
--- Why a file of v's record is refused: it cannot be read, or no entry is read of what it has; or its
--- first entry is no start of a state, or the start of another network's or another node's. `Reads` says
--- how files are read, and `Begins` which entry is the first.
+-- Why a file of v's record is invalid: it cannot be read, or it has bytes but no entry can be read from
+-- them; or its first entry is no start of a state, or the start of another network's or another node's.
+-- `Reads` says how files are read, and `Begins` which entry is the first.
 abbrev pub IsFileFault : (ℕ → Side → List Entry → Option FlawKind → Type 0) → (ℕ → Side → Entry → Type 0)
     → ℕ → RecordFile → GatherFault → Type 0
 IsFileFault Reads Begins mark file (fault.Absent v) = ⊥
@@ -95,7 +95,7 @@ IsFileFault Reads Begins mark file fault.Output = ⊥
 IsFileFault Reads Begins mark file fault.Memory = Unit {0}
 IsFileFault Reads Begins mark file fault.TooMany = ⊥
 
--- why v's record is refused: one of its files is, or none of the two has an entry
+-- why v's record is invalid: one of its files is, or neither of the two has an entry
 abbrev pub IsRecordFault : (ℕ → Side → List Entry → Option FlawKind → Type 0) → (ℕ → Side → Entry → Type 0)
     → ℕ → ℕ → GatherFault → Type 0
 IsRecordFault Reads Begins mark v why =
@@ -103,12 +103,12 @@ IsRecordFault Reads Begins mark v why =
     ⊎ IsFileFault Reads Begins mark (record { node = v; side = Second }) why
     ⊎ ((why ≡ fault.Absent v) × Reads v First [] None × Reads v Second [] None)
 
--- why the records of nodes below n are refused: one of them is
+-- why the records of nodes below n are invalid: one of them is
 abbrev pub IsFault : (ℕ → Side → List Entry → Option FlawKind → Type 0) → (ℕ → Side → Entry → Type 0)
     → ℕ → ℕ → GatherFault → Type 0
 IsFault Reads Begins mark n why = (v : ℕ) × (v < n) × IsRecordFault Reads Begins mark v why
 
--- what a record gives from an entry on, of which the later file is not read
+-- what a record gives from an entry on, while its later file is not read
 abbrev pub ComesOf : Type 0 → NodeRecordView → Option FileView → List Entry → Option FlawKind
     → List Entry → List Flaw → Type 0
 ComesOf Fails r None own kind es flaws =
@@ -132,7 +132,7 @@ ComesFrom Fails r (Some e) es flaws =
 abbrev pub IsToCome : Type 0 → NodeRecordView → List Entry → List Flaw → Type 0
 IsToCome Fails r es flaws = ComesFrom Fails r r.head es flaws
 
--- the same of all nodes' records
+-- the same for all nodes' records
 abbrev pub AreToCome : Type 0 → List NodeRecordView → List (List Entry) → List Flaw → Type 0
 AreToCome Fails [] ess flaws = (ess ≡ []) × (flaws ≡ [])
 AreToCome Fails (r ∷ rs) ess flaws =
@@ -140,8 +140,8 @@ AreToCome Fails (r ∷ rs) ess flaws =
     × IsToCome Fails r es own × AreToCome Fails rs rest more
     × (ess ≡ es ∷ rest) × (flaws ≡ own ++ more)
 
--- A file, of which the first entry was read: it is the start of its node's state, and what the file
--- gives from there on, it gives after that entry.
+-- A file whose first entry was read: that is the start of its node's state, and what the file gives
+-- from there on, it gives after that entry.
 pub record IsBegunAs (Fails : Type 0) (Reads : ℕ → Side → List Entry → Option FlawKind → Type 0)
     (mark : ℕ) (file : RecordFile) (f : FileView) : Type 0 where
   pub name : f.file ≡ file
@@ -149,7 +149,7 @@ pub record IsBegunAs (Fails : Type 0) (Reads : ℕ → Side → List Entry → O
   pub read : (es : List Entry) (flaw : Option FlawKind) → IsReadOn Fails f.last no_frames f.bytes es flaw
       → Reads file.node file.side (f.first ∷ es) flaw
 
--- what comes of opening a file: it is begun, or has no entries, or is refused
+-- what comes of opening a file: it is begun, or has no entries, or is invalid
 abbrev pub IsBegun : Type 0 → (ℕ → Side → List Entry → Option FlawKind → Type 0) → (ℕ → Side → Entry → Type 0)
     → ℕ → RecordFile → Result (Option FileView) GatherFault → Type 0
 IsBegun Fails Reads Begins mark file (Ok (Some f)) = IsBegunAs Fails Reads mark file f
@@ -162,7 +162,7 @@ IsChecked mark file e (Ok x) = e.noted ≡ start_of mark file.node
 IsChecked mark file e (Err why) = IsFileFault (λ v side es flaw. ⊥) (λ v side first. first ≡ e) mark file why
 
 -- what comes of opening v's record: what it gives from its next entry on, it gives from its start on;
--- or it is refused
+-- or it is invalid
 abbrev pub IsOpened : Type 0 → (ℕ → Side → List Entry → Option FlawKind → Type 0) → (ℕ → Side → Entry → Type 0)
     → ℕ → ℕ → Result NodeRecordView GatherFault → Type 0
 IsOpened Fails Reads Begins mark v (Ok r) =
@@ -188,8 +188,8 @@ IsReadBy Fails old (Ok e) new =
     → IsReadOn Fails old.present.last old.frames old.present.bytes (e ∷ es) flaw
 IsReadBy Fails old (Err flaw) new = IsReadOn Fails old.present.last old.frames old.present.bytes [] flaw
 
--- a record at the end of its file, of which an entry of this instant was read last: it goes on with the
--- later file, if there is one
+-- a record at the end of its file, whose last entry that was read is of this instant: it goes on with
+-- the later file, if there is one
 abbrev pub after_file_with : Option FileView → Option Flaw → NodeRecordView → NodeRecordView
 after_file_with None flaw r = record r { head = None; flaw = flaw }
 after_file_with (Some later) flaw r =
@@ -210,7 +210,7 @@ of_both first second =
     if nat_lt second.first.instant first.first.instant then at_first second (Some first)
     else at_first first (Some second)
 
--- a node's record of its two files, of which each may be none
+-- a node's record of its two files, either of which may be none
 abbrev pub of_files : ℕ → Option FileView → Option FileView → Result NodeRecordView GatherFault
 of_files v None None = Err (fault.Absent v)
 of_files v None (Some second) = Ok (at_first second None)

@@ -1,4 +1,4 @@
--- A world that begins as the network starts, and is set up as another one stands.
+-- A world that begins as the network starts, and is set up to match another world.
 use Rattle.std.specs.Prelude.{◌≡◌, ℕ, ◌≤◌, List, [], replicate}
 use Rattle.topology.specs.Network.{Network}
 use Rattle.node_recorder.specs.Turns.{network_mark}
@@ -36,11 +36,11 @@ pub record HasSet {K : Type 0} (takes : K → List Event → K → Type 0) (fail
   pub taken : takes before (events_in old fs) after
   pub counted : failures before ≤ failures after
 
--- the events that set a network, as it starts, as a world stands
+-- the events that set up a network, as it starts, to match a world
 abbrev pub events_to : Network → World → List Event
 events_to net w = set_up (network_mark net) net 8 w
 
--- the network was set up as a world stands
+-- the network was set up to match a world
 pub record IsSetUp {K : Type 0} (takes : K → List Event → K → Type 0) (failures : K → ℕ) (net : Network) (w : World)
     (before : K) (s : SceneView) (after : K) : Type 0 where
   pub world : gathered s.gathering ≡ run (world_with_spares net 8) (events_to net w)

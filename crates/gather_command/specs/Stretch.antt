@@ -9,31 +9,30 @@ use Rattle.gather_command.specs.declared.fault.FlawKind.{FlawKind}
 use Rattle.gather_command.specs.View.{NodeRecordView}
 use Rattle.gather_command.specs.Records.{AreRecordsOf, IsToCome}
 
--- so many seconds after an instant, and before one, in microseconds
+-- this many seconds after an instant, and before one, in microseconds
 abbrev pub after_first : ℕ → ℕ → ℕ
 after_first first seconds = min (first + seconds * 1000000) (2 ^ 64 - 1)
 
 abbrev pub before_last : ℕ → ℕ → ℕ
 before_last last seconds = last - seconds * 1000000
 
--- the earlier one of an instant and an entry's, if there is an entry
+-- the earlier of an instant and that of an entry; the given instant if there is no entry
 abbrev pub earlier_of : ℕ → Option Entry → ℕ
 earlier_of least None = least
 earlier_of least (Some e) = min least e.instant
 
--- the earliest of these entries, of which each may be none
+-- the earliest of these entries, any of which may be none
 abbrev pub least_of : List (Option Entry) → ℕ
 least_of heads = fold earlier_of (2 ^ 64 - 1) heads
 
--- the latest one of an instant and the entries of a record, and of all records
+-- the latest of an instant and those of a record's entries; the latest instant of all records
 abbrev pub later_of : ℕ → List Entry → ℕ
 later_of greatest es = fold (λ t e. max t e.instant) greatest es
 
 abbrev pub greatest_in : List (List Entry) → ℕ
 greatest_in entries = fold later_of 0 entries
 
--- a record, read to its end, gave entries of which none is later than this instant, the latest of them
--- and of another one
+-- a record, read to its end, gave entries; `latest` is the latest of their instants and a given one
 abbrev pub IsReadThrough : Type 0 → NodeRecordView → ℕ → ℕ → Type 0
 IsReadThrough Fails old greatest latest =
     (es : List Entry) × (flaws : List Flaw) × IsToCome Fails old es flaws × (latest ≡ later_of greatest es)

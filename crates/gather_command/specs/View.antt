@@ -5,8 +5,8 @@ use Rattle.record_pages.specs.flight_records.Frames.{FramesView}
 use Rattle.gather_command.specs.declared.fault.RecordFile.{RecordFile}
 use Rattle.gather_command.specs.declared.fault.Flaw.{Flaw}
 
--- a file of which the first entry is read: which one it is, the bytes that it has still to give, if it
--- says so, the instant of the entry that was read last, and its first entry
+-- a file whose first entry is read: which one it is, the bytes that it still has to give, if it says
+-- them, the instant of the entry that was read last, and its first entry
 pub record FileView : Type 0 where
   pub file : RecordFile
   pub bytes : Option (List ℕ)

@@ -31,7 +31,7 @@ pub record WatchView : Type 0 where
 abbrev pub unknown : WatchedNode
 unknown = record { is_known = false; ticked = None; loan = None }
 
--- nothing is known of so many nodes
+-- nothing is known of this many nodes
 abbrev pub unwatched : ℕ → WatchView
 unwatched n = record { nodes = replicate n unknown; longest_turn = 0; loans = 0; longest_loan = None }
 
@@ -50,7 +50,7 @@ with_tick w v instant =
       longest_turn = max w.longest_turn (since (watched_of w v).ticked instant);
     }
 
--- whom a loan is to, and since when it is
+-- the ticket that a loan is to, and since when
 abbrev pub loan_to : Option ℕ → ℕ → Option Loan
 loan_to None instant = None
 loan_to (Some ticket) instant = Some (record { ticket = ticket; since = instant })
@@ -61,19 +61,19 @@ ended_loan v None instant = None
 ended_loan v (Some loan) instant =
     Some (record { node = v; ticket = loan.ticket; time = instant - loan.since })
 
--- the longer of two loans, of which each may be none; the first if they are equally long
+-- the longer of two loans, either of which may be none; the first if they are equally long
 abbrev pub longer : Option Lasted → Option Lasted → Option Lasted
 longer None more = more
 longer (Some first) None = Some first
 longer (Some first) (Some more) = if nat_lt first.time more.time then Some more else Some first
 
--- one more loan, if the lock is lent
+-- the number of loans, with one more if the lock is lent
 abbrev pub with_loan : Option ℕ → ℕ → ℕ
 with_loan None loans = loans
 with_loan (Some ticket) loans = one_more loans
 
--- at an instant a node lends to this ticket, or to nobody: if it lent otherwise before, that loan has
--- ended, and another one begins
+-- at an instant a node lends to this ticket, or to nobody: if that differs from before, the loan before has
+-- ended, and a new one begins, if there are such
 abbrev pub with_lent : WatchView → ℕ → Option ℕ → ℕ → WatchView
 with_lent w v lent instant =
     if same_node (option_map (λ l. l.ticket) (watched_of w v).loan) lent then w
@@ -114,13 +114,13 @@ watched_after w v e lent = with_lent (with_turn (with_end w v e) v e) v lent e.i
 abbrev pub with_moment : WatchView → Moment → WatchView
 with_moment w m = watched_after w m.node m.entry m.lent
 
--- the stretch from the least to the greatest instant, with one more
+-- the span of these instants and one instant more
 abbrev pub with_instant : Option Span → ℕ → Option Span
 with_instant None instant = Some (record { least = instant; greatest = instant })
 with_instant (Some span) instant =
     Some (record { least = min span.least instant; greatest = max span.greatest instant })
 
--- how long it is
+-- how long a span is; 0 if there is none
 abbrev pub length_of : Option Span → ℕ
 length_of None = 0
 length_of (Some span) = span.greatest - span.least
@@ -150,9 +150,10 @@ seen_after s m = record {
   span = with_instant s.span m.entry.instant;
 }
 
--- If a list of events begins in the midst, so many events set up the world in front of it: of what was
--- seen before, only which nodes' whole states were noted is kept. A loan of then counts from its node's next
--- entry on. The frames that the events put under way are none that nobody sent, and were sent when they were.
+-- If a list of events begins in the middle, these events set up the world first. Of what was seen before,
+-- only this is kept: which nodes' whole states were noted, and when the frames under way were sent. A loan
+-- that had begun counts from its node's next entry on. The frames that the events put under way do not count
+-- as frames that nobody sent.
 abbrev pub one_again : WatchedNode → WatchedNode
 one_again n = record { is_known = n.is_known; ticked = None; loan = None }
 
@@ -168,7 +169,7 @@ seen_again s found = record {
   span = None;
 }
 
--- what a recording of so many nodes shows, in numbers
+-- what a recording of this many nodes shows, in numbers
 abbrev pub numbers_of : ℕ → Seen → RecordingSummary
 numbers_of n s = record {
   nodes = n;
@@ -181,7 +182,7 @@ numbers_of n s = record {
   longest_loan = s.watch.longest_loan;
 }
 
--- what is seen of so many nodes once these were woven
+-- what is seen of this many nodes once these entries were woven
 abbrev pub seen_of : ℕ → List Moment → Seen
 seen_of n ms = fold seen_after (nothing_seen n) ms
 

@@ -16,11 +16,11 @@ abbrev pub next_of : List Entry → Option Entry
 next_of [] = None
 next_of (e ∷ es) = Some e
 
--- of each node's record, by the nodes, the next entry
+-- the next entry of each node's record, by the nodes
 abbrev pub heads_of : List (List Entry) → List (Option Entry)
 heads_of records = map next_of records
 
--- the entries that are still to come once v's next one has
+-- the entries that are still to come once v's next one has come
 abbrev pub without_next : List (List Entry) → ℕ → List (List Entry)
 without_next records v = slice_set records v (drop 1 (slice_index_or records v []))
 
@@ -32,8 +32,8 @@ events_at w queues v e = accepted w (entry_events w (queue_of queues v) v e.note
 abbrev pub world_after : World → List (List ℕ) → ℕ → Entry → World
 world_after w queues v e = run w (events_at w queues v e)
 
--- An entry that was woven: of whose record it is, the events that it became, whom its node lends the lock
--- to after them, and which fields of the node stood otherwise before them.
+-- An entry that was woven: the node whose record it is from, the events that it became, the ticket that
+-- the node lends the lock to after them, and which fields of the node differed before them.
 pub record Moment : Type 0 where
   pub node : ℕ
   pub entry : Entry
@@ -50,7 +50,7 @@ moment_at w queues v e = record {
   fields = fields_of w (queue_of queues v) v e.noted;
 }
 
--- the events of all of them
+-- the events of all these moments
 abbrev pub events_of : List Moment → List Event
 events_of [] = []
 events_of (m ∷ ms) = m.events ++ events_of ms

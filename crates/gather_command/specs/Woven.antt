@@ -1,4 +1,4 @@
--- One step of a weaving after the other.
+-- A weaving, one step after the other.
 use Rattle.std.specs.Prelude.{◌≡◌, ℕ, ◌<◌, ◌≤◌, ◌⊎◌, Bool, true, false, List, [], ◌∷◌, Option, Some, None, Result, Ok, Err, replicate, length, slice_set, slice_get, fold}
 use Rattle.topology.specs.Network.{Network}
 use Rattle.record_pages.specs.byte_streams.Streams.{Rose}
@@ -52,7 +52,7 @@ HasPassed Fails old v new =
     (before : NodeRecordView) × (after : NodeRecordView) × (slice_get old.records v ≡ Some before) × GoesOn Fails before after
     × (new ≡ record old { records = slice_set old.records v after })
 
--- the same weaving in the world of a gathering that so many events set up
+-- the same weaving in the world of a gathering, which the events counted in `found` set up
 abbrev pub moved_to : WeavingView → GatheringView → EventCounts → WeavingView
 moved_to w g found = record {
   gathering = record w.gathering { configuration = g.configuration };
@@ -60,8 +60,8 @@ moved_to w g found = record {
   seen = seen_again w.seen found;
 }
 
--- What is to come of the records from now on comes after these entries, which lead the weaving on, of what
--- was to come of them before.
+-- What was to come of the records before is these entries, which lead the weaving on, and then what is to
+-- come of the records from now on.
 abbrev pub LeadsOn : Type 0 → WeavingView → List Moment → WeavingView → Type 0
 LeadsOn Fails old ms new =
     (entries : List (List Entry)) (flaws : List Flaw) → AreToCome Fails new.records entries flaws
@@ -90,7 +90,7 @@ IsOnePassed Fails instant old true new =
     (m : Moment) × HasLed Fails old (m ∷ []) new × (m.entry.instant < instant)
 IsOnePassed Fails instant old false new = (new ≡ old) × IsCut instant old
 
--- all entries that come before the first one of this instant or later
+-- all entries were woven that come before the first one of this instant or later
 pub record ArePassed (Fails : Type 0) (instant : ℕ) (old : WeavingView) (ms : List Moment) (new : WeavingView) : Type 0 where
   pub led : HasLed Fails old ms new
   pub earlier : AreEarlier instant ms
@@ -105,7 +105,7 @@ pub record HasWoven {K : Type 0} (Fails : Type 0) (takes : K → List Event → 
   pub seen : new.seen ≡ fold seen_after old.seen ms
   pub counted : failures before ≤ failures after
 
--- why weaving ends in its midst: the sink failed, or memory ran out, or there are too many entries
+-- why weaving ends before all is woven: the sink failed, or memory ran out, or there are too many entries
 abbrev pub IsBroken : GatherFault → ℕ → ℕ → Type 0
 IsBroken fault.Output failures more = Rose failures more
 IsBroken fault.Memory failures more = Unit {0}
@@ -126,7 +126,7 @@ IsOneWoven Fails takes failures old before (Ok false) new after =
 IsOneWoven Fails takes failures old before (Err why) new after =
     IsBroken why (failures before) (failures after)
 
--- all entries were
+-- all entries were woven
 abbrev pub AreAllWoven : {K : Type 0} → Type 0 → (K → List Event → K → Type 0) → (K → ℕ)
     → WeavingView → K → Result (Unit {0}) GatherFault → WeavingView → K → Type 0
 AreAllWoven Fails takes failures old before (Ok x) new after =

@@ -1,4 +1,4 @@
-//! A file of a record, of which the first entry is read.
+//! A file of a record whose first entry has been read.
 ghost use Rattle.std.specs.Prelude.{◌≡◌, Err};
 ghost use Rattle.record_pages.specs.Pages.{ReadsNext};
 ghost use Rattle.record_pages.specs.declared.stop.Stop.TheVariants.{Failed};
@@ -13,7 +13,7 @@ use record_pages::{Entry, Noted, PageReader, Source, StatePart, Stop};
 use std::alloc::Global;
 use std::marker::Model;
 
-/// A file of a record, of which the first entry is read.
+/// A file of a record whose first entry has been read.
 #[derive(Drop)]
 pub struct BegunFile<S: Source + Drop> {
     file: RecordFile,
@@ -60,7 +60,8 @@ impl<S: Source + Drop> BegunFile<S> {
     }
 }
 
-/// Whether an entry is the start of a state of this node, of the network with this number.
+/// Checks that an entry is the start of a state of this file's node, in the network with this
+/// number.
 fn check_start(entry: &Entry, file: RecordFile, mark: u32) -> Result<(), GatherFault>
     ensures { IsChecked mark file entry.now result }
 {

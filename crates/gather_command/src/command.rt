@@ -32,20 +32,22 @@ use std::process::ExitCode;
 use std::rt::Files;
 use topology::Net;
 
-/// Prints what the nodes of a file's network did in a stretch of time, as their records in a folder
-/// say, as a list of events: a line each. If no file is given, it is the one that they kept there. If the
-/// stretch does not begin with the records, the list begins with harms that set up the network as it stood
-/// then. Afterwards a line on standard error names each file that was not read to its end, one each of the
-/// first fields that stood otherwise than what their nodes' records led to, and four lines say in numbers
-/// what the list shows. The status is 1 if a file was not read to its end, if a record gives no events, or
-/// if no network was kept; then a line on standard error says which and why.
+/// Prints what the nodes of a file's network did in a stretch of time, according to their records in a
+/// folder, as a list of events, one a line. If no file is given, the network is the one that the nodes
+/// kept there. If the stretch does not begin with the records, the list begins with harms that set up the
+/// network as it stood then. Afterwards a line on standard error names each file that was not read to its
+/// end, another line names each of the first fields that differed from what their nodes' records led to,
+/// and four lines say in numbers what the list shows. The status is 1 if a file was not read to its end,
+/// if a record gives no events, if there is no such folder, or if no network was kept there; then a line
+/// on standard error says which and why.
 ///
-/// What is unproved: that the entries that are woven are those of the folder's files, and that the
-/// text reaches standard output; neither says what its bytes are. [`gather_text`] says all the rest.
+/// Two things are unproved: that the entries that are woven are those of the folder's files, and that the
+/// text reaches standard output. Neither the files nor the output say what their bytes are.
+/// [`gather_text`] says all the rest.
 ///
 /// # Errors
-/// If the file that is given gives no network, memory runs out, or standard output fails. Then a
-/// beginning of the list may be printed.
+/// If the file that is given gives no network, memory runs out, or standard output fails. Then the
+/// beginning of the list may have been printed.
 pub fn run<R: Files + Print + Eprint + AllocGlobal>(
     rt: &R,
     dir: &str,
@@ -67,8 +69,8 @@ pub fn run<R: Files + Print + Eprint + AllocGlobal>(
 /// The network of the file that is given, or else of the one that the nodes of the folder kept. If they
 /// kept none, a line says so and what to do, and none is returned.
 ///
-/// It is not proved which network the file gives, since a file shows its text to no contract. What follows
-/// from that [`network_by`] says.
+/// It is not proved which network the file gives, since a file shows its text to no contract.
+/// [`network_by`] says what follows from what it gives.
 ///
 /// # Errors
 /// If the file that is given gives no network, or memory runs out.
@@ -79,7 +81,7 @@ fn network_of<R: Files + Eprint + AllocGlobal>(
 ) -> Result<Option<Net>, Fault>
     ensures given { IfOk result (λ net. net ≡ None → network.entry ≡ None) }
     ensures kept { network.entry ≡ None → IfErr result (λ fault. fault ≡ Memory) }
-    // But for memory, the answer is by what the file gave.
+    // Unless memory runs out, the answer follows from what the file gave.
     ensures by { (result ≡ Err Memory) ⊎ IsNetworkBy Network (is_some network.entry) result }
 {
     let Ok(path) = network_path(rt.alloc(), dir, network) else {
@@ -141,7 +143,7 @@ fn is_folder<F: Files>(files: &F, dir: &str) -> bool {
 enum PrintFault {
     /// The records become no events, or memory ran out, or there are too many entries.
     Gathering(GatherFault),
-    /// Standard output did not take them.
+    /// Standard output did not take the events.
     Output(Fault),
 }
 
@@ -214,8 +216,8 @@ pub fn gather_text<R: Records, W: Write + Drop>(
     }
 }
 
-/// Says which files were not read to their ends, which fields of nodes stood otherwise than what their
-/// records led to, and what the records show, in numbers.
+/// Says which files were not read to their ends, which fields of nodes differed from what their records
+/// led to, and what the records show, in numbers.
 fn say_gathered<R: Eprint>(rt: &R, dir: &str, gathered: &Gathered) {
     for flaw in &gathered.flaws {
         say_flaw(rt, dir, *flaw);
@@ -227,7 +229,7 @@ fn say_gathered<R: Eprint>(rt: &R, dir: &str, gathered: &Gathered) {
     say_summary(rt, gathered.summary, named);
 }
 
-/// Says what the records show, in numbers; so many differences are named.
+/// Says what the records show, in numbers. `named` is how many differences were named before.
 fn say_summary<R: Eprint>(rt: &R, summary: RecordingSummary, named: usize) {
     let (stretch, found, loans) = (
         StretchLine(summary),
@@ -244,7 +246,7 @@ fn say_summary<R: Eprint>(rt: &R, summary: RecordingSummary, named: usize) {
     let _ = eprintln!(rt; "tokentree: {loans}");
 }
 
-/// Says which field of a node stood otherwise.
+/// Says which field of a node differed.
 fn say_difference<R: Eprint>(rt: &R, difference: Difference) {
     let line = DifferenceLine(difference);
     let _ = eprintln!(rt; "tokentree: {line}");
@@ -256,8 +258,7 @@ fn say_flaw<R: Eprint>(rt: &R, dir: &str, flaw: Flaw) {
     let _ = eprintln!(rt; "tokentree: {line}");
 }
 
-/// How the command ends after this printing. What the records show is said here, or why they become no
-/// events.
+/// How the command ends after this printing. Says what the records show, or why they become no events.
 fn printing_ended<R: Eprint>(
     rt: &R,
     dir: &str,
@@ -286,7 +287,7 @@ fn flaws_status(flaws: &[Flaw]) -> ExitCode
     }
 }
 
-/// How the command ends if nothing is gathered. A record's fault is said here.
+/// How the command ends if nothing is gathered. Says what is wrong with the records, if that is why.
 fn ended<R: Eprint>(rt: &R, dir: &str, fault: GatherFault) -> Result<ExitCode, Fault>
     ensures { EndsWith fault result }
 {

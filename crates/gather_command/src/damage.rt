@@ -1,4 +1,4 @@
-//! Where nodes stand otherwise than what their records led to.
+//! How nodes differ from what their records led to.
 ghost use Rattle.std.specs.Prelude.{◌≡◌, IfOk};
 ghost use Rattle.gather_command.specs.Damage.{no_damage, with_difference, with_field, with_fields};
 
@@ -6,7 +6,7 @@ use record_gathering::Field;
 use std::alloc::{AllocError, Global};
 use std::marker::Model;
 
-/// A field of a node that stands otherwise than what its record led to.
+/// A field of a node that differs from what its record led to.
 #[derive(Clone, Copy)]
 pub struct Difference {
     /// The node.
@@ -17,13 +17,13 @@ pub struct Difference {
     pub field: Field,
 }
 
-/// As many differences are kept, so that long records take no more memory.
+/// The most differences that are kept, so that long records take no more memory.
 const MOST_SHOWN: usize = 64;
 
 /// The first differences that were found, and how many there are.
 #[derive(Drop)]
 pub struct Damage {
-    /// The first of them, 64 at most.
+    /// The first differences, 64 at most.
     shown: Vec<Difference>,
     count: u64,
 }
@@ -41,7 +41,7 @@ impl Model for Damage {
 }
 
 impl Damage {
-    /// None is found. All memory is reserved here.
+    /// No difference is found yet. All memory is reserved here.
     pub fn new(alloc: Global) -> Result<Damage, AllocError>
         ensures { IfOk result (λ damage. damage ≡ no_damage) }
     {
@@ -73,7 +73,7 @@ impl Damage {
         }
     }
 
-    /// One more difference. Only the first 64 are kept.
+    /// Adds a difference. Only the first 64 are kept.
     fn add_one(&mut self, difference: Difference)
         ensures { self.new ≡ with_difference self.old difference }
     {
@@ -83,7 +83,7 @@ impl Damage {
         }
     }
 
-    /// None is found any more.
+    /// Forgets all differences.
     pub fn begins_again(&mut self)
         ensures { self.new ≡ no_damage }
     {
@@ -91,14 +91,14 @@ impl Damage {
         self.count = 0;
     }
 
-    /// How many there are.
+    /// How many differences there are.
     pub fn count(&self) -> u64
         ensures { result ≡ self.now.count }
     {
         self.count
     }
 
-    /// The first of them, 64 at most.
+    /// The first differences, 64 at most.
     pub fn shown(&self, alloc: Global) -> Result<Vec<Difference>, AllocError>
         ensures { IfOk result (λ shown. shown.items ≡ self.now.shown) }
     {

@@ -44,7 +44,7 @@ impl Accepted {
         Ok(())
     }
 
-    /// An item is gone, if there is one.
+    /// Removes this item, if there is one.
     fn remove(&mut self, item: usize)
         ensures { self.new ≡ without self.old item }
     {
@@ -53,7 +53,7 @@ impl Accepted {
         }
     }
 
-    /// The instant at which the oldest one was accepted.
+    /// The instant at which the oldest item was accepted; none if nothing is under way.
     fn oldest(&self) -> Option<u64>
         ensures { result ≡ slice_get self.now 0 }
     {
@@ -91,7 +91,7 @@ fn link_place(from: u16, to: u16) -> usize
 }
 
 impl Delays {
-    /// Nothing is under way. `AllocError` comes only if memory is refused.
+    /// The delays when nothing is under way. `AllocError` comes only if memory is refused.
     pub fn new(alloc: Global) -> Result<Delays, AllocError>
         ensures { IfOk result (λ d. d ≡ no_delays) }
     {
@@ -197,7 +197,7 @@ impl Delays {
         }
     }
 
-    /// The longest time is forgotten, but not what is under way.
+    /// Forgets the longest time, but not what is under way.
     pub fn begins_again(&mut self)
         ensures { self.new ≡ record self.old { longest = 0 } }
     {

@@ -10,8 +10,8 @@ pub struct RecordFile {
     pub side: Side,
 }
 
-/// Why records give no list of events. Nothing is written then; but in `Output`, `Memory` and `TooMany` a
-/// beginning may be.
+/// Why records give no list of events. Nothing has been written then, except that with `Output`, `Memory`
+/// and `TooMany` the beginning of the list may have been.
 #[derive(Clone, Copy, Drop)]
 pub enum GatherFault {
     /// A node has no record, or an empty one.
@@ -22,13 +22,13 @@ pub enum GatherFault {
     NoRecord(RecordFile),
     /// A file is the record of a node of another network.
     OtherNetwork(RecordFile),
-    /// A file is the record of another node, of this id.
+    /// A file is the record of another node, which has this id.
     OtherNode(RecordFile, u16),
     /// What takes the events failed.
     Output,
     /// Memory ran out.
     Memory,
-    /// There are more entries than a number of 64 bits counts.
+    /// There are more entries than a 64-bit number can count.
     TooMany,
 }
 
@@ -39,7 +39,7 @@ pub struct Flaw {
     pub file: RecordFile,
     /// What is wrong with it.
     pub kind: FlawKind,
-    /// The instant of the last entry that was read of it, in microseconds of its node's clock.
+    /// The instant of the last entry that was read from it, in microseconds of its node's clock.
     pub instant: u64,
 }
 
@@ -50,6 +50,6 @@ pub enum FlawKind {
     Torn,
     /// No entry begins after the last one that was read.
     Spoiled,
-    /// It could not be read on.
+    /// It could not be read any further.
     Unreadable,
 }

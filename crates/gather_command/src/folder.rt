@@ -28,10 +28,10 @@ impl<'a, R> FolderRecords<'a, R> {
 impl<R: Files + AllocGlobal> Records for FolderRecords<'_, R> {
     type File = ReadSource<R::File>;
 
-    // What is unproved: which files are there, and which bytes they have. No file says it.
+    // It is unproved which files are there, and which bytes they have. No file says so.
     ghost opens = { λ _ _ _ _. ⊤ };
 
-    /// Opens a file for reading, and changes nothing. What is no plain file is not opened.
+    /// Opens a file for reading, and changes nothing. Only a plain file is opened.
     fn open(&mut self, node: u16, side: Side) -> Opened<ReadSource<R::File>> {
         let Ok(name) = record_name(self.rt.alloc(), self.dir, node, side) else {
             return Opened::NoMemory;

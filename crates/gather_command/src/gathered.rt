@@ -29,7 +29,7 @@ use topology::Net;
 pub struct Gathered {
     /// What it shows, in numbers.
     pub summary: RecordingSummary,
-    /// The first fields that stood otherwise than what their nodes' records led to, 64 at most.
+    /// The first fields that differed from what their nodes' records led to, 64 at most.
     pub differences: Vec<Difference>,
     /// The files that were not read to their ends.
     pub flaws: Vec<Flaw>,
@@ -69,7 +69,7 @@ pub fn gather_whole<F: Source + Drop, S: EventSink>(
     weave_out(alloc, net, &mut weaving, sink)
 }
 
-/// Weaves all entries that are left. What is seen of them and of those before is gathered.
+/// Weaves all entries that are left, and gathers what is seen of them and of those before.
 pub fn weave_out<F: Source + Drop, S: EventSink>(
     alloc: Global,
     net: &Net,
@@ -86,7 +86,7 @@ pub fn weave_out<F: Source + Drop, S: EventSink>(
     Ok(gathered)
 }
 
-/// What a weaving of all nodes' records shows, in which no entry is left.
+/// What a weaving of all nodes' records shows once no entry is left.
 fn finish<S: Source + Drop>(
     alloc: Global,
     net: &Net,
@@ -125,7 +125,7 @@ pub fn open_all<R: Records>(
     Ok(nodes)
 }
 
-/// One more record.
+/// Adds a record.
 fn add_record<S: Source + Drop>(
     nodes: &mut Vec<NodeRecord<S>>,
     opened: NodeRecord<S>,
@@ -154,7 +154,7 @@ fn weave_all<S: Source + Drop, K: EventSink>(
     Err(GatherFault::TooMany)
 }
 
-/// Weaves the entry that comes next, if there is one. Whether there was.
+/// Weaves the entry that comes next, if there is one. Returns whether there was one.
 fn weave_next<S: Source + Drop, K: EventSink>(
     weaving: &mut Weaving<S>,
     events: &mut Vec<Event>,

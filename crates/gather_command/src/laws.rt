@@ -4,8 +4,9 @@ ghost use Rattle.gather_command.specs.Laws.{WeavingIsFaithful, StretchesAreFaith
 
 use record_gathering::laws as record_gathering_laws;
 
-/// None of the events is refused where weaving began, so a simulation of them replays what was recorded;
-/// and each entry of each node is among them, in its order. Whoever trusts a recording stands on it.
+/// None of the events is refused in the world in which weaving began, so a simulation of them replays
+/// what was recorded. Each entry of each node is woven, in its order. Anyone who trusts a recording
+/// relies on this law.
 pub fn weaving_is_faithful()
     ensures { WeavingIsFaithful }
 {
@@ -13,8 +14,8 @@ pub fn weaving_is_faithful()
     record_gathering_laws::runs();
 }
 
-/// A list that begins in the midst is set up as the world stood then; a simulation refuses none of its
-/// events, and no entry is missing. Whoever replays a stretch of a recording stands on it.
+/// A list that begins in the middle is set up as the world stood then; a simulation refuses none of its
+/// events, and no entry is missing. Anyone who replays a stretch of a recording relies on this law.
 pub fn stretches_are_faithful()
     ensures { StretchesAreFaithful }
 {

@@ -1,9 +1,9 @@
 //! The records of all nodes of a network, woven into one list of events.
 //!
-//! [`gather_stretch`] opens the records of all nodes, reads them a page at a time, and has each entry
-//! become events, in an order in which each frame is taken after it was sent. Whoever plays the events
-//! finds each node in the states that were noted. It is over a door, [`Records`], which is a folder in a
-//! program and memory in a test:
+//! [`gather_stretch`] opens the records of all nodes, reads them a page at a time, and turns each entry into
+//! events, in an order in which each frame is taken after it was sent. A reader that plays the events finds
+//! each node in the states that were noted. The records come through a door, [`Records`], which is a folder
+//! in a program and memory in a test:
 //!
 //! ```
 //! let (all, mut records) = (TimeStretch::Whole, FolderRecords::new(rt, "run"));
@@ -12,21 +12,21 @@
 //! let status = command::run(rt, "run", None, all)?;       // prints the events; 1 if a record is damaged
 //! ```
 //!
-//! A [`TimeStretch`] may be shorter than the records: it takes what comes so many seconds after the earliest
-//! entry of all records, or before the latest one, and later. Then the list begins with events that set up
-//! the network as it stood when the first entry of the stretch came next: edges that had joined or parted,
-//! each node's state, and what was under way. So whoever plays the list needs no more than the network. All
-//! that comes before the stretch is woven too, but its events go nowhere. For the last seconds the records
-//! are read twice.
+//! A [`TimeStretch`] may be shorter than the records: it begins a given number of seconds after the earliest
+//! entry of all records, or before the latest one, and goes on to the end. Then the list begins with events
+//! that set up the network as it stood when the first entry of the stretch came next: edges that had joined
+//! or parted, each node's state, and what was under way. So a reader that plays the list needs only the
+//! network. All that comes before the stretch is woven too, but its events go nowhere. For the last seconds
+//! the records are read twice.
 //!
-//! A record that is missing, empty, of another network or of another node is a [`GatherFault`], before
-//! anything is written. One that ends within an entry, or is spoiled from a place on, is read up to
-//! there, and is a [`Flaw`] of what was gathered.
+//! A record that is missing, empty, of another network or of another node is a [`GatherFault`], which is
+//! found before anything is written. A record that ends within an entry, or is spoiled from some place on,
+//! is read up to there, and counts as a [`Flaw`] of what was gathered.
 //!
-//! The trap: instants are those of each node's machine. Only the order of what one node did, and
-//! that a frame is taken after it was sent, is the order in which things happened. A stretch begins with
-//! the first entry of its instant or later, in this order; so if a node's clock is late, earlier entries of
-//! that node may come after it, and are gathered too.
+//! The trap: instants are those of each node's machine. The list shows the order in which things happened
+//! only in two ways: what one node did is in order, and a frame is taken after it was sent. A stretch begins
+//! with the first entry, in this order, that is of its instant or later. So if a node's clock is slow,
+//! earlier entries of that node may come after that entry, and are gathered too.
 #![tactic(auto)]
 
 mod begun_file;

@@ -39,7 +39,7 @@ impl fmt::Display for RecordFileName<'_> {
     }
 }
 
-/// Why the records of a folder give no list of events, as a line without its end.
+/// Why the records of a folder give no list of events, as a line without its newline.
 #[derive(Clone, Copy)]
 pub struct GatherFaultLine<'a> {
     /// The folder.
@@ -85,7 +85,7 @@ impl fmt::Display for GatherFaultLine<'_> {
     }
 }
 
-/// Where a file of a folder was not read to its end, as a line without its end.
+/// Where a file of a folder was not read to its end, as a line without its newline.
 #[derive(Clone, Copy)]
 pub struct FlawLine<'a> {
     /// The folder.
@@ -117,7 +117,7 @@ impl fmt::Display for FlawLine<'_> {
     }
 }
 
-/// How much was gathered, as a line without its end.
+/// How much was gathered, as a line without its newline.
 #[derive(Clone, Copy)]
 pub struct StretchLine(pub RecordingSummary);
 
@@ -136,7 +136,7 @@ impl fmt::Display for StretchLine {
     }
 }
 
-/// What is wrong by the records, in numbers, as a line without its end.
+/// What is wrong according to the records, in numbers, as a line without its newline.
 #[derive(Clone, Copy)]
 pub struct FoundLine(pub EventCounts);
 
@@ -177,7 +177,7 @@ impl fmt::Display for LastedText {
     }
 }
 
-/// How long turns, frames and loans took, as a line without its end.
+/// How long turns, frames and loans took, as a line without its newline.
 #[derive(Clone, Copy)]
 pub struct LoansLine(pub RecordingSummary);
 
@@ -229,8 +229,8 @@ impl fmt::Display for FieldText {
     }
 }
 
-/// Which field of which node stood otherwise than what the node's record led to, and when, as a line
-/// without its end.
+/// Which field of which node differed from what the node's record led to, and when, as a line
+/// without its newline.
 #[derive(Clone, Copy)]
 pub struct DifferenceLine(pub Difference);
 
@@ -247,10 +247,10 @@ impl fmt::Display for DifferenceLine {
     }
 }
 
-/// How many fields stood otherwise, and how many of them are named, as a line without its end.
+/// How many fields differed, and how many of them are named, as a line without its newline.
 #[derive(Clone, Copy)]
 pub struct DifferencesLine {
-    /// How many stood otherwise.
+    /// How many fields differed.
     pub count: u64,
     /// How many of them are named.
     pub named: usize,

@@ -22,7 +22,8 @@ pub fn network_path(alloc: Global, dir: &str, network: Option<&str>) -> Result<S
     }
 }
 
-/// That the nodes kept no network in this file, why not, and what to do, as a line without its end.
+/// That the nodes kept no network in this file, why not, and what to do, as a line without its
+/// newline.
 #[derive(Clone, Copy)]
 pub struct NoneKeptLine<'a> {
     /// The file.

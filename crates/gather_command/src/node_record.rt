@@ -35,7 +35,7 @@ impl<S: Source + Drop> Model for NodeRecord<S> {
         { present = r.present; later = r.later; frames = r.frames; head = r.head; earlier = r.earlier; flaw = r.flaw } };
 }
 
-/// What is wrong with a file, of which an entry of this instant was read last.
+/// What is wrong with a file whose last entry that was read is of this instant.
 fn flaw_at(file: RecordFile, instant: u64, kind: Option<FlawKind>) -> Option<Flaw>
     ensures { result ≡ flaw_at file instant kind }
 {
@@ -49,7 +49,7 @@ fn flaw_at(file: RecordFile, instant: u64, kind: Option<FlawKind>) -> Option<Fla
     }
 }
 
-/// What is wrong with a file of which no entry is read, for this reason; nothing, at its end.
+/// What is wrong with a file that gave no further entry for this reason; none if it is at its end.
 fn flaw_for(stop: Stop) -> Option<FlawKind>
     ensures { result ≡ flaw_for stop }
 {
@@ -65,8 +65,8 @@ impl<S: Source + Drop> NodeRecord<S> {
     /// The record of a node of the network with this number.
     ///
     /// # Errors
-    /// If the node has no record, or one that cannot be read, is none, or is another node's or
-    /// another network's.
+    /// If the node has no record, or if one of its files cannot be read, is no record, or is that of
+    /// another node or another network.
     pub fn open<R: Records<File = S>>(
         alloc: Global,
         records: &mut R,
@@ -91,7 +91,7 @@ impl<S: Source + Drop> NodeRecord<S> {
         NodeRecord::of_files(node, first, second)
     }
 
-    /// A node's record of these files, of which each may be none.
+    /// A node's record of these files, either of which may be none.
     fn of_files(
         node: u16,
         first: Option<BegunFile<S>>,
@@ -140,7 +140,8 @@ impl<S: Source + Drop> NodeRecord<S> {
         self.head
     }
 
-    /// What was wrong with the file in front of the one that is read now, if there is one.
+    /// What was wrong with the file before the one that is read now; none if there was no such file,
+    /// or nothing was wrong with it.
     pub fn earlier(&self) -> Option<Flaw>
         ensures { result ≡ self.now.earlier }
     {

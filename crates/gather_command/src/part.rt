@@ -20,17 +20,18 @@ use record_pages::{Entry, Source};
 use std::alloc::{AllocError, Global};
 use topology::Net;
 
-/// Weaves the records of all nodes of a network, or a stretch of them, into one list of events, which
-/// go to the sink. A frame is taken after it was sent, if it was; else the earliest comes next. If
-/// entries come before the stretch, the list begins with events that set up the network as it stood when
-/// the first entry of the stretch came next: first edges that had joined or parted, then the state of
-/// each node, and last what was under way. The summary counts them among its events and harms, but no
-/// frame that was under way among those that nobody sent. It counts nothing else of what was woven
-/// before; a loan that had begun counts from its node's next entry on.
+/// Weaves the records of all nodes of a network, or a stretch of them, into one list of events, which go
+/// to the sink. A frame that was sent is taken after it was sent; apart from that, the earliest entry
+/// comes next. If entries come before the stretch, the list begins with events that set up the network as
+/// it stood when the first entry of the stretch came next: first edges that had joined or parted, then
+/// the state of each node, and last what was under way. The summary counts these events among its events
+/// and harms, but it does not count the frames that were under way among those that nobody sent. It
+/// counts nothing else of what was woven before; a loan that had begun counts from its node's next entry
+/// on.
 ///
 /// # Errors
-/// If a node has no record, if a file cannot be read, or is none of this network, if the sink
-/// fails, if memory runs out, or if there are too many entries.
+/// If a node has no record, if a file cannot be read or is no record of its node in this network, if the
+/// sink fails, if memory runs out, or if there are too many entries.
 pub fn gather_stretch<R: Records, S: EventSink>(
     alloc: Global,
     net: &Net,
@@ -80,8 +81,8 @@ fn gather_opened<F: Source + Drop, S: EventSink>(
     weave_from(alloc, net, &mut weaving, instant, sink)
 }
 
-/// Weaves all entries that are left. What comes at an instant and later is gathered; the list begins with
-/// events that set up the network as it stood when that came next.
+/// Weaves all entries that are left. Gathers what comes at an instant and later. The list begins with
+/// events that set up the network as it stood when the first of these entries came next.
 fn weave_from<F: Source + Drop, S: EventSink>(
     alloc: Global,
     net: &Net,
@@ -101,7 +102,7 @@ fn weave_from<F: Source + Drop, S: EventSink>(
     weave_out(alloc, net, weaving, sink)
 }
 
-/// Sets up the network as the world of a weaving stands, and has the weaving go on there. The sink takes
+/// Sets up the network as the world of a weaving stands, and lets the weaving go on there. The sink takes
 /// the events that lead there.
 fn set_there<F: Source + Drop, S: EventSink>(
     alloc: Global,
@@ -142,7 +143,8 @@ fn weave_until<S: Source + Drop>(
     Err(GatherFault::TooMany)
 }
 
-/// Weaves the entry that comes next, if there is one and it is earlier than this instant. Whether it did.
+/// Weaves the entry that comes next, if there is one and it is earlier than this instant. Returns whether
+/// it did.
 fn pass_before<S: Source + Drop>(
     weaving: &mut Weaving<S>,
     instant: u64,

@@ -24,12 +24,12 @@ pub trait Records {
     /// A file of a record, as the bytes that it gives.
     type File: Source + Drop;
 
-    /// As what it may open a file of a node's record.
+    /// What may come of opening a file of a node's record.
     ghost opens: { Self → ℕ → Side → Opened Self.File → Type 0 };
 
     /// Opens a file of a node's record, at its start.
     fn open(&mut self, node: u16, side: Side) -> Opened<Self::File>
         ensures opened { opens self.old node side result }
-        // What it may open afterwards it may open before.
+        // Whatever may be opened afterwards could also be opened before.
         ensures same { OpensNoMore (opens self.old) (opens self.new) };
 }

@@ -1,4 +1,4 @@
-//! A world that begins as the network starts, and is set up as another one stands.
+//! A world that begins as the network starts, and is set up to match another world.
 ghost use Rattle.std.specs.Prelude.{◌≡◌, ◌<◌, ◌≤◌, ◌++◌, ◌∷◌, [], IfOk, IfErr, OnOk};
 ghost use Rattle.record_gathering.specs.View.{gathered};
 ghost use Rattle.record_gathering.specs.configuration.ConfigurationView.{world_of};
@@ -56,7 +56,7 @@ impl Scene {
         (self.gathering, self.found)
     }
 
-    /// A fact is set. Its events are all that the list has afterwards, and the sink takes them.
+    /// Sets a fact. Its events are all that the list holds afterwards, and the sink takes them.
     fn sets<K: EventSink>(
         &mut self,
         fact: &Fact,
@@ -75,7 +75,7 @@ impl Scene {
     }
 }
 
-/// Facts are set, one after the other. The sink takes what they become.
+/// Sets facts, one after the other. The sink takes the events that they become.
 fn set_all<K: EventSink>(
     alloc: Global,
     scene: &mut Scene,
@@ -96,7 +96,7 @@ fn set_all<K: EventSink>(
     Ok(())
 }
 
-/// The edges are set by which a network becomes another one.
+/// Sets the edges that turn a network into another one.
 fn set_edges<K: EventSink>(
     alloc: Global,
     scene: &mut Scene,
@@ -114,7 +114,7 @@ fn set_edges<K: EventSink>(
     set_all(alloc, scene, &facts, sink)
 }
 
-/// The state of a node of the network with this number is set, as it stands in a world.
+/// Sets the state of a node of the network with this number, as it is in a world.
 fn set_node<K: EventSink>(
     alloc: Global,
     scene: &mut Scene,
@@ -135,7 +135,7 @@ fn set_node<K: EventSink>(
     set_all(alloc, scene, &facts, sink)
 }
 
-/// The states of all nodes are set.
+/// Sets the states of all nodes.
 fn set_nodes<K: EventSink>(
     alloc: Global,
     scene: &mut Scene,
@@ -157,7 +157,7 @@ fn set_nodes<K: EventSink>(
     Ok(())
 }
 
-/// What is under way from a node in a world is set.
+/// Sets what is under way from a node in a world.
 fn set_links<K: EventSink>(
     alloc: Global,
     scene: &mut Scene,
@@ -176,7 +176,7 @@ fn set_links<K: EventSink>(
     set_all(alloc, scene, &facts, sink)
 }
 
-/// All that is under way is set.
+/// Sets all that is under way.
 fn set_all_links<K: EventSink>(
     alloc: Global,
     scene: &mut Scene,
@@ -196,7 +196,8 @@ fn set_all_links<K: EventSink>(
     Ok(())
 }
 
-/// The network as it starts, set up as a world stands. The sink takes the events that lead there.
+/// Returns the network as it starts, set up to match a world. The sink takes the events that lead
+/// there.
 ///
 /// # Errors
 /// If the sink fails, or if memory runs out.

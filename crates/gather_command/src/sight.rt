@@ -45,7 +45,8 @@ fn is_whole(noted: &Noted) -> bool
     matches!(noted, Noted::State(StatePart::Whole))
 }
 
-/// Watches a node, of whose record an entry was woven; after that the node lends to this ticket.
+/// Watches a node after an entry of its record was woven. The node then lends to this ticket, or to
+/// nobody.
 fn watch_entry(watch: &mut RecordWatch, node: u16, entry: &Entry, lent: Option<u16>)
     requires { node < length watch.old.nodes }
     ensures watched { watch.new ≡ watched_after watch.old node entry.now lent }
@@ -69,7 +70,7 @@ fn watch_parts(watch: &mut RecordWatch, node: u16, entry: &Entry, lent: Option<u
 }
 
 impl WovenSight {
-    /// Nothing is seen of so many nodes. `AllocError` comes only if memory is refused.
+    /// Nothing is seen yet of this many nodes. `AllocError` comes only if memory is refused.
     pub fn new(alloc: Global, nodes: u16) -> Result<WovenSight, AllocError>
         ensures { IfOk result (λ s. s ≡ nothing_seen nodes) }
     {
@@ -82,8 +83,8 @@ impl WovenSight {
         })
     }
 
-    /// An entry of a node's record became these events, after which the node lends to this ticket.
-    /// These fields of the node stood otherwise before them.
+    /// An entry of a node's record became these events, after which the node lends to this ticket. These
+    /// fields of the node differed before them.
     ///
     /// # Errors
     /// If memory runs out.
@@ -115,8 +116,8 @@ impl WovenSight {
         Ok(())
     }
 
-    /// Nothing was seen but so many events, which set up the world. Which nodes' whole states were noted
-    /// stays known. The frames that are under way were sent before.
+    /// Begins again as if only the events counted in `found`, which set up the world, had been seen. It
+    /// stays known which nodes' whole states were noted. The frames that are under way were sent before.
     pub fn begins_again(&mut self, found: EventCounts)
         ensures { self.new ≡ seen_again self.old found }
     {
@@ -128,14 +129,14 @@ impl WovenSight {
         self.span = None;
     }
 
-    /// The first fields that stood otherwise, 64 at most.
+    /// The first fields that differed, 64 at most.
     pub fn differences(&self, alloc: Global) -> Result<Vec<Difference>, AllocError>
         ensures { IfOk result (λ shown. shown.items ≡ self.now.damage.shown) }
     {
         self.damage.shown(alloc)
     }
 
-    /// What was seen of so many nodes, in numbers.
+    /// What was seen of this many nodes, in numbers.
     pub fn numbers(&self, nodes: u16) -> RecordingSummary
         ensures { result ≡ numbers_of nodes self.now }
     {

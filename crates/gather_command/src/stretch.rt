@@ -21,30 +21,31 @@ use topology::Net;
 pub enum TimeStretch {
     /// All that the records hold.
     Whole,
-    /// What comes so many seconds after the earliest entry of all records, and later.
+    /// What comes this many seconds after the earliest entry of all records, and later.
     From(u32),
-    /// What comes so many seconds before the latest entry of all records, and later.
+    /// What comes this many seconds before the latest entry of all records, and later.
     Last(u32),
 }
 
 /// The microseconds of a second.
 const SECOND: u64 = 1_000_000;
 
-/// The instant so many seconds after another one, in microseconds; at most the greatest number.
+/// The instant this many seconds after a given one, in microseconds; at most the greatest 64-bit
+/// number.
 pub fn after_first(first: u64, seconds: u32) -> u64
     ensures { result ≡ after_first first seconds }
 {
     first.saturating_add(u64::from(seconds) * SECOND)
 }
 
-/// The instant so many seconds before another one, in microseconds; 0 if there is none.
+/// The instant this many seconds before a given one, in microseconds; 0 if there is no such instant.
 pub fn before_last(last: u64, seconds: u32) -> u64
     ensures { result ≡ before_last last seconds }
 {
     last.saturating_sub(u64::from(seconds) * SECOND)
 }
 
-/// The earlier one of an instant and an entry's, if there is an entry.
+/// The earlier of an instant and that of an entry; the given instant if there is no entry.
 fn earlier_of(least: u64, head: Option<Entry>) -> u64
     ensures { result ≡ earlier_of least head }
 {
@@ -65,8 +66,8 @@ pub fn earliest<S: Source + Drop>(nodes: &[NodeRecord<S>]) -> u64
     least
 }
 
-/// The latest instant of another one and of the entries that are still to come of a record, which is
-/// read to its end.
+/// The latest of a given instant and those of the entries that are still to come of a record, which
+/// is read to its end.
 fn read_through<S: Source + Drop>(
     opened: &mut NodeRecord<S>,
     greatest: u64,
@@ -88,11 +89,12 @@ fn read_through<S: Source + Drop>(
 /// The instant of the latest entry of all records, each of which is read to its end.
 ///
 /// # Errors
-/// If a record is refused, if memory runs out, or if there are too many entries.
+/// If a record is missing, unreadable or invalid, if memory runs out, or if there are too many
+/// entries.
 pub fn latest<R: Records>(alloc: Global, net: &Net, records: &mut R) -> Result<u64, GatherFault>
     ensures found { IfOk result (λ t. IsLatest
         (Reads (R.opens records.old) R.File.rest (MayFail R.File.failures)) net.now t) }
-    // What it may open afterwards it may open before.
+    // Whatever may be opened afterwards could also be opened before.
     ensures same { OnOk result (OpensNoMore (R.opens records.old) (R.opens records.new)) }
     ensures refused { IfErr result (λ fault. (fault ≡ TooMany) ⊎ IsFault
         (Reads (R.opens records.old) R.File.rest (MayFail R.File.failures))

@@ -8,7 +8,7 @@ pub struct Lasted {
     pub node: u16,
     /// The ticket that it was lent to.
     pub ticket: u16,
-    /// How long, in microseconds.
+    /// How long it lasted, in microseconds.
     pub time: u64,
 }
 
@@ -19,10 +19,10 @@ pub struct RecordingSummary {
     pub nodes: u16,
     /// From the first entry to the last one, in microseconds.
     pub stretch: u64,
-    /// How many events of which kind were written. Of a list that begins in the midst, frames that were
-    /// under way then are none that nobody sent.
+    /// How many events of each kind were written. If the list begins in the middle, the frames that were
+    /// under way then do not count as frames that nobody sent.
     pub found: EventCounts,
-    /// How many fields stood otherwise than what their nodes' records led to.
+    /// How many fields differed from what their nodes' records led to.
     pub differences: u64,
     /// The longest time from one tick of a node to its next one, in microseconds.
     pub longest_turn: u64,

@@ -13,7 +13,7 @@ use std::marker::Model;
 /// A loan of a node.
 #[derive(Clone, Copy)]
 struct Loan {
-    /// Whom it is to.
+    /// The ticket that it is to.
     ticket: u16,
     /// The instant at which it began.
     since: u64,
@@ -22,7 +22,7 @@ struct Loan {
 /// What is watched of one node.
 #[derive(Clone, Copy)]
 struct WatchedNode {
-    /// Its whole state was noted.
+    /// Whether its whole state was noted.
     is_known: bool,
     /// The instant of its last tick.
     ticked: Option<u64>,
@@ -38,7 +38,7 @@ pub struct RecordWatch {
     longest_turn: u64,
     /// How many loans began.
     loans: u64,
-    /// The longest one that ended.
+    /// The longest loan that ended.
     longest_loan: Option<Lasted>,
 }
 
@@ -51,7 +51,7 @@ impl Model for RecordWatch {
         { nodes = w.nodes.items; longest_turn = w.longest_turn; loans = w.loans; longest_loan = w.longest_loan } };
 }
 
-/// The time since an instant, if there was one.
+/// The time since an instant; 0 if there was none.
 pub fn since(before: Option<u64>, instant: u64) -> u64
     ensures { result ≡ since before instant }
 {
@@ -61,7 +61,7 @@ pub fn since(before: Option<u64>, instant: u64) -> u64
     }
 }
 
-/// The loan to this ticket, if there is one, since this instant.
+/// The loan to this ticket since this instant; none if there is no ticket.
 fn loan_to(lent: Option<u16>, instant: u64) -> Option<Loan>
     ensures { result ≡ loan_to lent instant }
 {
@@ -74,7 +74,7 @@ fn loan_to(lent: Option<u16>, instant: u64) -> Option<Loan>
     }
 }
 
-/// One more loan, if the lock is lent.
+/// The number of loans, with one more if the lock is lent.
 fn with_loan(lent: Option<u16>, loans: u64) -> u64
     ensures { result ≡ with_loan lent loans }
 {
@@ -110,7 +110,7 @@ fn ended_loan(node: u16, loan: Option<Loan>, instant: u64) -> Option<Lasted>
     }
 }
 
-/// The longer of two loans, of which each may be none.
+/// The longer of two loans, either of which may be none.
 fn longer(first: Option<Lasted>, more: Option<Lasted>) -> Option<Lasted>
     ensures { result ≡ longer first more }
 {
@@ -121,7 +121,7 @@ fn longer(first: Option<Lasted>, more: Option<Lasted>) -> Option<Lasted>
     }
 }
 
-/// A node of which all is forgotten but whether its whole state was noted.
+/// A node of which all is forgotten except whether its whole state was noted.
 fn one_again(node: WatchedNode) -> WatchedNode
     ensures { result ≡ one_again node }
 {
@@ -132,7 +132,7 @@ fn one_again(node: WatchedNode) -> WatchedNode
     }
 }
 
-/// All is forgotten of each node but whether its whole state was noted.
+/// Forgets all of each node except whether its whole state was noted.
 fn all_again(nodes: &mut [WatchedNode])
     ensures { nodes.new ≡ map one_again nodes.old }
 {
@@ -142,7 +142,7 @@ fn all_again(nodes: &mut [WatchedNode])
 }
 
 impl RecordWatch {
-    /// So many nodes, of which nothing is known. All memory is reserved here.
+    /// This many nodes, of which nothing is known yet. All memory is reserved here.
     pub fn new(alloc: Global, nodes: u16) -> Result<RecordWatch, AllocError>
         ensures { IfOk result (λ w. w ≡ unwatched nodes) }
     {
@@ -201,7 +201,7 @@ impl RecordWatch {
         self.loans = with_loan(lent, self.loans);
     }
 
-    /// All is forgotten but which nodes' whole states were noted.
+    /// Forgets all except which nodes' whole states were noted.
     pub fn begins_again(&mut self)
         ensures { self.new ≡ watched_again self.old }
     {
@@ -233,7 +233,7 @@ pub struct Span {
     greatest: u64,
 }
 
-/// The span of these instants and one more.
+/// The span of these instants and one instant more.
 pub fn with_instant(span: Option<Span>, instant: u64) -> Option<Span>
     ensures { result ≡ with_instant span instant }
 {

@@ -1,4 +1,4 @@
-//! A world that the entries of all records lead on.
+//! A world that the entries of all records move forward.
 ghost use Rattle.std.specs.Prelude.{◌≡◌, ◌<◌, ◌++◌, IfOk, OnOk, length};
 ghost use Rattle.gather_command.specs.Reading.{MayFail};
 ghost use Rattle.gather_command.specs.Records.{listed, flaws_of, flaws_in};
@@ -23,7 +23,7 @@ use topology::Net;
 /// How many more edges may join than the network has at its start: as many as in a simulation.
 pub const SPARE_PAIRS: u16 = 8;
 
-/// A world that the entries of all records lead on.
+/// A world that the entries of all records move forward.
 #[derive(Drop)]
 pub struct Weaving<S: Source + Drop> {
     gathering: Gathering,
@@ -62,7 +62,7 @@ fn heads_of<S: Source + Drop>(
     Ok(heads)
 }
 
-/// A flaw comes after these, if there is one.
+/// Adds a flaw, if there is one.
 fn add_flaw(flaws: &mut Vec<Flaw>, more: Option<Flaw>) -> Result<(), AllocError>
     ensures { OnOk result (flaws.new.items ≡ flaws.old.items ++ listed more) }
 {
@@ -72,7 +72,7 @@ fn add_flaw(flaws: &mut Vec<Flaw>, more: Option<Flaw>) -> Result<(), AllocError>
     Ok(())
 }
 
-/// The flaws of a node's record come after these.
+/// Adds the flaws of a node's record.
 fn add_flaws<S: Source + Drop>(
     flaws: &mut Vec<Flaw>,
     node: &NodeRecord<S>,
@@ -127,7 +127,7 @@ impl<S: Source + Drop> Weaving<S> {
         Some((node, entry))
     }
 
-    /// An entry of a node's record becomes events, which are all that the list has afterwards.
+    /// Turns an entry of a node's record into events, which are all that the list holds afterwards.
     ///
     /// # Errors
     /// If memory runs out.
@@ -171,8 +171,9 @@ impl<S: Source + Drop> Weaving<S> {
         self.gathering.world()
     }
 
-    /// Goes on in the world of a gathering that so many events set up. Of what was seen so far only
-    /// which nodes' whole states were noted is kept.
+    /// Goes on in the world of a gathering, which the events counted in `found` set up. Of what was
+    /// seen so far, only this is kept: which nodes' whole states were noted, and when the frames
+    /// under way were sent.
     pub fn moves_to(&mut self, gathering: Gathering, found: EventCounts)
         requires { (gathered gathering).net.nodes ≡ (world_in self.old).net.nodes }
         ensures { self.new ≡ moved_to self.old gathering found }
@@ -188,14 +189,14 @@ impl<S: Source + Drop> Weaving<S> {
         flaws_in(alloc, &self.nodes)
     }
 
-    /// The first fields that stood otherwise than what their nodes' records led to, 64 at most.
+    /// The first fields that differed from what their nodes' records led to, 64 at most.
     pub fn differences(&self, alloc: Global) -> Result<Vec<Difference>, AllocError>
         ensures { IfOk result (λ shown. shown.items ≡ self.now.seen.damage.shown) }
     {
         self.sight.differences(alloc)
     }
 
-    /// What was seen of so many nodes, in numbers.
+    /// What was seen of this many nodes, in numbers.
     pub fn numbers(&self, nodes: u16) -> RecordingSummary
         ensures { result ≡ numbers_of nodes self.now.seen }
     {

@@ -12,22 +12,22 @@ signal_number Interrupt = 2
 signal_number Quit = 3
 signal_number Terminate = 15
 
--- the value of a lower-case hexadecimal digit, and 0 of any other byte
+-- the value of a lower-case hexadecimal digit, and 0 for any other byte
 abbrev pub digit_value : ℕ → ℕ
 digit_value c =
     if nat_le 48 c && nat_le c 57 then c - 48
     else if nat_le 97 c && nat_le c 102 then c - 97 + 10
     else 0
 
--- the bit of this weight in the digit that so many digits follow; the last one is the lowest
+-- the bit of this weight in the digit that `following` digits follow; the last digit is the lowest
 abbrev pub in_mask : List ℕ → ℕ → ℕ → Bool
 in_mask digits following weight =
     if nat_lt following (length digits)
     then digit_value (slice_index digits (length digits - following - 1)) / weight % 2 == 1
     else false
 
--- the bit of a signal has the weight 2 ^ (number - 1): those of 1 to 4 stand in the last digit,
--- those of 13 to 16 in the fourth last
+-- the bit of a signal has the weight 2 ^ (number - 1): those of 1 to 4 are in the last digit, those
+-- of 13 to 16 in the fourth last
 abbrev pub signals_of : List ℕ → Signals
 signals_of digits = record {
   hang_up = in_mask digits 0 1;
@@ -47,7 +47,7 @@ both_signals a b = record {
   terminate = a.terminate || b.terminate;
 }
 
--- the signals of the second that are none of the first
+-- the signals of the second that are not among the first
 abbrev pub signals_without : Signals → Signals → Signals
 signals_without a b = record {
   hang_up = b.hang_up && not a.hang_up;
@@ -65,7 +65,7 @@ holds Interrupt s = s.interrupt
 holds Quit s = s.quit
 holds Terminate s = s.terminate
 
--- one that is there and was not seen, SIGTERM first
+-- a signal that is there and was not seen, SIGTERM first
 abbrev pub first_besides : Signals → Signals → Option Signal
 first_besides seen s =
     if s.terminate && not seen.terminate then Some Terminate

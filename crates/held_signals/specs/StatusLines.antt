@@ -1,4 +1,4 @@
--- The lines of `/proc/self/status` that speak of signals.
+-- The lines of `/proc/self/status` that are about signals.
 use Rattle.std.specs.Prelude.{ℕ, Bool, ◌==◌, if◌then◌else◌, nat_lt, List, [], ◌∷◌, ◌++◌, map, fold, length, drop, codes}
 use Rattle.std.specs.List.{starts_with}
 use Rattle.byte_lines.specs.Lines.{whole_lines}
@@ -8,7 +8,7 @@ use Rattle.held_signals.specs.declared.status_lines.StatusEntry.TheVariants.{Pen
 use Rattle.held_signals.specs.declared.signals.Signals.{Signals}
 use Rattle.held_signals.specs.declared.status_lines.SignalState.{SignalState}
 
--- after this name and a tab stand the digits of a mask
+-- the line begins with this name and a tab, and then has the digits of a mask
 abbrev pub is_named : List ℕ → List ℕ → Bool
 is_named name line = starts_with (λ a b. a == b) line (name ++ 9 ∷ [])
 

@@ -1,7 +1,7 @@
 //! The signals that a process holds back: which have come, by the lines of `/proc/self/status`.
 //!
-//! A program without handlers starts under `env --block-signal`. What comes then stays with the
-//! system, and its lines say so.
+//! A program without handlers starts under `env --block-signal`. Signals that come then stay with
+//! the system, and its lines show them.
 //!
 //! ```
 //! let state = state_said(lines);                       // SigPnd, ShdPnd, SigBlk and SigIgn

@@ -1,10 +1,10 @@
-//! How this process stands to signals.
+//! The signals of this process.
 use crate::{SignalState, state_said};
 use std::fs;
 use std::rt::Files;
 
-/// How this process stands to signals, by `/proc/self/status`; as if none came and none was held
-/// back, if that cannot be read.
+/// The state of this process's signals, by `/proc/self/status`. If that cannot be read, it is as if
+/// no signal came and none was held back.
 pub fn state_now<R: Files + AllocGlobal>(rt: &R) -> SignalState {
     match fs::read(rt, "/proc/self/status") {
         Ok(status) => state_said(status.as_slice()),

@@ -1,4 +1,5 @@
-//! Signals that end a program by default and that its user sends to it, or to all of a terminal.
+//! Signals that end a program by default and that its user sends to it, or to all programs of a
+//! terminal.
 ghost use Rattle.std.specs.Prelude.{◌≡◌, ◌<◌};
 ghost use Rattle.held_signals.specs.Signals.{signal_number, in_mask, signals_of, no_signals, holds};
 ghost use Rattle.held_signals.specs.Signals.{first_besides, including};
@@ -31,7 +32,7 @@ impl Signal {
     }
 }
 
-/// Some of these signals.
+/// A set of these signals.
 #[derive(Clone, Copy)]
 pub struct Signals {
     /// Whether SIGHUP is one.
@@ -69,7 +70,7 @@ impl Signals {
         }
     }
 
-    /// Those of either.
+    /// The signals of either set.
     pub fn with(self, others: Signals) -> Signals
         ensures { result ≡ both_signals self others }
     {
@@ -81,7 +82,7 @@ impl Signals {
         }
     }
 
-    /// These but for those.
+    /// These signals without the others.
     pub fn without(self, others: Signals) -> Signals
         ensures { result ≡ signals_without others self }
     {
@@ -93,14 +94,14 @@ impl Signals {
         }
     }
 
-    /// Whether there is any.
+    /// Whether there is any signal.
     pub fn any(self) -> bool
         ensures { result ≡ has_any self }
     {
         self.hang_up || self.interrupt || self.quit || self.terminate
     }
 
-    /// One of these that is none of those.
+    /// One of these signals that was not seen.
     pub fn first_besides(self, seen: Signals) -> Option<Signal>
         ensures { result ≡ first_besides seen self }
     {
@@ -117,7 +118,7 @@ impl Signals {
         }
     }
 
-    /// These and that one.
+    /// These signals and this one.
     pub fn including(self, signal: Signal) -> Signals
         ensures { result ≡ including signal self }
     {
@@ -138,7 +139,7 @@ impl Signals {
         }
     }
 
-    /// Whether this signal is one.
+    /// Whether this signal is one of them.
     pub fn holds(self, signal: Signal) -> bool
         ensures { result ≡ holds signal self }
     {
@@ -151,7 +152,7 @@ impl Signals {
     }
 }
 
-/// Whether a mask has the bit of this weight in the digit that so many digits follow.
+/// Whether a mask has the bit of this weight in the digit that `following` digits follow.
 fn in_mask(digits: &[u8], following: usize, weight: u8) -> bool
     requires { 0 < weight }
     ensures { result ≡ in_mask digits.now following weight }
@@ -162,7 +163,7 @@ fn in_mask(digits: &[u8], following: usize, weight: u8) -> bool
     }
 }
 
-/// The value of a lower-case hexadecimal digit; 0 of anything else.
+/// The value of a lower-case hexadecimal digit; 0 for anything else.
 fn digit_value(digit: u8) -> u8
     ensures { result ≡ digit_value digit }
 {

@@ -1,4 +1,4 @@
-//! What the system says of the signals of a process, in the lines of `/proc/self/status`.
+//! What the system says about the signals of a process, in the lines of `/proc/self/status`.
 ghost use Rattle.std.specs.Prelude.{◌≡◌, ◌≤◌, ◌++◌, ◌∷◌, [], List, ℕ, length};
 ghost use Rattle.std.specs.Option.{option_to_list};
 ghost use Rattle.byte_lines.specs.Kept.{StandsAfter, Kept};
@@ -22,14 +22,14 @@ pub enum StatusEntry {
     Other,
 }
 
-/// How a process stands to signals.
+/// The state of a process's signals.
 #[derive(Clone, Copy)]
 pub struct SignalState {
     /// Those that came, and are held back.
     pub pending: Signals,
     /// Those that are held back when they come.
     pub blocked: Signals,
-    /// Those that mean nothing to it, as SIGHUP under `nohup`.
+    /// Those that mean nothing to it, such as SIGHUP under `nohup`.
     pub ignored: Signals,
 }
 
@@ -45,7 +45,7 @@ impl SignalState {
         }
     }
 
-    /// What is known after a line more.
+    /// What is known after one more line.
     pub fn noted(self, entry: StatusEntry) -> SignalState
         ensures { result ≡ noted self entry }
     {
@@ -66,8 +66,8 @@ impl SignalState {
         }
     }
 
-    /// The signals that came, are held back, and mean something to the process. The system keeps one
-    /// that is held back even if it is ignored.
+    /// The signals that came, are held back, and mean something to the process. The system keeps a
+    /// signal that is held back even if it is ignored.
     pub fn heeded(self) -> Signals
         ensures { result ≡ heeded self }
     {
@@ -88,7 +88,7 @@ impl Model for StatusReader {
 }
 
 impl StatusReader {
-    /// A reader to which no byte came.
+    /// A reader to which no byte has come.
     pub fn new() -> StatusReader
         ensures { StandsAfter 32 [] result }
     {
@@ -97,7 +97,7 @@ impl StatusReader {
         }
     }
 
-    /// Takes the next byte, and answers what the line says that it ends, if it is a newline.
+    /// Takes the next byte. If it is a newline, returns what the line that it ends says.
     pub fn push(&mut self, byte: u8) -> Option<StatusEntry>
         ensures stands { (bytes : List ℕ) → StandsAfter 32 bytes self.old
             → StandsAfter 32 (bytes ++ byte ∷ []) self.new }
@@ -108,7 +108,7 @@ impl StatusReader {
     }
 }
 
-/// How a process stands to signals, by all that the system says of it.
+/// The state of a process's signals, by all these lines of the system.
 pub fn state_said(lines: &[u8]) -> SignalState
     ensures { result ≡ signal_state (status_entries lines.now) }
 {
@@ -122,7 +122,7 @@ pub fn state_said(lines: &[u8]) -> SignalState
     state
 }
 
-/// What a line says. None of interest has more than 32 bytes.
+/// What a line says. No line of interest has more than 32 bytes.
 struct Entries;
 
 impl LineReading<32> for Entries {
@@ -149,7 +149,7 @@ fn entry_of(line: &[u8]) -> StatusEntry
     }
 }
 
-/// What a line says that does not show which signals are held back.
+/// What a line other than `SigBlk` says.
 fn pending_of(line: &[u8]) -> StatusEntry
     ensures { result ≡ pending_of line.now }
 {
@@ -159,7 +159,7 @@ fn pending_of(line: &[u8]) -> StatusEntry
     }
 }
 
-/// What a line says that does not show which signals came to the thread.
+/// What a line other than `SigBlk` and `SigPnd` says.
 fn shared_of(line: &[u8]) -> StatusEntry
     ensures { result ≡ shared_of line.now }
 {
@@ -169,7 +169,7 @@ fn shared_of(line: &[u8]) -> StatusEntry
     }
 }
 
-/// What a line says that shows neither which signals are held back nor which came.
+/// What a line other than `SigBlk`, `SigPnd` and `ShdPnd` says.
 fn ignored_of(line: &[u8]) -> StatusEntry
     ensures { result ≡ ignored_of line.now }
 {

@@ -27,11 +27,11 @@ pub record HasSeen (j : JudgeView) (start : World) (es : List Event) : Type 0 wh
   pub judging : IsJudging start es (world_of j.configuration) j.stretch j.sweeps j.refused
   pub visited : AreVisited start es j.visited
 
--- what one judge has seen, the other has seen too, and then the event
+-- what the old judge has seen, the new one has seen too, and then the event
 abbrev pub HasSeenNext : JudgeView → Event → JudgeView → Type 0
 HasSeenNext old e new = (start : World) (es : List Event) → HasSeen old start es → HasSeen new start (es ++ e ∷ [])
 
--- what one judge has seen, the other has seen too, and no more
+-- what the old judge has seen, the new one has seen too, and no more
 abbrev pub HasSeenSame : JudgeView → JudgeView → Type 0
 HasSeenSame old new = (start : World) (es : List Event) → HasSeen old start es → HasSeen new start es
 

@@ -3,7 +3,8 @@ use Rattle.std.specs.Prelude.{◌≡◌, ℕ, ◌<◌, ◌⊎◌, Bool, IsTrue}
 use Rattle.configuration.specs.PairTable.{PairTableView, value_at}
 use Rattle.judge.specs.Tallies.{has_place}
 
--- Each pair joined so far has its own place below `next`; all others have the first.
+-- All places are below `next`, and different pairs have different places, unless they have the
+-- first. Each pair joined so far has its own place.
 pub record IsLaid (nodes : ℕ) (is_joined : ℕ → ℕ → Bool) (table : PairTableView) (next : ℕ) : Type 0 where
   pub nodes_are : table.nodes ≡ nodes
   pub inside : (u v : ℕ) → v < nodes → value_at table u v < next

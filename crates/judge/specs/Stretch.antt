@@ -16,7 +16,7 @@ pub record StretchView : Type 0 where
   pub lacking : ℕ
   pub tallies : TalliesView
 
--- the same with another count of looks
+-- the same with a different count of looks
 abbrev pub with_looks : StretchView → ℕ → StretchView
 with_looks s looked = record s { tallies = record s.tallies { looked = looked } }
 
@@ -33,7 +33,7 @@ abbrev pub is_full_tick_of : ℕ → Happened → Bool
 is_full_tick_of v (FullTick u) = v == u
 is_full_tick_of v _ = false
 
--- the nodes that ticked or took, or whose link was taken from, are below n
+-- the node that ticked, or both nodes of the link from which an item was taken or lost, are below n
 abbrev pub names_below : ℕ → Happened → Bool
 names_below n (FullTick v) = nat_lt v n
 names_below n (LendingTick v) = nat_lt v n
@@ -41,13 +41,13 @@ names_below n (Taken u v) = nat_lt u n && nat_lt v n
 names_below n (Lost u v i) = nat_lt u n && nat_lt v n
 names_below n _ = true
 
--- a link that lost an item has its own place
+-- a link from which an item was taken or lost has its own place
 abbrev pub names_place : PairTableView → Happened → Bool
 names_place table (Taken u v) = has_place table u v
 names_place table (Lost u v i) = has_place table u v
 names_place table _ = true
 
--- there is room for the stretches of any network with as many nodes
+-- there is room for the stretches of any network with as many nodes as this one
 abbrev pub HasRoomFor : Network → StretchView → Type 0
 HasRoomFor net s = s.tallies.table.nodes ≡ net.nodes
 

@@ -9,7 +9,7 @@ use Rattle.configuration.specs.run_model.declared.happened.Happened.TheVariants.
 use Rattle.judge.specs.declared.tallies.Tally.{Tally}
 use Rattle.configuration.specs.PairTable.{PairTableView, value_at}
 
--- for each two nodes the place of the tally of their link; the tallies, one after the other; and
+-- for every two nodes the place of the tally of their link; the tallies, one after the other; and
 -- the number of looks at tallies
 pub record TalliesView : Type 0 where
   pub table : PairTableView

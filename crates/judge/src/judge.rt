@@ -69,8 +69,8 @@ fn begin<A: Allocator + Copy>(configuration: &Configuration<A>, stretch: &mut St
 /// A configuration, the sweeps and refused events that led to it, and the nodes that the privilege
 /// has visited on the way.
 ///
-/// A sweep counts at the first event that completes it. Damage starts the count again, and the
-/// visits too.
+/// A sweep counts at the first event that completes it. Damage restarts the count, and the visits
+/// too.
 #[derive(Drop)]
 pub struct Judge<A: Allocator + Copy = Global> {
     configuration: Configuration<A>,
@@ -101,7 +101,7 @@ impl<A: Allocator + Copy> Judge<A> {
         ensures looked { result.stretch.tallies.looked ≡ 0 }
     {
         below();
-        world.assure_ranges();
+        world.ranges_hold();
         let World {
             configuration,
             mut room,
@@ -204,7 +204,7 @@ impl<A: Allocator + Copy> Judge<A> {
 
     /// The tally of the link from one node to another in the unfinished stretch; `None` if no edge
     /// joins the two. It searches the edges, so any ids are allowed. Like each look at a tally,
-    /// this one counts: [`looked`](Judge::looked) rises by one.
+    /// this one is counted: [`looked`](Judge::looked) rises by one.
     pub fn tally(&mut self, from: u16, to: u16) -> Option<Tally>
         ensures link { IsSome result
             ↔ IsTrue (are_joined (world_of self.old.configuration).net.edges from to) }

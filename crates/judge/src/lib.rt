@@ -1,23 +1,24 @@
 //! Judging a network's run: how many sweeps it has had since the last damage. The network's
-//! guarantee is stated in these.
+//! guarantee is stated in sweeps.
 //!
 //! A [`World`] is a network at one moment, with all memory that its run and its judge need.
 //! `World::new` reserves it; each `step` is one event, and takes none.
 //!
 //! A [`Judge`] lets events happen one by one, counts sweeps and refusals, and shows the
-//! configuration, nodes and links as they are now. Judging takes no memory, since its room is the
-//! world's:
+//! configuration, the nodes and links as they are now. Judging takes no memory, since its room is
+//! the world's:
 //!
 //! ```
 //! let mut judge = Judge::new(world);
-//! // Refused, as NoNode is, it is counted, and changes nothing else.
+//! // An event that is refused is counted, and changes nothing else.
 //! judge.step(&Event::Tick { node: 0 })?;
 //! let sweeps = judge.sweeps();
 //! ```
 //!
 //! The crate `world`, which knows the theorem, says what a number of sweeps leads to.
 //!
-//! To run the nodes by other means, on threads say, take a world apart and put it together again:
+//! To run the nodes by other means, on threads for example, take a world apart and put it together
+//! again:
 //!
 //! ```
 //! let Parts { nodes, links, room } = world.into_parts();      // links.net() is the network

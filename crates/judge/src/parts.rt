@@ -7,7 +7,7 @@ use crate::world::World;
 use configuration::{Configuration, Links, Node};
 use std::alloc::{Allocator, Global};
 
-/// The parts of a world, for running its nodes by other means than events, on threads say.
+/// The parts of a world, for running its nodes by other means than events, on threads for example.
 #[derive(Drop)]
 pub struct Parts<A: Allocator + Copy = Global> {
     /// The nodes by their ids.

@@ -63,7 +63,7 @@ impl<A: Allocator + Copy> Stretch<A> {
 }
 
 impl<A: Allocator> Stretch<A> {
-    /// The oldest item of a link is taken.
+    /// Notes that the oldest item of a link was taken.
     #[inline(always)]
     fn take(&mut self, from: u16, to: u16)
         requires from_in { from < self.old.tallies.table.nodes }
@@ -81,7 +81,7 @@ impl<A: Allocator> Stretch<A> {
         self.tallies.set(from, to, tally.taken());
     }
 
-    /// An item of a link is lost.
+    /// Notes that an item of a link was lost.
     fn lose(&mut self, from: u16, to: u16, item: u16)
         requires from_in { from < self.old.tallies.table.nodes }
         requires to_in { to < self.old.tallies.table.nodes }
@@ -98,7 +98,7 @@ impl<A: Allocator> Stretch<A> {
         self.tallies.set(from, to, tally.lost(item));
     }
 
-    /// Notes what an event did, if it is no damage.
+    /// Notes what an event did, unless it was damage.
     #[inline(always)]
     pub(crate) fn note(&mut self, happened: &Happened)
         requires few { self.old.tallies.table.nodes ≤ 64 }
@@ -134,8 +134,8 @@ impl<A: Allocator> Stretch<A> {
         self.lacking = all_nodes(self.tallies.nodes());
     }
 
-    /// Room for the present edges of a network, with no link left to renew. The caller must then
-    /// begin the tally of each link.
+    /// Lays out room for the present edges of a network, with no link left to renew. The caller
+    /// must then begin the tally of each link.
     #[inline(never)]
     pub(crate) fn lay<N: Allocator + Copy>(&mut self, net: &Net<N>)
         requires { self.old.tallies.table.nodes ≡ net.now.nodes }
@@ -147,7 +147,7 @@ impl<A: Allocator> Stretch<A> {
         self.tallies.lay(net);
     }
 
-    /// Starts the tally of a link again.
+    /// Restarts the tally of a link.
     pub(crate) fn begin_link(&mut self, from: u16, to: u16, tally: Tally)
         requires from_in { from < self.old.tallies.table.nodes }
         requires to_in { to < self.old.tallies.table.nodes }
@@ -168,7 +168,7 @@ impl<A: Allocator> Stretch<A> {
         self.lacking
     }
 
-    /// The tally of a link. The look counts.
+    /// The tally of a link. The look is counted.
     pub(crate) fn tally(&mut self, from: u16, to: u16) -> Tally
         requires from_in { from < self.old.tallies.table.nodes }
         requires to_in { to < self.old.tallies.table.nodes }

@@ -20,7 +20,7 @@ use topology::{Net, laws as topology_laws};
 pub struct Tally {
     /// The number of old items, 0 to 4096.
     pub old: u16,
-    /// An item that was sent inside the stretch was taken.
+    /// Whether an item that was sent inside the stretch was taken.
     pub renewed: bool,
 }
 
@@ -100,8 +100,8 @@ fn lay_all<A: Allocator, N: Allocator + Copy>(table: &mut PairTable<A>, net: &Ne
 const MOST_TALLIES: usize = 513;
 
 /// The tallies of all links of a network: one each way for each edge, close together, after one
-/// that stands for all pairs without an edge. Only `get` and `set` reach a tally, and each of them
-/// counts.
+/// that stands for all pairs without an edge. Only `get` and `set` reach a tally, and each call of
+/// them is counted.
 #[derive(Drop)]
 pub struct Tallies<A: Allocator = Global> {
     table: PairTable<A>,
@@ -121,7 +121,7 @@ impl<A: Allocator> Model for Tallies<A> {
 }
 
 impl<A: Allocator + Copy> Tallies<A> {
-    /// Tallies for the links of a network, none left to renew. Reserves all memory.
+    /// Tallies for the links of a network, with none left to renew. Reserves all memory.
     pub fn new<N: Allocator + Copy>(alloc: A, net: &Net<N>) -> Result<Tallies<A>, AllocError>
         ensures nodes { IfOk result (λ t. t.table.nodes ≡ net.now.nodes) }
         // Each link has its own tally.
@@ -171,7 +171,7 @@ impl<A: Allocator> Tallies<A> {
         requires from_in { from < self.old.table.nodes }
         requires to_in { to < self.old.table.nodes }
         ensures tally { result ≡ tally_of self.old from to }
-        // The look counts, up to the greatest number of 32 bits.
+        // The look is counted, up to the greatest number of 32 bits.
         ensures looked { self.new
             ≡ record self.old { looked = min (self.old.looked + 1) (2 ^ 32 - 1) } }
     {
@@ -180,7 +180,7 @@ impl<A: Allocator> Tallies<A> {
         self.places[place]
     }
 
-    /// Writes the tally of a link, which has a place.
+    /// Writes the tally of a link that has a place.
     #[inline(always)]
     pub fn set(&mut self, from: u16, to: u16, tally: Tally)
         requires from_in { from < self.old.table.nodes }
@@ -190,7 +190,7 @@ impl<A: Allocator> Tallies<A> {
         // No other link's tally changes.
         ensures tallies { (u v : ℕ) → v < self.old.table.nodes
             → tally_of self.new u v ≡ at_pair (tally_of self.old) from to tally u v }
-        // The look counts, up to the greatest number of 32 bits.
+        // The look is counted, up to the greatest number of 32 bits.
         ensures looked { self.new.looked ≡ min (self.old.looked + 1) (2 ^ 32 - 1) }
     {
         self.looked = self.looked.saturating_add(1);
@@ -209,8 +209,8 @@ impl<A: Allocator> Tallies<A> {
         self.unrenewed == 0
     }
 
-    /// Lays the tallies out again for the edges of a network, none left to renew: new edges have
-    /// their own, and no tally of a removed edge is left. Takes no memory.
+    /// Lays the tallies out again for the edges of a network, with none left to renew: new edges
+    /// have their own, and no tally of a removed edge is left. Takes no memory.
     pub fn lay<N: Allocator + Copy>(&mut self, net: &Net<N>)
         requires { self.old.table.nodes ≡ net.now.nodes }
         ensures nodes { self.new.table.nodes ≡ net.now.nodes }

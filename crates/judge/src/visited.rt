@@ -9,7 +9,7 @@ use configuration::{Configuration, Happened};
 use std::alloc::Allocator;
 use topology::laws as topology_laws;
 
-/// The mask with the bit of a node.
+/// The mask with the bit of a node set.
 fn with(mask: u64, node: u16) -> u64
     requires { node < 64 }
     ensures { (v : ℕ) → has_bit result v ≡ (has_bit mask v || v == node) }
@@ -17,7 +17,7 @@ fn with(mask: u64, node: u16) -> u64
     mask | (1 << node)
 }
 
-/// The nodes that are privileged now. Looks at each.
+/// The nodes that are privileged now. Looks at each node.
 #[inline(never)]
 pub fn privileged_nodes<A: Allocator + Copy>(configuration: &Configuration<A>) -> u64
     ensures { (v : ℕ) → has_bit result v ≡ (nat_lt v (world_of configuration.now).net.nodes
@@ -33,7 +33,8 @@ pub fn privileged_nodes<A: Allocator + Copy>(configuration: &Configuration<A>) -
     mask
 }
 
-/// The mask with the bit of a node, if that is privileged now. Looks at no node whose bit is set.
+/// The mask, with the bit of a node set if the node is privileged now. Looks at no node whose bit
+/// is set.
 #[inline(always)]
 fn visit<A: Allocator + Copy>(configuration: &Configuration<A>, mask: u64, node: u16) -> u64
     requires { node < (world_of configuration.now).net.nodes }
@@ -50,7 +51,7 @@ fn visit<A: Allocator + Copy>(configuration: &Configuration<A>, mask: u64, node:
     }
 }
 
-/// The visited nodes after what happened, if that is no damage. Looks only at the node that ticked
+/// The visited nodes after what happened, unless that is damage. Looks only at the node that ticked
 /// or took, if any: no other node's machines or copies have changed.
 #[inline(always)]
 pub fn visited_after<A: Allocator + Copy>(

@@ -37,15 +37,15 @@ impl<A: Allocator + Copy> Model for World<A> {
 
 impl<A: Allocator + Copy> World<A> {
     /// The world of fresh nodes and empty links, without spare links: an edge may join only once
-    /// another has gone. It keeps a copy of the network, and reserves all memory that any step,
-    /// and any judge, needs; `AllocError` comes only if that is refused.
+    /// another has parted. It keeps a copy of the network, and reserves all memory that any step,
+    /// and any judge, needs; returns `AllocError` only if that memory is refused.
     pub fn new<N: Allocator + Copy>(alloc: A, net: &Net<N>) -> Result<World<A>, AllocError>
         ensures { IfOk result (λ world. world_of world ≡ default_world net.now) }
     {
         World::with_spares(alloc, net, 0)
     }
 
-    /// The same with spare pairs of links, at most 256, each for one more edge.
+    /// The same, with `pairs` spare pairs of links, at most 256, each for one more edge.
     ///
     /// # Errors
     /// If memory runs out.
@@ -89,10 +89,10 @@ impl<A: Allocator + Copy> World<A> {
 
     /// Every world is in range: each field of a node, and what is under way on each link. Looks at
     /// each node once, and changes nothing.
-    pub fn assure_ranges(&self)
+    pub fn ranges_hold(&self)
         ensures { IsWorldInRange (world_of self.now) }
     {
-        self.configuration.assure_ranges();
+        self.configuration.ranges_hold();
     }
 
     /// How many items are under way from one node to another.
@@ -121,7 +121,7 @@ impl<A: Allocator + Copy> World<A> {
     }
 
     /// Whether it serves at this moment: each node has its distance and its true parent, at most
-    /// one node is privileged, and at most one lends. Looks only at nodes, at no link, and takes
+    /// one node is privileged, and at most one lends. Looks only at nodes, not at links, and takes
     /// no memory.
     pub fn serves(&self) -> bool
         ensures { IsTrue result ↔ IsServing (world_of self.now) }

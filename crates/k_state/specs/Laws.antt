@@ -16,7 +16,7 @@ abbrev pub GoodOutlastsRuns : Type 0
 GoodOutlastsRuns =
     (q moves : ℕ) (old new : List ℕ) → Run q moves old new → IsGood q old → IsGood q new
 
--- if there are two values or more, the items of a good ring that equal its head stand in front
+-- if there are two values or more, the items of a good ring that equal its head are in front
 abbrev pub GoodHasFront : Type 0
 GoodHasFront =
     (q : ℕ) (ring : List ℕ) → 1 < q → IsRing q ring → IsGood q ring → HasFront (head_of ring) ring
@@ -27,27 +27,27 @@ GoodHasFront =
 abbrev pub RingStays : Type 0
 RingStays = (q moves : ℕ) (old new : List ℕ) → Step q moves old new → IsRing q old → IsRing q new
 
--- a value that stands nowhere else stands in front
+-- a value that stands nowhere else is in front
 abbrev pub FreshHasFront : Type 0
 FreshHasFront = (ring : List ℕ) → IsFresh ring → HasFront (head_of ring) ring
 
--- the items that are a stay in front until the head moves; then the ring is good, and every item
--- but the head is a
+-- the items that equal `a` stay in front until the head moves; then the ring is good, and every
+-- item but the head equals `a`
 abbrev pub FrontStaysOrTurnsGood : Type 0
 FrontStaysOrTurnsGood =
     (q a moves : ℕ) (old new : List ℕ) → Step q moves old new → HasFront a old
     → ((moves ≡ 0) × HasFront a new)
     ⊎ ((moves ≡ 1) × IsGood q new × AllByRecursion (λ x. x ≡ a) (tail_of new))
 
--- if the head makes as many moves as there were items, at most q, it holds before the last of
--- them a value that stands nowhere else when the head first holds it
+-- if the head makes as many moves as there were items, and there were at most q, then before the
+-- last of these moves it holds a value that stands nowhere else when the head first holds it
 abbrev pub SomeValueIsFresh : Type 0
 SomeValueIsFresh =
     (q n : ℕ) (ring : ℕ → List ℕ) (moves : ℕ → ℕ) → IsHistory q n ring moves → IsRing q (ring 0)
     → length (ring 0) ≤ q
     → length (ring 0) ≤ moves_until moves n → (k : ℕ) × (k ≤ n) × IsFreshMoment ring moves k
 
--- the moves before a moment are the first and those that follow it
+-- the head moves up to moment n + 1 are those of the first step and those of the n steps after it
 abbrev pub MovesFromFirst : Type 0
 MovesFromFirst =
     (moves : ℕ → ℕ) (n : ℕ)
@@ -62,7 +62,7 @@ TurnsGood =
     → length (ring 0) ≤ q
     → length (ring 0) ≤ moves_until moves n → IsGood q (ring n)
 
--- the same of a run
+-- the same for a run
 abbrev pub RunTurnsGood : Type 0
 RunTurnsGood =
     (q moves : ℕ) (old new : List ℕ) → Run q moves old new → IsRing q old → length old ≤ q
@@ -112,24 +112,24 @@ PrivilegePasses =
 abbrev pub AgeOfStart : Type 0
 AgeOfStart = (q start : ℕ) → start < q → age q start start ≡ 0
 
--- values of one age are equal
+-- values of the same age are equal
 abbrev pub AgesDiffer : Type 0
 AgesDiffer = (q start x y : ℕ) → x < q → y < q → age q start x ≡ age q start y → x ≡ y
 
--- the next value is one move further, while there is a further one
+-- the next value's age is greater by one, if that is below q
 abbrev pub AgeGoesOn : Type 0
 AgeGoesOn =
     (q start x : ℕ) → age q start x + 1 < q → age q start (root_moved x q) ≡ age q start x + 1
 
--- ages that fall along a ring fall along it after every run, as long as the head's own counts its
--- moves
+-- ages that fall along a ring still fall along it after every run, if the head's own age and the
+-- run's head moves add up to less than q; then the head's own age has grown by these moves
 abbrev pub AgesStay : Type 0
 AgesStay =
     (q start moves : ℕ) (old new : List ℕ) → Run q moves old new → HasFallingAges q start old
     → age q start (head_of old) + moves < q
     → HasFallingAges q start new × (age q start (head_of new) ≡ age q start (head_of old) + moves)
 
--- if ages fall along a ring, the items that equal its head stand in front
+-- if ages fall along a ring, the items that equal its head are in front
 abbrev pub FallingHasFront : Type 0
 FallingHasFront =
     (q start : ℕ) (ring : List ℕ) → IsRing q ring → HasFallingAges q start ring

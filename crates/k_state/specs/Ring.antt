@@ -23,8 +23,8 @@ abbrev pub but_last : ℕ → List ℕ → List ℕ
 but_last x [] = []
 but_last x (y ∷ ys) = x ∷ but_last y ys
 
--- if the last item equals the head, the head goes on to the next value; the last item, if
--- another than the head, may go
+-- if the last item equals the head, the head goes on to the next value; the last item, unless it is
+-- the head itself, may then go
 pub data HeadMove (q : ℕ) : List ℕ → List ℕ → Type 0 where
   Moved : {x : ℕ} {xs : List ℕ} → last_of x xs ≡ x → HeadMove q (x ∷ xs) (root_moved x q ∷ xs)
   Dropped : {x y : ℕ} {ys : List ℕ} → last_of y ys ≡ x
@@ -77,7 +77,7 @@ IsGood q ring = IsFrontThen (λ x. x ≡ head_of ring) (λ x. root_moved x q ≡
 abbrev pub IsFresh : List ℕ → Type 0
 IsFresh ring = AllByRecursion (λ x. x ≢ head_of ring) (tail_of ring)
 
--- the head is a, and all items that are a stand in front of all that are not
+-- the head equals `a`, and all items that equal `a` are in front of all that do not
 abbrev pub HasFront : ℕ → List ℕ → Type 0
 HasFront a ring = (head_of ring ≡ a) × IsFrontThen (λ x. x ≡ a) (λ x. x ≢ a) ring
 
@@ -108,14 +108,14 @@ pub data Turn (q : ℕ) : ℕ → List ℕ → List ℕ → Type 0 where
   Goes_on : {x : ℕ} {xs : List ℕ} → last_of x xs ≡ x
       → Turn q (suc zero) (x ∷ xs) (root_moved x q ∷ xs)
 
--- the item at place i after `left` sees another value before it
+-- the item at place i after `left` sees a different value before it
 abbrev pub sees_another : ℕ → List ℕ → ℕ → Bool
 sees_another left [] i = false
 sees_another left (x ∷ xs) zero = is_privileged false x left
 sees_another left (x ∷ xs) (suc i) = sees_another x xs i
 
--- the item at place i is privileged: the head if the last item has its value, every other if
--- the item before it has another
+-- the item at place i is privileged: the head if the last item has its value, every other if the
+-- item before it has a different one
 abbrev pub is_privileged_at : List ℕ → ℕ → Bool
 is_privileged_at [] i = false
 is_privileged_at (x ∷ xs) zero = is_privileged true x (last_of x xs)

@@ -18,8 +18,8 @@ pub fn stays_good()
 /// A head value that stands nowhere else: it is in front, stays in front until the head moves, and
 /// then the ring is good. Among the values that the head holds up to the last of as many moves as
 /// there were items, one is such a value. A link needs the moment itself: no frame carries that
-/// number. And it counts moves along its events from the first one on, so that it needs them so
-/// here too.
+/// number. It counts moves along its events from the first one on, so it needs them counted like
+/// that here too.
 pub fn fresh_value()
     ensures below { RingStays }
     ensures front { FreshHasFront }
@@ -35,8 +35,8 @@ pub fn turns_good()
     ensures run_turns_good { RunTurnsGood }
 {}
 
-/// Many machines that copy at once are changes one after the other, from the right to the left: so
-/// one call that moves several machines is a run, and runs join.
+/// Many machines that copy at once are the same as changes one after the other, from right to left.
+/// So one call that moves several machines is a run, and runs join.
 pub fn parallel_copies()
     ensures is_run { ParallelIsRun }
     ensures step_is_run { StepIsRun }
@@ -51,10 +51,10 @@ pub fn privilege()
     ensures passes { PrivilegePasses }
 {}
 
-/// Ages since a moment: how many moves lead from the head's value then to an item's. If each
-/// item is a copy of what the head held since, ages fall along the ring, and go on to do so; the
-/// items that equal the head stand in front, and its next move makes the ring good, however few its
-/// moves were. What fewer moves than items bring about needs it.
+/// Ages since a moment: how many moves lead from the head's value then to an item's. If each item
+/// is a copy of what the head held since, ages fall along the ring, and go on to do so; the items
+/// that equal the head are in front, and its next move makes the ring good, however few its moves
+/// were. Proofs about fewer moves than items need this.
 pub fn ages()
     ensures start { AgeOfStart }
     ensures apart { AgesDiffer }

@@ -6,8 +6,8 @@
 //! value equals its own. The laws say that such a ring becomes *good* (some items `a`, then only
 //! `a - 1`) after as many head moves as it had items, if these are no more than the modulus.
 //!
-//! This is not a ring of machines that runs: a caller has its values where it likes (the numbers of
-//! a link, the machines of a tree) and shows that what happens to them is a list of changes.
+//! This is not a ring of machines that runs: a caller keeps its values where it likes (the numbers
+//! of a link, the machines of a tree) and shows that what happens to them is a list of changes.
 //!
 //! The trap: a good ring needs as many values to count with as it has *places*. Values on their way
 //! between two machines are places too.

@@ -18,7 +18,7 @@ pub fn copy_move(_x: u16, before: u16) -> u16
 }
 
 /// Whether a machine may move: `before` is the value that it sees before it. The special machine
-/// may if that is its own value, every other if it is another one.
+/// may if that is its own value, every other machine if it is a different one.
 pub fn privileged(special: bool, x: u16, before: u16) -> bool
     ensures { result ≡ is_privileged special x before }
 {

@@ -14,7 +14,7 @@ use Rattle.layers.specs.declared.whole.Layers.{Layers}
 abbrev pub AreLoansPrivileged : World → Type 0
 AreLoansPrivileged w = (v : ℕ) → v < w.net.nodes → IsTrue (is_lending w v) → IsTrue (is_privileged w v)
 
--- Each layer stands exactly if it is said to: how many of the links are stable, which stage the
+-- Each layer holds exactly if it is said to hold: how many of the links are stable, which stage the
 -- distances are at, whether the tree is reached, the token ring good, each loan privileged, and the
 -- world legitimate.
 pub record AreLayersOf (w : World) (layers : Layers) : Type 0 where

@@ -19,18 +19,19 @@ links_of net = flat_map (links_from net) (range_with_len 0 net.nodes)
 abbrev pub IsLinkStable : World → ℕ × ℕ → Type 0
 IsLinkStable w link = IsStable w.net.capacity (edge_of w link.0 link.1)
 
--- and so is each link that leads from a node
+-- each link that leads from a node is stable
 abbrev pub AreStableFrom : World → ℕ → Type 0
 AreStableFrom w u = (v : ℕ) → IsTrue (are_joined w.net.edges u v) → IsLinkStable w (u, v)
 
--- so many items of a list are such, and the others are not
+-- P holds of this many items of a list, and of no others
 pub data AreSuch {X : Type 0} (P : X → Type 0) : List X → ℕ → Type 0 where
   Nothing_left : AreSuch P [] zero
   One_more : {x : X} {xs : List X} {n : ℕ} → P x → AreSuch P xs n → AreSuch P (x ∷ xs) (suc n)
   Not_this : {x : X} {xs : List X} {n : ℕ} → (P x → ⊥) → AreSuch P xs n → AreSuch P (x ∷ xs) n
 
--- The payloads of a stable link: there is one other payload such that each frame on its way out, and
--- far's copy, is what near has staged if it came with near's number, and that other payload else.
+-- The payloads of a stable link: there is one other payload such that each frame on its way out,
+-- and far's copy, is what near has staged if it came with near's number, and otherwise that other
+-- payload.
 abbrev pub CarriesPayloads : EdgeState → Type 0
 CarriesPayloads s =
     (other : Payload) × AllByRecursion (CarriesItsPayload s.near other) s.out

@@ -1,4 +1,4 @@
--- What the payloads that are read of a link leave open.
+-- What the payloads of a link that have been read leave open.
 use Rattle.std.specs.Prelude.{◌≡◌, IsTrue, Option, Some, None}
 use Rattle.topology.specs.declared.frame.Payload.{Payload}
 use Rattle.layers.specs.declared.payload_reading.PayloadReading.{PayloadReading}
@@ -8,6 +8,6 @@ abbrev pub IsAlso : Option Payload → Payload → Type 0
 IsAlso None payload = Unit {0}
 IsAlso (Some read) payload = read ≡ payload
 
--- this may be the payload of all numbers but the sender's, by what is read
+-- this may be the payload of all numbers but the sender's, by what has been read
 abbrev pub Admits : PayloadReading → Payload → Type 0
 Admits reading other = IsTrue reading.fits × IsAlso reading.other other

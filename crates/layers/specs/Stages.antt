@@ -13,17 +13,17 @@ IsLinkAtStage k w v u =
     IsTrue (is_of_stage k (distance_of w.net v) ((w.node v).port u).staged.distance)
     × IsTrue (is_of_stage k (distance_of w.net v) ((w.node u).port v).copy.distance)
 
--- and so for each neighbour
+-- and so it is for each neighbour
 abbrev pub AreLinksAtStage : ℕ → World → ℕ → Type 0
 AreLinksAtStage k w v = (u : ℕ) → IsTrue (are_joined w.net.edges v u) → IsLinkAtStage k w v u
 
--- and so is its own distance
+-- and so is v's own distance
 abbrev pub IsNodeAtStage : ℕ → World → ℕ → Type 0
 IsNodeAtStage k w v =
     IsTrue (is_of_stage k (distance_of w.net v) (w.node v).distance) × AreLinksAtStage k w v
 
 -- The tree is at this stage and at no greater one, up to one more than the greatest distance: at
--- that stage each distance is exact, and so it is at all greater ones.
+-- that stage each distance is exact, and so it is at all greater stages.
 pub record IsStageOf (w : World) (k : ℕ) : Type 0 where
   pub reached : IsTreeAtStage k w
   pub within : k ≤ eccentricity_of w.net + 1
@@ -33,11 +33,11 @@ pub record IsStageOf (w : World) (k : ℕ) : Type 0 where
 abbrev pub IsLinkTrue : World → ℕ → ℕ → Type 0
 IsLinkTrue w v u = IsTrueOf w v ((w.node v).port u).staged × IsTrueOf w v ((w.node u).port v).copy
 
--- and so for each neighbour
+-- and so it is for each neighbour
 abbrev pub AreLinksTrue : World → ℕ → Type 0
 AreLinksTrue w v = (u : ℕ) → IsTrue (are_joined w.net.edges v u) → IsLinkTrue w v u
 
--- and so does the node
+-- and so does the node itself
 abbrev pub IsNodeTrue : World → ℕ → Type 0
 IsNodeTrue w v =
     ((w.node v).distance ≡ distance_of w.net v) × ((w.node v).parent ≡ parent_of w.net v)

@@ -10,11 +10,11 @@ use Rattle.layers.specs.declared.tour.TourStop.{TourStop}
 abbrev pub stop_of : TourStop → Stop
 stop_of stop = (stop.from, stop.here)
 
--- a stop comes to a node, from another one, along an edge of the true tree
+-- a stop comes to a node, from another node, along an edge of the true tree
 abbrev pub IsOnTree : Network → Stop → Type 0
 IsOnTree net stop = (stop.0 < net.nodes) × (stop.1 < net.nodes) × IsTrue (is_on (true_neighbours net stop.1) stop.0)
 
--- From this stop on the tour goes along these stops, and after the last of them it is at its end.
+-- From this stop on, the tour goes along these stops, and after the last of them it is at `end`.
 abbrev pub GoesRound : Network → Stop → Stop → List Stop → Type 0
 GoesRound net stop end [] = stop ≡ end
 GoesRound net stop end (next ∷ stops) = (stop ≡ next) × GoesRound net (stop_after net stop) end stops

@@ -1,9 +1,9 @@
-//! What has settled of a network: the layers of the proof, one above the other.
+//! What has settled in a network: the layers of the proof, one above the other.
 //!
-//! From any state a network comes to serve layer by layer: its links become stable, then the
-//! distances right, stage by stage, then the tree of distances and parents is reached, then the
-//! token ring is good, and last each loan has the privilege. [`Layers::of`] looks at a
-//! configuration and says which of them stand, each by its definition in the proof.
+//! From any state a network comes to serve layer by layer: first its links become stable, then the
+//! distances become right, stage by stage, then the tree of distances and parents is reached, then
+//! the token ring becomes good, and last each loan has the privilege. [`Layers::of`] looks at a
+//! configuration and says which of the layers hold, each by its definition in the proof.
 //!
 //! ```
 //! let layers = Layers::of(&configuration);
@@ -12,15 +12,15 @@
 //! }
 //! ```
 //!
-//! [`are_links_stable`], [`is_tree_reached`], [`is_token_ring_good`] and [`are_loans_privileged`] ask
-//! for one layer, and look no further than the first thing that is wrong.
+//! [`are_links_stable`], [`is_tree_reached`], [`is_token_ring_good`] and [`are_loans_privileged`]
+//! ask about one layer, and look no further than the first thing that is wrong.
 //!
 //! [`first_stop`] and [`next_stop`] go along the Euler tour of the true tree, which the token ring follows.
 //!
 //! Nothing is changed, and no memory is taken.
 //!
-//! The traps: a layer may stand by chance before the one below it does, and then it need not stay;
-//! and a network may serve while it is not legitimate.
+//! The traps: a layer may hold by chance before the one below it does, and then it need not go on
+//! holding; and a network may serve while it is not legitimate.
 #![tactic(auto)]
 
 mod items;

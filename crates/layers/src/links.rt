@@ -16,7 +16,7 @@ use configuration::Configuration;
 use std::alloc::Allocator;
 use topology::{Net, laws as topology_laws};
 
-/// How many links there are, both directions of an edge being one each.
+/// How many links there are; each direction of an edge is one.
 pub fn link_count<A: Allocator + Copy>(net: &Net<A>) -> usize
     ensures { result ≡ length (links_of net.now) }
 {
@@ -95,7 +95,7 @@ fn is_stable<A: Allocator + Copy>(configuration: &Configuration<A>, from: u16, t
     is_ring_good(configuration, from, to) && carries_payloads(configuration, from, to)
 }
 
-/// Whether the numbers along a link are one value, and then the one before it.
+/// Whether the numbers along a link are first all one value, and then all the value before that.
 fn is_ring_good<A: Allocator + Copy>(configuration: &Configuration<A>, from: u16, to: u16) -> bool
     requires from_in { from < (world_of configuration.now).net.nodes }
     requires to_in { to < (world_of configuration.now).net.nodes }

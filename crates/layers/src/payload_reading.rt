@@ -7,7 +7,7 @@ ghost use Rattle.layers.specs.PayloadReading.{Admits};
 
 use topology::Payload;
 
-/// What is kept of the payloads of a link, of which some are read.
+/// What is remembered of the payloads of a link, some of which have been read.
 #[derive(Clone, Copy)]
 pub struct PayloadReading {
     /// The sender's number.
@@ -16,12 +16,12 @@ pub struct PayloadReading {
     pub staged: Payload,
     /// The payload of all other numbers, if one of them was read.
     pub other: Option<Payload>,
-    /// Whether each came with the payload of its number.
+    /// Whether each number that was read came with its own payload.
     pub fits: bool,
 }
 
 impl PayloadReading {
-    /// The reading of a link of which nothing is read yet.
+    /// The reading of a link of which nothing has been read.
     pub fn new(seq: u16, staged: Payload) -> PayloadReading
         ensures seq { result.seq ≡ seq }
         ensures staged { result.staged ≡ staged }
@@ -35,7 +35,7 @@ impl PayloadReading {
         }
     }
 
-    /// The reading after one payload more, which came with this number.
+    /// The reading after one more payload, which came with this number.
     pub fn after(self, number: u16, payload: Payload) -> PayloadReading
         ensures seq { result.seq ≡ self.seq }
         ensures staged { result.staged ≡ self.staged }
@@ -56,7 +56,8 @@ impl PayloadReading {
         }
     }
 
-    /// Whether there is a payload for the other numbers, so that each came with that of its number.
+    /// Whether there is a payload for all other numbers such that each number came with its own
+    /// payload.
     pub fn is_good(self) -> bool
         ensures { IsTrue result ↔ ((other : Payload) × Admits self other) }
     {

@@ -4,30 +4,30 @@ ghost use Rattle.k_state.specs.Machine.{root_moved};
 ghost use Rattle.k_state.specs.Ring.{IsGood, head_of};
 ghost use Rattle.layers.specs.RingReading.{MayFollow};
 
-/// In which part of a good ring the values are that come next.
+/// Which part of a good ring the values that come next are in.
 #[derive(Clone, Copy)]
 pub enum Part {
     /// So far all equal the head.
     Front,
     /// After those that equal the head, all are one less.
     Rest,
-    /// There was another value, so the ring is not good.
+    /// There was a different value, so the ring is not good.
     Broken,
 }
 
-/// What is kept of a ring that is read value by value, from its head on.
+/// What is remembered of a ring that is read value by value, from its head on.
 #[derive(Clone, Copy)]
 pub struct RingReading {
     /// The head's value.
     pub head: u16,
     /// The values are below this.
     pub modulus: u16,
-    /// The part of the ring that was come to.
+    /// The part of the ring that was reached.
     pub part: Part,
 }
 
 impl RingReading {
-    /// The reading of a ring with this head, of which nothing is read yet.
+    /// The reading of a ring with this head, of which nothing has been read.
     pub fn new(head: u16, modulus: u16) -> RingReading
         ensures modulus { result.modulus ≡ modulus }
         ensures follows { (ring : List ℕ) → head_of ring ≡ head
@@ -40,7 +40,7 @@ impl RingReading {
         }
     }
 
-    /// The reading after one value more.
+    /// The reading after one more value.
     pub fn after(self, value: u16) -> RingReading
         requires { 0 < self.modulus }
         ensures modulus { result.modulus ≡ self.modulus }
@@ -52,7 +52,7 @@ impl RingReading {
         }
     }
 
-    /// Whether the ring is good if nothing more comes.
+    /// Whether the ring is good if no more values come.
     pub fn is_good(self) -> bool
         ensures { IsTrue result ↔ MayFollow self [] }
     {
@@ -60,7 +60,7 @@ impl RingReading {
     }
 }
 
-/// The part that is come to by one value more.
+/// The part that is reached with one more value.
 fn part_after(reading: RingReading, value: u16) -> Part
     requires { 0 < reading.modulus }
     ensures { (rest : List ℕ) → MayFollow (record reading { part = result }) rest

@@ -9,7 +9,8 @@ use crate::tour::{first_stop, next_stop};
 use configuration::Configuration;
 use std::alloc::Allocator;
 
-/// Whether the values along the tour of the true tree are one value, and then the one before it.
+/// Whether the values along the tour of the true tree are first all one value, and then all the
+/// value before that.
 pub fn is_token_ring_good<A: Allocator + Copy>(configuration: &Configuration<A>) -> bool
     ensures { IsTrue result ↔ IsTokenRingGood (world_of configuration.now) }
 {

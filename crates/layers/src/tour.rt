@@ -21,7 +21,7 @@ pub struct TourStop {
 
 /// The stop at which the tour begins: from the root's smallest child to the root.
 pub fn first_stop<A: Allocator + Copy>(net: &Net<A>) -> TourStop
-    // From it the tour goes round to it again.
+    // From this stop the tour goes round, back to this stop.
     ensures round { GoesRound net.now (stop_of result) (first_stop net.now) (tour net.now) }
     ensures there { IsOnTree net.now (stop_of result) }
 {
@@ -32,7 +32,7 @@ pub fn first_stop<A: Allocator + Copy>(net: &Net<A>) -> TourStop
     TourStop { from, here: root }
 }
 
-/// The stop of the tour after another.
+/// The stop of the tour after this one.
 pub fn next_stop<A: Allocator + Copy>(net: &Net<A>, stop: TourStop) -> TourStop
     requires { IsOnTree net.now (stop_of stop) }
     ensures next { stop_of result ≡ stop_after net.now (stop_of stop) }

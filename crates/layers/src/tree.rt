@@ -1,4 +1,4 @@
-//! How far the tree of distances and parents is right.
+//! Up to which stage the tree of distances and parents is right.
 ghost use Rattle.std.specs.Prelude.{◌≡◌, ◌↔◌, ◌<◌, ℕ, IsTrue};
 ghost use Rattle.topology.specs.Network.{are_joined};
 ghost use Rattle.topology.specs.Tree.{distance_of, parent_of};
@@ -98,7 +98,7 @@ fn is_link_at_stage<A: Allocator + Copy>(
     is_of_stage(stage, distance, staged.distance) && is_of_stage(stage, distance, copy.distance)
 }
 
-/// Whether a distance is of a stage that is written for a node at this distance.
+/// Whether the distance that is written for a node at this distance is of a stage.
 fn is_of_stage(stage: u16, distance: u16, written: u16) -> bool
     ensures { result ≡ is_of_stage stage distance written }
 {
@@ -109,8 +109,8 @@ fn is_of_stage(stage: u16, distance: u16, written: u16) -> bool
     }
 }
 
-/// Whether every node, and all that is staged and copied, shows the true distance and the true
-/// parent.
+/// Whether every node, and everything that is staged and copied, shows the true distance and the
+/// true parent.
 pub fn is_tree_reached<A: Allocator + Copy>(configuration: &Configuration<A>) -> bool
     ensures { IsTrue result ↔ IsTreeReached (world_of configuration.now) }
 {
@@ -123,7 +123,8 @@ pub fn is_tree_reached<A: Allocator + Copy>(configuration: &Configuration<A>) ->
     true
 }
 
-/// Whether a node, and all that is staged and copied of it, shows its true distance and parent.
+/// Whether a node, and everything that is staged and copied of it, shows its true distance and
+/// parent.
 fn is_node_true<A: Allocator + Copy>(configuration: &Configuration<A>, v: u16) -> bool
     requires { v < (world_of configuration.now).net.nodes }
     ensures { IsTrue result ↔ IsNodeTrue (world_of configuration.now) v }

@@ -12,7 +12,7 @@ use configuration::Configuration;
 use std::alloc::Allocator;
 use topology::laws as topology_laws;
 
-/// What has settled of a network at one moment.
+/// What has settled in a network at one moment.
 #[derive(Clone, Copy, Debug)]
 pub struct Layers {
     /// How many links there are; an edge is one in each direction.
@@ -34,7 +34,7 @@ pub struct Layers {
 }
 
 impl Layers {
-    /// What has settled of a network. It looks at every node and at all that is under way.
+    /// What has settled in a network. It looks at every node and at everything that is under way.
     pub fn of<A: Allocator + Copy>(configuration: &Configuration<A>) -> Layers
         ensures { AreLayersOf (world_of configuration.now) result }
     {

@@ -18,21 +18,21 @@ pub record AreReadAgain : Type 0 where
   pub row : (ns rest : List ℕ) → AreWide ns
       → numbers_at (length ns) (in_a_row ns ++ rest) ≡ Ok (ns, rest)
 
--- if the bytes are cut in front of their end, they are short
+-- if the bytes are cut before their end, they are short
 pub record CutAreShort : Type 0 where
   pub one : (n : ℕ) (front : List ℕ) (b : ℕ) (back : List ℕ) → leb128 n ≡ front ++ b ∷ back
       → number_at front ≡ Err Short
   pub row : (ns front : List ℕ) (b : ℕ) (back : List ℕ) → AreWide ns
       → in_a_row ns ≡ front ++ b ∷ back → numbers_at (length ns) front ≡ Err Short
 
--- these numbers, as many as that, were spelled in front of the rest
+-- these numbers, `count` of them, were spelled in front of the rest
 pub record AreSpelled (count : ℕ) (bytes ns rest : List ℕ) : Type 0 where
   pub parts : bytes ≡ in_a_row ns ++ rest
   pub count_is : length ns ≡ count
   pub wide : AreWide ns
   pub bytes_left : AreBytes rest
 
--- what is read was spelled so
+-- what is read was spelled like this
 pub record WhatIsReadIsSpelled : Type 0 where
   pub one : (bytes : List ℕ) (n : ℕ) (rest : List ℕ) → AreBytes bytes
       → number_at bytes ≡ Ok (n, rest)

@@ -1,17 +1,18 @@
--- Reading from the front of bytes of which more may follow, as whoever holds a page of them does.
+-- Reading from the front of bytes that more may follow, as a reader that holds a page of them does.
 use Rattle.std.specs.Prelude.{◌≡◌, ℕ, ◌*◌, ◌<◌, ◌≤◌, List, ◌++◌, length, Result, Ok, Err}
 use Rattle.leb128.specs.declared.unread.Unread.{Unread}
 use Rattle.leb128.specs.declared.unread.Unread.TheVariants.{Short, Invalid}
 use Rattle.leb128.specs.Reading.{number_at, numbers_at}
 
--- The first is what is read of some bytes, the second what is read if more follow: the same, and then
--- those are left too. Only bytes that were short may be read in another way.
+-- The first is what is read from some bytes, the second what is read if more follow: the same, and
+-- then those are left too. Only bytes that were short may be read differently.
 abbrev pub IsKept : {X : Type 0} → List ℕ → Result (X × List ℕ) Unread → Result (X × List ℕ) Unread → Type 0
 IsKept more (Ok x) longer = longer ≡ Ok (x.0, x.1 ++ more)
 IsKept more (Err Short) longer = Unit {0}
 IsKept more (Err Invalid) longer = longer ≡ Err Invalid
 
--- what is read of some bytes takes at most so many of them, those in front, and only fewer are short
+-- what is read from some bytes takes at most `most` of them, those in front; and only fewer than
+-- `most` bytes are short
 abbrev pub IsOfAtMost : {X : Type 0} → ℕ → List ℕ → Result (X × List ℕ) Unread → Type 0
 IsOfAtMost most bytes (Ok x) =
     (front : List ℕ) × (bytes ≡ front ++ x.1) × (length front ≤ most)

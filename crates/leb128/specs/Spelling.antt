@@ -3,7 +3,7 @@
 -- version 5, 2017, section 7.6 (unsigned LEB128).
 use Rattle.std.specs.Prelude.{ℕ, zero, suc, ◌+◌, ◌/◌, ◌%◌, nat_lt, if◌then◌else◌, List, [], ◌∷◌, flat_map}
 
--- a number in at most `more` bytes and one
+-- a number in at most `more` + 1 bytes
 abbrev pub leb128_in : ℕ → ℕ → List ℕ
 leb128_in zero n = n ∷ []
 leb128_in (suc more) n =

@@ -7,8 +7,8 @@
 //! ```
 //!
 //! Each number below 2^64 is spelled in one way, in at most ten bytes. What was written is read
-//! again, whatever follows; a front of it is `Short`; and what LEB128 spells more shortly, as 128
-//! and 0 for 0, is `Invalid`.
+//! again, whatever follows; a front of it is `Short`; and what LEB128 spells more shortly, such as
+//! 128 and 0 for 0, is `Invalid`.
 //!
 //! Source: DWARF Debugging Information Format, version 5, 2017, section 7.6 (unsigned LEB128).
 //!

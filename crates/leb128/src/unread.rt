@@ -1,10 +1,10 @@
 //! Why nothing was read.
 
-/// Why nothing stands at the front of some bytes.
+/// Why nothing is read from the front of some bytes.
 #[derive(Clone, Copy, Debug, PartialEq, Eq)]
 pub enum Unread {
-    /// The bytes end within it, or there are none.
+    /// The bytes end within what they begin, or there are none.
     Short,
-    /// Nothing begins so.
+    /// Nothing begins like this.
     Invalid,
 }

@@ -5,7 +5,7 @@ use Rattle.std.specs.Option.{option_and_then}
 abbrev pub Word : Type 0
 Word = List ℕ
 
--- the byte that parts words
+-- the byte that separates words
 abbrev pub is_space : ℕ → Bool
 is_space byte = byte == 32
 
@@ -14,7 +14,7 @@ abbrev pub onto_first : ℕ → List Word → List Word
 onto_first byte [] = (byte ∷ []) ∷ []
 onto_first byte (word ∷ words) = (byte ∷ word) ∷ words
 
--- the words of a line: what stands between its spaces, so that two spaces have an empty word
+-- the words of a line: what is between its spaces, so two spaces in a row have an empty word
 -- between them
 abbrev pub words : List ℕ → List Word
 words [] = [] ∷ []

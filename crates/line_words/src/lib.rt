@@ -1,7 +1,7 @@
 //! The words of a line, and the numbers that they spell.
 //!
-//! Words are parted by exactly one space, so two spaces have an empty word between them. A number is
-//! decimal, with no sign and no leading zero; so each number has one spelling.
+//! Words are separated by exactly one space, so two spaces in a row have an empty word between them.
+//! A number is decimal, with no sign and no leading zero; so each number has one spelling.
 //!
 //! ```
 //! let mut words = Words::of(b"ask 1 7");

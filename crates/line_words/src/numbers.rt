@@ -12,7 +12,8 @@ pub fn number(word: &[u8]) -> Option<u16>
     digits_up_to(word, u32::from(u16::MAX)).map(|number| number as u16)
 }
 
-/// The number that decimal digits spell, at least one of them, if it is at most `most`. Zeros may stand in front.
+/// The number that decimal digits spell, at least one of them, if it is at most `most`. It may have leading
+/// zeros.
 pub fn digits_up_to(digits: &[u8], most: u32) -> Option<u32>
     ensures number { result ≡ digits_up_to most digits.now }
     ensures within { IfSome result (λ number. number ≤ most) }
@@ -44,7 +45,7 @@ pub fn number_or_none(word: &[u8]) -> Option<Option<u16>>
     }
 }
 
-/// Whether a word says `yes` or `no`.
+/// Whether a word is `yes`; none if it is neither `yes` nor `no`.
 pub fn yes_or_no(word: &[u8]) -> Option<bool>
     ensures { result ≡ yes_or_no word.now }
 {

@@ -7,7 +7,7 @@ ghost use Rattle.line_words.specs.Numbers.{number, number_or_none, yes_or_no};
 use crate::numbers::{number, number_or_none, yes_or_no};
 use std::marker::Model;
 
-/// The words of a line that are still to be read, parted by single spaces.
+/// The words of a line that are still to be read, separated by single spaces.
 #[derive(Drop)]
 pub struct Words<'a> {
     /// The rest of the line from its next word on; none if no word is left.
@@ -78,7 +78,7 @@ impl<'a> Words<'a> {
     }
 }
 
-/// How many bytes stand in front of the first space.
+/// How many bytes come before the first space; all if there is none.
 fn word_len(line: &[u8]) -> usize
     ensures len { result ≡ word_len line.now }
     ensures within { result ≤ length line.now }

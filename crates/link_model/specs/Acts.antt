@@ -10,7 +10,7 @@ pub data LinkAct : Type 0 where
   Loses : (i : ℕ) → LinkAct
   Rests : LinkAct
 
--- an item goes last if there is room, and else it is lost
+-- an item goes last if there is room, else it is lost
 abbrev pub put_last : {X : Type 0} → ℕ → List X → X → List X
 put_last capacity items x = if nat_lt (length items) capacity then items ++ x ∷ [] else items
 
@@ -22,8 +22,8 @@ list_after capacity x Takes items = drop 1 items
 list_after capacity x (Loses i) items = remove items i
 list_after capacity x Rests items = items
 
--- where an item comes from: it stood on the link before the stretch, or the stretch's event with
--- this number sent it
+-- where an item comes from: it was on the link before the stretch, or the stretch's event with this
+-- number sent it
 pub data Origin : Type 0 where
   Before : Origin
   Sent : (event : ℕ) → Origin
@@ -39,7 +39,7 @@ takes_sent Takes origins = is_first_sent origins
 takes_sent _ origins = false
 
 -- Some act of the rest of a stretch, whose first event has the number i, takes an item that was
--- sent inside it. Beside each item stands its origin.
+-- sent inside it. Each item has its origin beside it.
 abbrev pub hands_over_sent : ℕ → ℕ → List LinkAct → List Origin → Bool
 hands_over_sent capacity i [] origins = false
 hands_over_sent capacity i (act ∷ acts) origins =

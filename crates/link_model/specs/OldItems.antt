@@ -1,4 +1,4 @@
--- The items that stood on a link before a stretch: what must be kept of them to say, act by act,
+-- The items that were on a link before a stretch: what must be kept of them to say, act by act,
 -- when the stretch renews the link.
 use Rattle.std.specs.Prelude.{ℕ, ◌-◌, Bool, false, ◌==◌, ◌&&◌, if◌then◌else◌, nat_lt, suc, List, [], ◌∷◌}
 use Rattle.link_model.specs.Acts.{LinkAct, Takes, Loses, Origin, Before, Sent, list_after}

@@ -2,7 +2,7 @@
 
 use topology::Frame;
 
-/// What stands on a link.
+/// What is on a link.
 #[derive(Clone, Copy, Debug, PartialEq, Eq)]
 pub enum Item {
     /// A frame as a neighbour sent it, or as a fault wrote it.

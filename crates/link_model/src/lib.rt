@@ -2,7 +2,7 @@
 //!
 //! A link keeps the order of its items. It may lose any of them (`lose`), and a fault may put noise
 //! among them, but it neither copies an item nor lets one overtake another. It is a list with a
-//! limit, and no channel between threads: one owner puts and takes.
+//! limit, not a channel between threads: one owner both puts and takes.
 //!
 //! ```
 //! let mut link = Link::new(alloc, 2)?;

@@ -28,8 +28,8 @@ impl<A: Allocator> Model for Link<A> {
 }
 
 impl<A: Allocator> Link<A> {
-    /// An empty link. It reserves all its places here, and answers `AllocError` only if that
-    /// memory is refused.
+    /// An empty link. It reserves all its places here, and returns `AllocError` only if that memory
+    /// is refused.
     pub fn new(alloc: A, capacity: usize) -> Result<Link<A>, AllocError>
         ensures { IfOk result (λ l. l ≡ link capacity []) }
     {
@@ -38,7 +38,7 @@ impl<A: Allocator> Link<A> {
         })
     }
 
-    /// The greatest number of items that may stand.
+    /// The greatest number of items that the link may hold.
     pub fn capacity(&self) -> usize
         ensures capacity { result ≡ self.now.capacity }
         ensures within { length self.now.items ≤ result }
@@ -46,7 +46,7 @@ impl<A: Allocator> Link<A> {
         self.items.capacity()
     }
 
-    /// The number of items that stand.
+    /// The number of items on the link.
     pub fn len(&self) -> usize
         ensures len { result ≡ length self.now.items }
         ensures within { result ≤ self.now.capacity }
@@ -54,14 +54,14 @@ impl<A: Allocator> Link<A> {
         self.items.len()
     }
 
-    /// Whether no item stands.
+    /// Whether no item is on the link.
     pub fn is_empty(&self) -> bool
         ensures { result ≡ (length self.now.items == 0) }
     {
         self.items.is_empty()
     }
 
-    /// Whether as many items stand as may.
+    /// Whether the link holds as many items as it may.
     pub fn is_full(&self) -> bool
         ensures { result ≡ (length self.now.items == self.now.capacity) }
     {
@@ -81,7 +81,7 @@ impl<A: Allocator> Link<A> {
 
     /// Puts an item last. A full link stays as it is: the item is dropped, and none is overwritten.
     pub fn put(&mut self, item: Item) -> Result<(), Full>
-        // A full link refuses, and no other does.
+        // A full link refuses the item, and no other link does.
         ensures variant { IsOk result ↔ (length self.old.items < self.old.capacity) }
         ensures ok { OnOk result (self.new ≡ link self.old.capacity (self.old.items ++ item ∷ [])) }
         ensures full { OnErr result (self.new ≡ self.old) }
@@ -94,7 +94,7 @@ impl<A: Allocator> Link<A> {
 
     /// Takes the oldest item.
     pub fn take(&mut self) -> Option<Item>
-        // The item stood in front of all that are left.
+        // The item was in front of all that are left.
         ensures some { IfSome result (λ item. self.old
             ≡ link self.new.capacity (item ∷ self.new.items)) }
         ensures none { IfNone result ((self.old.items ≡ []) × (self.new ≡ self.old)) }
@@ -106,7 +106,7 @@ impl<A: Allocator> Link<A> {
     /// Each item is taken from the front once, and all but the lost one are put at the back again.
     ///
     /// # Errors
-    /// `NoItem` if no item stands at the index; then nothing has changed.
+    /// `NoItem` if there is no item at the index; then nothing has changed.
     pub fn lose(&mut self, index: usize) -> Result<(), NoItem>
         // There is an item to lose exactly if the index is below their number.
         ensures variant { IsOk result ↔ (index < length self.old.items) }

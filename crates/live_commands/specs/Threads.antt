@@ -34,6 +34,6 @@ refused (MemoryRefused _) = Memory
 refused (Spawn _) = Threads
 
 -- what they did, or what it led to, is not written: memory ran out, or the file or standard output
--- failed, or nobody reads on there
+-- failed, or standard output has no reader any more
 abbrev pub IsUnwritten : Fault → Type 0
 IsUnwritten fault = (fault ≡ Memory) ⊎ ((fault ≡ EventsUnwritable) ⊎ IsUntaken fault)

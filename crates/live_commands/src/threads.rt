@@ -35,7 +35,7 @@ use topology::Net;
 /// error shows the progress.
 ///
 /// # Errors
-/// If no network is read of the file, memory runs out, a thread is refused, the events cannot be
+/// If no network is read from the file, memory runs out, a thread is refused, the events cannot be
 /// written, or standard output does not take the text: the first of these that is met.
 pub fn run<R: Files + Clock + Print + Eprint + Threads + Wait + Sync + AllocGlobal>(
     rt: &R,
@@ -113,7 +113,7 @@ fn run_nodes<R: Threads + Wait + Sync, G: Gate>(
     }
 }
 
-/// What was refused.
+/// The program's fault for what was refused.
 fn refused(fault: &RunFault) -> Fault
     ensures { result ≡ refused fault.now }
 {
@@ -157,9 +157,9 @@ fn write_events<W: Write + Drop>(events: &[Event], text: &mut EventText<W>) -> R
     }
 }
 
-/// Prints the state that the nodes have led to from a start.
+/// Prints the state to which the nodes have led from a start.
 ///
-/// What is unproved: that the text stands in standard output, which says nothing of its bytes.
+/// What is unproved: that the text reaches standard output, which does not show its bytes.
 fn print_state<R: Print + Eprint + AllocGlobal>(
     rt: &R,
     start: World,

@@ -10,7 +10,7 @@ use Rattle.lock_client.specs.declared.guard.GuardDeed.TheVariants.{Ask, Kill}
 use Rattle.lock_client.specs.declared.words.GuardWord.TheVariants as word
 use Rattle.lock_client.specs.Guards.{guard_after, guard_after_all, guard_deed, guard_deeds}
 
--- how many looks in a row have found nobody after these events, if so many had before them
+-- how many looks in a row have found nobody after these events, if `quiet` had before them
 abbrev pub quiet_looks : ℕ → List GuardEvent → ℕ
 quiet_looks quiet [] = quiet
 quiet_looks quiet (Looked sight ∷ es) = quiet_looks (if sight.somebody then 0 else quiet + 1) es
@@ -52,7 +52,7 @@ abbrev pub KillsAfterAsking : Type 0
 KillsAfterAsking =
     (keeps : Bool) (events : List GuardEvent) → AsksFirst (guard_deeds keeps Idle events)
 
--- a command that may run on, or has had the signal that ended the client, is never asked
+-- a command that may run on, or has had the signal that ended the client, is never asked to end
 pub record LeavesAlone : Type 0 where
   pub keeps : (events : List GuardEvent)
       → filter is_asking (guard_deeds true Idle events) ≡ []

@@ -11,7 +11,8 @@ use Rattle.lock_client.specs.declared.guard.GuardDeed.TheVariants.{Listen, Look,
 use Rattle.lock_client.specs.declared.words.GuardWord.TheVariants as word
 use Rattle.lock_client.specs.Courses.{after_all, deeds_of}
 
--- a guard that heard of no command releases the lock when its client is done or gone
+-- a guard to which no command was announced releases the lock when its client is done or gone; it
+-- watches once one is announced
 abbrev pub idle_after : GuardEvent → GuardStage
 idle_after (Said word.Start) = Watching
 idle_after (Said word.Done) = Over
@@ -28,8 +29,8 @@ watching_after _ = Watching
 abbrev pub unseen : ℕ → Option ℕ
 unseen quiet = if nat_lt quiet 3 then Some (quiet + 1) else None
 
--- how many looks in a row have found nobody after an event, if so many had before it; one that
--- finds somebody begins the count again
+-- how many looks in a row have found nobody after an event, if `quiet` had before it; a look that
+-- finds somebody starts the count again
 abbrev pub quiet_after : GuardEvent → ℕ → Option ℕ
 quiet_after (Looked sight) quiet = if sight.somebody then Some 0 else unseen quiet
 quiet_after _ quiet = Some quiet
@@ -40,7 +41,7 @@ killed_after event quiet = option_map_or Killed (quiet_after event quiet) Over
 abbrev pub waiting_after : GuardEvent → ℕ → GuardStage
 waiting_after event quiet = option_map_or Waiting (quiet_after event quiet) Over
 
--- a command that was asked is killed when its time is up
+-- a command that was asked to end is killed when its time is up
 abbrev pub asked_after : GuardEvent → ℕ → GuardStage
 asked_after GraceIsOver quiet = Killed 0
 asked_after event quiet = option_map_or Asked (quiet_after event quiet) Over
@@ -64,7 +65,7 @@ guard_after keeps event (Killed quiet) = killed_after event quiet
 guard_after keeps event (Waiting quiet) = waiting_after event quiet
 guard_after keeps event Over = Over
 
--- what to do at a stage, by the stage before it; whoever is still there is killed again
+-- what to do at a stage, by the stage before it; processes that are still there are killed again
 abbrev pub guard_deed : GuardStage → GuardStage → GuardDeed
 guard_deed _ Over = End
 guard_deed _ Idle = Listen
@@ -74,7 +75,7 @@ guard_deed _ (Killed zero) = Kill
 guard_deed _ _ = Look
 
 -- how many milliseconds it rests before a look; it looks less often for a command that is left to
--- end
+-- end, as long as its looks find somebody
 abbrev pub look_rest : GuardStage → ℕ
 look_rest (Waiting zero) = 200
 look_rest _ = 50

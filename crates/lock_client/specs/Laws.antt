@@ -52,8 +52,8 @@ HeldThroughout end (e ∷ es) =
     ((e ≡ event.Line answer.Granted) × IsHeldToTheEnd end es)
     ⊎ (IsWaiting e × HeldThroughout end es)
 
--- the command's own status is returned exactly if the lock was held all the while and the guard
--- lived
+-- unless the command may run on, its own status is returned exactly if the lock was held all the
+-- while and the guard lived
 abbrev pub HeldThroughoutLaw : Type 0
 HeldThroughoutLaw =
     (end : CommandEnd) (events : List ClientEvent)
@@ -92,8 +92,9 @@ is_loss event.Unserved = true
 is_loss event.GuardGone = true
 is_loss _ = false
 
--- if the node's connection or the guard ends first, the command is asked to end, at most once in
--- all, and the status is always 122; a command that may run on is never asked
+-- if the node says anything or is gone, or the guard is gone, while the command runs, the command
+-- is asked to end, at most once in all, and the status is always 122; a command that may run on is
+-- never asked
 pub record EndsWhatLostItsLock : Type 0 where
   pub asks : (e : ClientEvent) → is_loss e ≡ true
       → deed_between false e Holding (stage_after false e Holding) ≡ EndCommand

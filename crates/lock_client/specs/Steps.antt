@@ -28,8 +28,8 @@ asking_after (Ended end) = Asking
 asking_after GuardGone = Asking
 asking_after (Signal signal) = Over (Stopped signal)
 
--- a client that holds the lock releases it when its command ends; any word of the node, its going
--- away, and the end of the guard put the lock in doubt; held signals do not
+-- a client that holds the lock releases it when its command ends; any word of the node, a node that
+-- is gone, and the end of the guard put the lock in doubt; signals and a time that is up do not
 abbrev pub holding_after : ClientEvent → ClientStage
 holding_after (Line _) = Losing
 holding_after Gone = Losing

@@ -19,7 +19,7 @@ runs_of (Some process) = Runs process
 abbrev pub runs_word : List ℕ → GuardWord
 runs_word line = if starts_with (λ a b. a == b) line (codes "runs ") then runs_of (process_number (drop 5 line)) else Other
 
--- what a line says; a line of more than 16 bytes says nothing
+-- what a line says; a line of more than 16 bytes says none of the known words
 abbrev pub guard_word : List ℕ → GuardWord
 guard_word line =
     if nat_lt 16 (length line) then Other

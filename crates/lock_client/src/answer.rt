@@ -9,22 +9,22 @@ pub enum Answer {
     Granted,
     /// `lost`: the node ended its loan.
     Lost,
-    /// `released`: it released the lock, or waits no longer.
+    /// `released`: the client released the lock, or waits no longer.
     Released,
     /// `full`: 64 clients wait at the node, and no more may.
     Full,
-    /// `twice`: it already waits or borrows.
+    /// `twice`: the client already waits or borrows.
     Twice,
-    /// `stranger`: it neither waits nor borrows, so it has nothing to release.
+    /// `stranger`: the client neither waits nor borrows, so it has nothing to release.
     Stranger,
-    /// `unknown`: the desk knows no such line.
+    /// `unknown`: the desk does not know the client's line.
     Unknown,
     /// Any other line, such as a status line.
     Other,
 }
 
 impl Answer {
-    /// The line without its newline; nothing for `Other`, which stands for many.
+    /// The line without its newline; empty for `Other`, which stands for many lines.
     pub fn text(self) -> &'static [u8]
         ensures { result.now ≡ answer_text self }
     {

@@ -26,13 +26,13 @@ pub enum ClientStage {
 /// What happens to a client.
 #[derive(Clone, Copy)]
 pub enum ClientEvent {
-    /// The desk answered this line.
+    /// The desk answered with this line.
     Line(Answer),
     /// The connection closed or failed.
     Gone,
     /// There is no connection: nobody listens at the node any more.
     Unserved,
-    /// The time for which the client waits for an answer is up.
+    /// The client has waited as long as it may for an answer.
     TimeIsUp,
     /// The command ended, or could not be started.
     Ended(CommandEnd),
@@ -66,8 +66,8 @@ pub enum ClientDeed {
     Finish(Outcome),
 }
 
-/// A client that takes the lock once, runs a command under it, and releases it. Whoever makes one
-/// writes `lock` first.
+/// A client that takes the lock once, runs a command under it, and releases it. The caller that
+/// makes one writes `lock` first.
 #[derive(Clone, Copy)]
 pub struct LockClient {
     keeps_running: bool,
@@ -116,7 +116,7 @@ impl LockClient {
         self.deed(event, before)
     }
 
-    /// The command runs without the lock.
+    /// The stage after an event while the command runs without the lock.
     fn while_losing(&self, event: ClientEvent) -> ClientStage
         ensures { result ≡ losing_after self.now.keeps_running event }
     {
@@ -126,7 +126,8 @@ impl LockClient {
         }
     }
 
-    /// The command has ended, and the node's word is awaited.
+    /// The stage after an event once the command has ended and the client waits for the node's
+    /// word.
     fn while_returning(&self, event: ClientEvent, end: CommandEnd) -> ClientStage
         ensures { result ≡ returning_after self.now.keeps_running event end }
     {
@@ -138,7 +139,8 @@ impl LockClient {
         }
     }
 
-    /// How it ends if the command ended like this and the lock may have been lost meanwhile.
+    /// How the client ends if the command ended like this and the lock may have been lost before it
+    /// was released.
     fn in_doubt(&self, end: CommandEnd) -> Outcome
         ensures { result ≡ in_doubt self.now.keeps_running end }
     {
@@ -149,7 +151,7 @@ impl LockClient {
         }
     }
 
-    /// What to do, by the stage before this one.
+    /// What to do at the stage that is reached, by the event and the stage before it.
     fn deed(&self, event: ClientEvent, before: ClientStage) -> ClientDeed
         ensures { result ≡ deed_between self.now.keeps_running event before self.now.stage }
     {
@@ -210,7 +212,7 @@ fn running_deed(event: ClientEvent) -> ClientDeed
     }
 }
 
-/// It waits for the lock.
+/// The stage after an event while the client waits for the lock.
 fn while_asking(event: ClientEvent) -> ClientStage
     ensures { result ≡ asking_after event }
 {
@@ -224,8 +226,9 @@ fn while_asking(event: ClientEvent) -> ClientStage
     }
 }
 
-/// It has the lock. Whatever the node says now, the lock is lost or in doubt. A command without
-/// its guard would keep running without the lock if this client were killed.
+/// The stage after an event while the client has the lock. Whatever the node says now, the lock is
+/// lost or in doubt. A command without its guard would keep running without the lock if this client
+/// were killed.
 fn while_holding(event: ClientEvent) -> ClientStage
     ensures { result ≡ holding_after event }
 {

@@ -6,8 +6,8 @@ ghost use Rattle.lock_client.specs.Guards.{waiting_after, quiet_after, look_rest
 
 use crate::GuardWord;
 
-/// How many looks in a row must find nobody of a command before it counts as gone. A command that is
-/// just being started is not found by its mark until it runs.
+/// How many looks in a row must find no process of a command before it counts as gone. A command
+/// that is just being started cannot be found by its mark until it runs.
 pub const QUIET_LOOKS: u8 = 4;
 
 /// How far a guard is.
@@ -17,13 +17,13 @@ pub enum GuardStage {
     Idle,
     /// A command is about to be started, or runs, and its client lives.
     Watching,
-    /// The client is gone. So many looks in a row have found nobody of the command.
+    /// The client is gone. This many looks in a row have found no process of the command.
     Searching(u8),
-    /// The command was asked to end. So many looks in a row have found nobody of it.
+    /// The command was asked to end. This many looks in a row have found no process of it.
     Asked(u8),
-    /// It was killed. So many looks in a row have found nobody of it.
+    /// The command was killed. This many looks in a row have found no process of it.
     Killed(u8),
-    /// It is left to end by itself. So many looks in a row have found nobody of it.
+    /// The command is left to end by itself. This many looks in a row have found no process of it.
     Waiting(u8),
     /// The lock is given back.
     Over,
@@ -32,7 +32,7 @@ pub enum GuardStage {
 /// What a look has found.
 #[derive(Clone, Copy)]
 pub struct GuardSight {
-    /// Whether somebody of the command is left.
+    /// Whether a process of the command is left.
     pub somebody: bool,
     /// Whether a signal came to the guard. Nobody sends one to the guard alone, so it came to the
     /// whole group, and the command has had it too.
@@ -48,7 +48,7 @@ pub enum GuardEvent {
     Closed,
     /// A look for the command found this.
     Looked(GuardSight),
-    /// The time that a command has to end after it was asked is up.
+    /// The command was asked to end, and its time to do so is up.
     GraceIsOver,
 }
 
@@ -90,8 +90,8 @@ impl Guard {
         }
     }
 
-    /// How many milliseconds it rests before its next look: 50, or 200 if the command is left to
-    /// end by itself.
+    /// How many milliseconds it rests before its next look: 200 if the command is left to end by
+    /// itself and the last look found a process of it, else 50.
     pub fn rest(&self) -> u64
         ensures { result ≡ look_rest self.now.stage }
     {
@@ -122,7 +122,7 @@ impl Guard {
         deed(before, self.stage)
     }
 
-    /// It has not found the command yet.
+    /// The stage after an event while the guard has not yet found the command.
     fn searching_after(&self, event: GuardEvent, quiet: u8) -> GuardStage
         ensures { result ≡ searching_after self.now.keeps_running event quiet }
     {
@@ -136,7 +136,7 @@ impl Guard {
     }
 }
 
-/// The client has announced no command.
+/// The stage after an event while the client has announced no command.
 fn idle_after(event: GuardEvent) -> GuardStage
     ensures { result ≡ idle_after event }
 {
@@ -147,7 +147,7 @@ fn idle_after(event: GuardEvent) -> GuardStage
     }
 }
 
-/// The client looks after the command itself.
+/// The stage after an event while the client itself looks after the command.
 fn watching_after(event: GuardEvent) -> GuardStage
     ensures { result ≡ watching_after event }
 {
@@ -158,7 +158,7 @@ fn watching_after(event: GuardEvent) -> GuardStage
     }
 }
 
-/// The command was asked to end.
+/// The stage after an event once the command was asked to end.
 fn asked_after(event: GuardEvent, quiet: u8) -> GuardStage
     ensures { result ≡ asked_after event quiet }
 {
@@ -168,22 +168,22 @@ fn asked_after(event: GuardEvent, quiet: u8) -> GuardStage
     }
 }
 
-/// The command was killed.
+/// The stage after an event once the command was killed.
 fn killed_after(event: GuardEvent, quiet: u8) -> GuardStage
     ensures { result ≡ killed_after event quiet }
 {
     quiet_after(event, quiet).map_or(GuardStage::Over, GuardStage::Killed)
 }
 
-/// The command ends by itself.
+/// The stage after an event while the command is left to end by itself.
 fn waiting_after(event: GuardEvent, quiet: u8) -> GuardStage
     ensures { result ≡ waiting_after event quiet }
 {
     quiet_after(event, quiet).map_or(GuardStage::Over, GuardStage::Waiting)
 }
 
-/// How many looks in a row have found nobody after this, if so many had before it; none if these
-/// are enough.
+/// How many looks in a row have found no process of the command after this event, if `quiet` had
+/// before it; none if these are enough.
 fn quiet_after(event: GuardEvent, quiet: u8) -> Option<u8>
     ensures { result ≡ quiet_after event quiet }
 {

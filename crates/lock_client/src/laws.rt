@@ -6,8 +6,9 @@ ghost use Rattle.lock_client.specs.GuardLaws.{GivesBackRightly, AsksAtMostOnce, 
 ghost use Rattle.lock_client.specs.GuardLaws.{LeavesAlone, GuardEnds};
 ghost use Rattle.lock_client.specs.Lines.{AnswersAreRead};
 
-/// The command's own status is returned exactly if the lock was held, and the guard lived, all the
-/// while it ran. Whoever runs a build, a migration or a backup under the lock relies on it.
+/// Unless the command may run on without the lock, its own status is returned exactly if the lock
+/// was held, and the guard lived, all the while it ran. Users who run a build, a migration or a
+/// backup under the lock rely on it.
 pub fn a_command_that_is_done_held_the_lock()
     ensures { HeldThroughoutLaw }
 {}
@@ -19,20 +20,23 @@ pub fn one_lock_is_taken()
     ensures gives_back { GivesBackOnce }
 {}
 
-/// If the node or the guard is gone first, the command is asked to end, at most once, and the status
-/// is 122. So no command runs on for long without the lock, and no status says that it was held.
+/// If the node says anything or is gone, or the guard is gone, while a command runs that may not
+/// run on without the lock, this command is asked to end, at most once, and the status is 122. So
+/// it does not run on for long without the lock, and no status says that the lock was held. A
+/// command that may run on is never asked.
 pub fn what_lost_its_lock_is_ended()
     ensures { EndsWhatLostItsLock }
 {}
 
-/// A held signal ends a client only before its command is started.
+/// A signal that is held back ends a client only before its command is started. Of all signals,
+/// only SIGTERM is passed on to a running command.
 pub fn signals_are_heeded()
     ensures { SignalsAreHeeded }
 {}
 
-/// A client ends: before the lock is granted, when its time is up, nobody serves or a signal
-/// comes; once its command has ended, with the next thing that comes. So no client with a limit
-/// waits for ever.
+/// A client ends. Before the lock is granted, it ends when its time is up, when nobody serves, or
+/// when a signal comes. Once its command has ended, it ends at the latest with the node's next
+/// word, when the node is gone, or when its time is up. So no client with a limit waits for ever.
 pub fn a_client_ends()
     ensures { EndsByItself }
 {}
@@ -42,9 +46,9 @@ pub fn answers_are_read()
     ensures { AnswersAreRead }
 {}
 
-/// A guard releases the lock only if its client said that it is done, or was gone before it
-/// announced a command, or nobody of the command is left. So nobody else gets the lock while a
-/// command still runs whose `lock` was killed.
+/// A guard releases the lock only if its client says that it is done, or is gone without having
+/// announced a command, or four looks in a row found no process of the command. So nobody else gets
+/// the lock while a command still runs after its `lock` was killed.
 pub fn a_guard_holds_the_lock()
     ensures { GivesBackRightly }
 {}

@@ -13,7 +13,8 @@
 //! ```
 //!
 //! The trap: it is not enough that the command has ended. Its own status is returned only if the
-//! node then says `released`; else the lock may have been lost while the command ran.
+//! node then says `released`, or if the command may run on without the lock. Otherwise the lock may
+//! have been lost while the command ran.
 //!
 //! Its statuses are those of `timeout` and `env`, with one of its own, 122, for a lock that was
 //! lost.

@@ -10,8 +10,8 @@ use byte_lines::{HalfLine, LineReading};
 use lock_desk::ClientLine;
 use std::marker::Model;
 
-/// What a client writes for this, with its newline: a desk reads exactly this line so. For
-/// `Unknown` it is the empty line.
+/// The bytes that a client writes for this line, with its newline. A desk reads them as exactly
+/// this line. For `Unknown` they are an empty line.
 pub fn spelled(line: ClientLine) -> &'static [u8]
     ensures { client_lines result.now ≡ line ∷ [] }
 {

@@ -11,9 +11,9 @@ pub enum CommandEnd {
     Exited(u8),
     /// By this signal.
     Killed(u8),
-    /// It is there and cannot be run.
+    /// It exists but cannot be run.
     CannotRun,
-    /// It is not there.
+    /// It does not exist.
     NotThere,
     /// It was not run, since no guard could be started. A guard holds the lock if this program is
     /// killed.
@@ -36,10 +36,11 @@ impl CommandEnd {
     }
 }
 
-/// How it all ended.
+/// How the client ended.
 #[derive(Clone, Copy, PartialEq, Eq)]
 pub enum Outcome {
-    /// The command ended like this, and the lock was held all the while.
+    /// The command ended like this. The lock was held all the while, or the command was allowed to
+    /// run on without it.
     Done(CommandEnd),
     /// The lock was lost, or may have been, before it was released.
     Lost,

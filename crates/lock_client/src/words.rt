@@ -88,7 +88,7 @@ fn known(line: &[u8]) -> GuardWord
     }
 }
 
-/// What a line that is none of the others says.
+/// What a line says that is neither `start` nor `done`.
 fn runs(line: &[u8]) -> GuardWord
     ensures { result ≡ runs_word line.now }
 {

@@ -6,9 +6,9 @@ use Rattle.lock_client.specs.declared.client.ClientEvent.TheVariants as event
 use Rattle.lock_command.specs.declared.session.Session.{Session}
 use Rattle.lock_command.specs.Working.{is_running}
 
--- Each event comes from what there is, and what has ended or is over comes once: a line from a connection, the end of a
--- connection or of a guard from the one that is gone then, the end of a time from one that was set, a held signal from one that
--- was not seen before. Once a command has ended, none runs.
+-- Each event has a source, and whatever ends is reported once: a line comes from a connection, the end of a connection or of a
+-- guard from one that is gone afterwards, the end of a time from one that was set, and a held signal from one that was not seen
+-- before. Once a command has ended, none runs.
 abbrev pub Comes : {P A B C : Type 0} → ClientEvent → Session P A B C → Session P A B C → Type 0
 Comes event.Unserved old new = (old.is_unserved ≡ true) × (new.is_unserved ≡ false)
 Comes (event.Line answer) old new = is_some old.desk ≡ true

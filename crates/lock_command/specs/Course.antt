@@ -6,15 +6,15 @@ use Rattle.lock_client.specs.declared.client.ClientDeed.TheVariants as deed
 use Rattle.lock_command.specs.declared.course.Course.{Course}
 use Rattle.lock_command.specs.declared.seconds.Seconds.{Seconds}
 
--- so many milliseconds later, as far as the clock goes
+-- this many milliseconds later, as far as the clock goes
 abbrev pub later : ℕ → ℕ → ℕ
 later millis now = min (now + millis) 18446744073709551615
 
--- just asked, with this long to wait
+-- the lock was just asked for, with this long to wait for it
 abbrev pub new_course : Option ℕ → Course
 new_course limit = record { time = 0; connected = 0; was_closed = false; started = 0; due = limit; kill_due = None }
 
--- the same of a time in seconds
+-- the same for a limit in seconds
 abbrev pub asked_course : Option Seconds → Course
 asked_course limit = new_course (option_map (λ s. s.millis) limit)
 
@@ -53,7 +53,7 @@ abbrev pub killed_again : Bool → Course → Course
 killed_again true c = record c { kill_due = Some (later 1000 c.time) }
 killed_again false c = c
 
--- the node closed a connection, and the next one has not stood for half a second
+-- the node closed a connection, and the next one has not lasted half a second
 abbrev pub lacks_room : Course → Bool
 lacks_room c = c.was_closed && nat_lt (c.time - c.connected) 500
 

@@ -22,7 +22,7 @@ fate_text fate.Ended = codes "the command is ended"
 fate_text fate.RunsOn = codes "the command runs on without it"
 fate_text fate.NoCommand = codes "no command ran under it"
 
--- what each says
+-- what each notice says
 abbrev pub notice_text : Notice → List ℕ
 notice_text (NoFolder folder) = codes "there is no folder " ++ folder.now
 notice_text (Forbidden folder) = codes "this user may not use the sockets in " ++ folder.now

@@ -22,7 +22,7 @@ loss_notice node event.GuardGone command = GuardGone command
 loss_notice node event.Gone command = Lost node cause.WentAway command
 loss_notice node _ command = Lost node cause.Ended command
 
--- at the end nothing is reported of a command's own end, a signal, a loss that was reported
+-- at the end nothing is reported about a command's own end, a signal, a loss that was reported
 -- before, or a node that could not be reached
 abbrev pub end_notice : ℕ → Notice → ClientEvent → Outcome → Option Notice
 end_notice node waited event.Unserved outcome.NoService = None

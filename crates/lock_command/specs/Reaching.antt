@@ -22,7 +22,7 @@ unreached_notice kind.PermissionDenied has_folder folder node = Forbidden folder
 unreached_notice kind.Uncategorized has_folder folder node = System
 unreached_notice _ has_folder folder node = missing_notice has_folder folder node
 
--- memory ran out, or the system answered so
+-- memory ran out, or some answer of the system leads to this notice
 abbrev pub IsUnreached : Bor (List ℕ) → ℕ → Notice → Type 0
 IsUnreached folder node notice =
     (notice ≡ Memory)
@@ -36,7 +36,7 @@ unread_notice kind.OutOfMemory folder = Memory
 unread_notice kind.Uncategorized folder = System
 unread_notice _ folder = Forbidden folder
 
--- the system answered so
+-- some answer of the system leads to this notice
 abbrev pub IsUnread : Bor (List ℕ) → Notice → Type 0
 IsUnread folder notice = (kind : ErrorKind) × (notice ≡ unread_notice kind folder)
 

@@ -19,7 +19,7 @@ abbrev pub IsTaken : InputWatch → InputWatch → Type 0
 IsTaken Ready new = IsWatched new
 IsTaken old new = new ≡ old
 
--- during a wait the system may say so
+-- during a wait the system may say that there is something to read
 abbrev pub IsAwaited : InputWatch → InputWatch → Type 0
 IsAwaited Waiting new = (new ≡ Waiting) ⊎ (new ≡ Ready)
 IsAwaited old new = new ≡ old

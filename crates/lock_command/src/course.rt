@@ -1,4 +1,4 @@
-//! What is due when, while the lock is taken once.
+//! What is due when, during one acquisition of the lock.
 ghost use Rattle.std.specs.Prelude.{◌≡◌};
 ghost use Rattle.lock_command.specs.Course.{new_course, timed, connected, closed, started};
 ghost use Rattle.lock_command.specs.Course.{given_back, asked_to_end, is_past, without_due};
@@ -10,8 +10,8 @@ const WORD: u64 = 10_000;
 /// How many milliseconds a command that was asked to end may run on before it is killed.
 const GRACE: u64 = 3_000;
 
-/// After how many milliseconds whatever is left is killed again: it may have started more
-/// meanwhile.
+/// After how many milliseconds whatever is left is killed again: it may have started more processes
+/// by then.
 const KILL_AGAIN: u64 = 1_000;
 
 /// How many milliseconds pass between two looks for what a command started.
@@ -27,7 +27,7 @@ pub struct Course {
     time: u64,
     /// When the connection was made.
     connected: u64,
-    /// Whether the node closed the connection before it.
+    /// Whether the node has closed a connection.
     was_closed: bool,
     /// When the command was started, or the lock was granted.
     started: u64,
@@ -38,7 +38,8 @@ pub struct Course {
 }
 
 impl Course {
-    /// The lock was asked for. The client waits for at most this long, or without limit.
+    /// The course when the lock is asked for. The client waits at most `limit` milliseconds for the
+    /// lock, or without limit if there is none.
     pub fn new(limit: Option<u32>) -> Course
         ensures { result ≡ new_course limit }
     {
@@ -61,21 +62,21 @@ impl Course {
         }
     }
 
-    /// The node closed the connection.
+    /// Notes that the node closed the connection.
     pub fn note_closed(&mut self)
         ensures { self.new ≡ closed self.old }
     {
         self.was_closed = true;
     }
 
-    /// There is a connection again.
+    /// Notes that there is a connection again.
     pub fn note_connected(&mut self)
         ensures { self.new ≡ connected self.old }
     {
         self.connected = self.time;
     }
 
-    /// The lock is granted, and the command is started: nothing is due.
+    /// Notes that the lock is granted and the command is started: no answer is due.
     pub fn start(&mut self)
         ensures { self.new ≡ started self.old }
     {
@@ -83,14 +84,14 @@ impl Course {
         self.started = self.time;
     }
 
-    /// The lock is released, and the node's word is due.
+    /// Notes that the lock is released: the node's word is due.
     pub fn give_back(&mut self)
         ensures { self.new ≡ given_back self.old }
     {
         self.due = Some(self.time.saturating_add(WORD));
     }
 
-    /// The command is asked to end.
+    /// Notes that the command is asked to end, and when it is killed.
     pub fn ask_to_end(&mut self)
         ensures { self.new ≡ asked_to_end self.old }
     {
@@ -129,7 +130,7 @@ impl Course {
         self.was_closed && self.time.saturating_sub(self.connected) < CLOSING
     }
 
-    /// How long a running command has run.
+    /// How many milliseconds a running command has run; none if no command runs.
     pub fn age(&self, is_running: bool) -> Option<u64>
         ensures { result ≡ age_of is_running self.now }
     {
@@ -140,8 +141,8 @@ impl Course {
         }
     }
 
-    /// In how many milliseconds something is due: the next look for what the command started, if
-    /// the lock waits for that.
+    /// In how many milliseconds something is due; none if nothing is. If the lock waits for what
+    /// the command started, that is the next look for it.
     pub fn left(&self, is_family: bool) -> Option<u64>
         ensures { result ≡ left_of is_family self.now }
     {

@@ -15,8 +15,8 @@ const PIECE: usize = 64;
 /// How many reads may be made for one line.
 const READS: u32 = 16;
 
-/// A connection to a node's desk, which never waits. No contract says what a socket gives;
-/// [`AnswerReader`], whose contract says how, reads its lines.
+/// A connection to a node's desk, which never waits. No contract says what a socket gives.
+/// [`AnswerReader`] reads its lines, and has a contract that says how.
 #[derive(Drop)]
 pub struct DeskConnection {
     /// Whose desk it is.
@@ -24,7 +24,7 @@ pub struct DeskConnection {
     stream: UnixStream,
     reader: AnswerReader,
     bytes: [u8; PIECE],
-    /// Where the bytes that came from the socket and are not yet read begin.
+    /// Where the bytes begin that came from the socket and are not yet read.
     next: usize,
     /// Where they end.
     end: usize,
@@ -67,7 +67,7 @@ impl DeskConnection {
         self.node
     }
 
-    /// The socket, for whoever waits for it.
+    /// The socket, so that a caller can wait for it.
     pub fn stream(&mut self) -> &mut UnixStream {
         &mut self.stream
     }
@@ -75,7 +75,7 @@ impl DeskConnection {
     /// Writes a line.
     ///
     /// # Errors
-    /// If the connection is closed, has failed, or has no room for so few bytes.
+    /// If the connection is closed, has failed, or has no room for this many bytes.
     pub fn write(&mut self, line: ClientLine) -> io::Result<()>
         ensures { self.new.node ≡ self.old.node }
     {

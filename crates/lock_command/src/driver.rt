@@ -18,8 +18,8 @@ pub trait Surroundings {
     /// Whether a command runs.
     ghost runs: { Self → Bool };
 
-    /// Waits for the next event, and says what it is. No command starts meanwhile, and after the
-    /// event that reports its end none runs.
+    /// Waits for the next event, and returns it. No command starts during the wait, and none runs
+    /// after the event that reports a command's end.
     fn next_event(&mut self) -> ClientEvent
         ensures reported { reported self.new ≡ option_map (λ events. events ++ result ∷ []) (reported self.old) }
         ensures starts_none { runs self.new ≡ true → runs self.old ≡ true }
@@ -47,8 +47,9 @@ impl Driven {
     }
 }
 
-/// Runs until all is over: a client hears each event, and its answer is done. The outcome is the
-/// client's own word on all that happened. It does not end while a command that it started runs.
+/// Runs until all is over: a client hears each event, and what it answers is done. The outcome is
+/// the client's own word on all that happened. This does not end while a command that it started
+/// runs.
 pub fn drive<R: Wait, S: Surroundings>(rt: &R, surroundings: &mut S, keeps_running: bool) -> Driven
     ensures outcome { S.reported surroundings.old ≡ Some []
         → IsOutcomeOf keeps_running (S.reported surroundings.new) result.outcome }

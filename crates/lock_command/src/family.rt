@@ -1,4 +1,4 @@
-//! The processes of a command: it, and whatever it started.
+//! The processes of a command: its own, and whatever it started.
 ghost use Rattle.std.specs.Prelude.{IfOk, string_bytes};
 ghost use Rattle.lock_command.specs.Marks.{IsMark, EndsIn};
 
@@ -54,7 +54,8 @@ pub fn with_marks_before<R: Env + AllocGlobal>(rt: &R, mark: &str) -> Result<Str
     }
 }
 
-/// Whether a process lives, by `/proc`. One that has ended, but was not waited for, does not.
+/// Whether a process is alive, according to `/proc`. One that has ended, but was not waited for, is
+/// not.
 pub fn lives<R: Files + AllocGlobal>(rt: &R, process: u32) -> bool {
     let Ok(path) = format!(in rt.alloc(); "/proc/{process}/stat") else {
         return true;
@@ -86,7 +87,7 @@ pub fn send<R: Processes + AllocGlobal>(rt: &R, signal: &str, to: &[u32]) -> io:
     kill_by(rt, &mut command, signal, to)
 }
 
-/// Has this shell send a signal to processes, and waits until it has.
+/// Makes this shell send a signal to processes, and waits until it has done so.
 fn kill_by<R: Processes + AllocGlobal>(
     rt: &R,
     shell: &mut Command,
@@ -147,7 +148,7 @@ fn process_of(name: &[u8]) -> Option<u32> {
     str::from_utf8(name).ok()?.parse().ok()
 }
 
-/// Whether a process has this mark. One that may not be read has none.
+/// Whether a process has this mark. A process that may not be read has none.
 fn is_marked<R: Files + AllocGlobal>(rt: &R, process: u32, mark: &str) -> bool {
     let Ok(path) = format!(in rt.alloc(); "/proc/{process}/environ") else {
         return false;

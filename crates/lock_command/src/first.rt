@@ -13,7 +13,8 @@ use std::rt::{Clock, Files};
 use std::time::Duration;
 use std::{io, thread};
 
-/// How many looks at the nodes there are, and how many milliseconds between two: a second in all.
+/// How many looks at the nodes there are, and how many milliseconds pass between two of them: a
+/// second in all.
 const LOOKS: u32 = 1000;
 
 const BETWEEN_LOOKS: u64 = 1;

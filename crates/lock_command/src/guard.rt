@@ -41,9 +41,9 @@ struct GuardAtWork<'a, R> {
 }
 
 /// Holds the lock, whose connection is standard output, as long as the client on standard input
-/// says so; if the client is killed, until nobody of the command is left. It then asks the command
-/// to end, unless that may run on or has had the same signal. The environment names the command's
-/// mark. Returns the exit status: 2 if the environment names none.
+/// says so. If the client is killed, the guard holds the lock until no process of the command is
+/// left; it asks the command to end, unless the command may run on or has had the same signal. The
+/// environment names the command's mark. Returns the exit status: 2 if the environment names none.
 ///
 /// A [`Guard`](lock_client::Guard), whose laws are proved, decides what it does next. No contract
 /// says what `/proc` shows.
@@ -56,7 +56,7 @@ pub fn run<R: Env + Files + Processes + Clock + Input + Eprint + AllocGlobal + W
     run_marked(rt, guarded_mark(rt), keeps_running)
 }
 
-/// The same for the command with this mark: the status is 2 if there is none.
+/// Guards the command with this mark in the same way. The status is 2 if there is no mark.
 pub fn run_marked<R: Files + Processes + Clock + Input + Eprint + AllocGlobal + Wait>(
     rt: &R,
     mark: Option<String>,
@@ -87,7 +87,7 @@ pub fn guarded_mark<R: Env + AllocGlobal>(rt: &R) -> Option<String>
     format!(in rt.alloc(); "{marked};").ok()
 }
 
-/// What the guard of a command needs of the system.
+/// What the guard of a command needs from the system.
 trait GuardSystem: Files + Processes + Clock + Input + Eprint + AllocGlobal + Wait {}
 
 impl<R> GuardSystem for R
@@ -175,7 +175,7 @@ impl<R: GuardSystem> GuardAtWork<'_, R> {
         is_over
     }
 
-    /// What is left of the command: its process, and all that have its mark.
+    /// What is left of the command: its own process, and all processes that have its mark.
     fn look_for_all(&mut self) -> Vec<u32> {
         let mut found = match members(self.rt, self.mark.as_str()) {
             Ok(found) => found,

@@ -17,8 +17,8 @@ pub trait Guarded {
     /// Whether a grace runs in which a command must end.
     ghost grants: { Self → Bool };
 
-    /// Waits for the next event, and says what it is: by `deed`, a word of the client, or what a
-    /// look finds after a rest of `rest` milliseconds. A grace ends only if one runs, and only
+    /// Waits for the next event, and returns it: depending on `deed`, a word of the client, or what
+    /// a look finds after a rest of `rest` milliseconds. A grace ends only if one runs, and only
     /// once.
     fn next_event(&mut self, deed: GuardDeed, rest: u64) -> GuardEvent
         ensures reported { reported self.new ≡ option_map (λ events. events ++ result ∷ []) (reported self.old) }
@@ -30,8 +30,8 @@ pub trait Guarded {
         ensures grace { deed ≢ Ask → grants self.new ≡ grants self.old };
 }
 
-/// Runs until the lock is released: a guard hears each event, and its answer is done. It ends only
-/// when the guard is over, by all that happened.
+/// Runs until the lock is released: a guard hears each event, and what it answers is done. This
+/// ends only when the guard is over, according to all that happened.
 pub fn drive_guard<R: Wait, S: Guarded>(rt: &R, guarded: &mut S, keeps_running: bool)
     ensures { S.reported guarded.old ≡ Some [] → IsOver keeps_running (S.reported guarded.new) }
 {

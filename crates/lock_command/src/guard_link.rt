@@ -13,11 +13,11 @@ use std::rt::Files;
 use std::{env, io};
 
 /// The environment variable that names the command to its guard: the command's mark, without the
-/// semicolon at its end. So a search for the mark does not find the guard.
+/// semicolon at its end, so that a search for the mark does not find the guard.
 pub(crate) const GUARDED: &str = "TOKENTREE_GUARD";
 
 /// The program that starts the guard so that the signals of a terminal, of `timeout` and of a
-/// service manager do not end it. GNU coreutils have its option since 8.31.
+/// service manager do not end it. GNU coreutils have had its option since 8.31.
 const ENV: &str = "/usr/bin/env";
 
 const HOLD_SIGNALS_BACK: &str = "--block-signal=HUP,INT,QUIT,TERM";
@@ -50,7 +50,7 @@ impl GuardLink {
         })
     }
 
-    /// The socket, for whoever waits for it.
+    /// The socket, so that a caller can wait for it.
     pub fn stream(&mut self) -> &mut UnixStream {
         &mut self.stream
     }
@@ -76,7 +76,8 @@ fn is_end(answer: &io::Result<usize>) -> bool
     }
 }
 
-/// Starts a guard by this command: this program, with these words, for the command with this mark.
+/// Starts this program as a guard, by this command and with these words, for the command with this
+/// mark.
 fn start_guard<R: Files + Processes + AllocGlobal>(
     rt: &R,
     command: &mut Command,

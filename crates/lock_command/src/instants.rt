@@ -1,4 +1,4 @@
-//! The clock of one time that the lock is taken.
+//! The clock of one acquisition of the lock.
 ghost use Rattle.std.specs.Prelude.{◌≡◌, ◌/◌, min};
 ghost use Rattle.std.specs.Duration.{as_nanos};
 

@@ -1,9 +1,9 @@
 //! The command `lock`: runs a command under the lock.
 //!
 //! [`lock::run`] connects to a node's desk, asks for the lock, runs a command while the node lends
-//! it, and releases it. A [`LockClient`](lock_client::LockClient) decides what it does next; here
-//! are the socket, the command, the clock and the lines on standard error. While the command runs,
-//! a second process in [`guard::run`] holds the lock too, and takes over if the first one is
+//! it, and releases it. A [`LockClient`](lock_client::LockClient) decides what it does next; this
+//! crate has the socket, the command, the clock and the lines on standard error. While the command
+//! runs, a second process in [`guard::run`] holds the lock too, and takes over if the first one is
 //! killed.
 //!
 //! ```

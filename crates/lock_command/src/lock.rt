@@ -10,12 +10,10 @@ use crate::notice::{Notice, NoticeLine};
 use crate::reach::reach;
 use crate::seconds::Seconds;
 use crate::session::{Live, Session};
+use crate::system::System;
 use lock_client::Outcome;
-use std::io::Input;
 use std::net::Net;
-use std::process::Processes;
-use std::rt::{Env, Files};
-use std::sync::Wait;
+use std::rt::Files;
 use std::time::Clock;
 
 /// What `lock` must do.
@@ -45,16 +43,13 @@ pub struct Request<'a> {
 /// Takes the lock, runs the command, releases the lock, and returns the exit status: the command's
 /// own, or 128 plus the number of the signal that ended it; `lost` if the lock was lost; 124 if it
 /// was not granted in time; 125 if there is no lock service, or no guard could be started; 126 if
-/// the command cannot be run, and 127 if there is none. A line on standard error explains each
-/// status of its own.
+/// the command cannot be run, and 127 if there is no such command. A line on standard error
+/// explains each of `lock`'s own statuses.
 ///
 /// While the command runs, a guard holds the lock too, so that nobody else gets it if this process
 /// is killed. A [`LockClient`](lock_client::LockClient), whose laws are proved, decides what it
 /// does next. No contract covers its socket, command and clock; tests do.
-pub fn run<R: Env + Net + Files + Processes + Clock + Input + Print + Eprint + AllocGlobal + Wait>(
-    rt: &R,
-    request: &Request,
-) -> u8 {
+pub fn run<R: System>(rt: &R, request: &Request) -> u8 {
     let held = hold(rt, request);
     if let Err(notice) = &held {
         let _ = rt.eprintln(NoticeLine(*notice));
@@ -73,10 +68,7 @@ fn held_status(held: &Result<Driven, Notice>, lost: u8) -> u8
 }
 
 /// Connects, and holds the lock.
-fn hold<'a, R: Env + Net + Files + Processes + Clock + Input + Print + Eprint + AllocGlobal + Wait>(
-    rt: &R,
-    request: &Request<'a>,
-) -> Result<Driven, Notice<'a>>
+fn hold<'a, R: System>(rt: &R, request: &Request<'a>) -> Result<Driven, Notice<'a>>
     ensures { IfErr result (IsUnasked request.now.folder request.now.node) }
 {
     let desk = desk_of(rt, request)?;

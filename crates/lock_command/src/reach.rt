@@ -11,10 +11,10 @@ use std::rt::{Clock, Files};
 use std::time::Duration;
 use std::{fs, thread};
 
-/// How often a connection is tried if too many wait to be accepted.
+/// How many times a connection is tried if too many wait to be accepted.
 const TRIES: u32 = 500;
 
-/// How many milliseconds between two such tries.
+/// How many milliseconds pass between two such tries.
 const BETWEEN_TRIES: u64 = 10;
 
 /// Connects to the desk of a node in a folder.

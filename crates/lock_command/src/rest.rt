@@ -25,7 +25,7 @@ pub fn rest(age: Option<u64>, left: Option<u64>, holds_signals_back: bool) -> u6
     }
 }
 
-/// The same if nothing is due.
+/// How many milliseconds to wait if nothing is due.
 fn longest(age: Option<u64>, holds_signals_back: bool) -> u64
     ensures { result ≡ longest_of age holds_signals_back }
 {
@@ -36,8 +36,9 @@ fn longest(age: Option<u64>, holds_signals_back: bool) -> u64
     }
 }
 
-/// How many milliseconds pass between two looks at a command that has run for `age`: a sixteenth
-/// of its age. So the end of a short command shows at once, and a long one costs little.
+/// How many milliseconds pass between two looks at a command that has run for `age`: a sixteenth of
+/// its age, but at least 1 and at most 25. So the end of a short command shows at once, and a long
+/// command costs little.
 fn child_rest(age: u64) -> u64
     ensures value { result ≡ child_rest age }
     ensures least { 1 ≤ result }

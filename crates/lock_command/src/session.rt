@@ -1,4 +1,4 @@
-//! One taking of the lock.
+//! One acquisition of the lock.
 ghost use Rattle.std.specs.Prelude.{◌≡◌, ◌≢◌, None, Some, IfOk, IfErr, IfSome, is_some, true, false};
 ghost use Rattle.held_signals.specs.Signals.{holds, including};
 ghost use Rattle.lock_client.specs.declared.client.ClientEvent.TheVariants.{Ended};
@@ -42,7 +42,7 @@ use std::{io, thread};
 /// connection.
 const FULL_REST: u64 = 100;
 
-/// One taking of the lock: the connection, the command and its guard, and what is due.
+/// One acquisition of the lock: the connection, the command and its guard, and what is due.
 #[derive(Drop)]
 pub struct Session<'a, P: OpenProcess> {
     request: Request<'a>,
@@ -50,7 +50,7 @@ pub struct Session<'a, P: OpenProcess> {
     node: u16,
     /// The connection; none once it is gone.
     desk: Option<DeskConnection>,
-    /// Whether the connection failed in a write that is not reported yet.
+    /// Whether a write to the connection failed, and that is not reported yet.
     has_failed: bool,
     /// Whether a new connection failed, and that is not reported yet.
     is_unserved: bool,
@@ -72,7 +72,7 @@ pub struct Session<'a, P: OpenProcess> {
     course: Course,
 }
 
-/// A session and the system that it stands on.
+/// A session and the system that it runs on.
 #[derive(Drop)]
 pub struct Live<'a, R, S> {
     /// The system.
@@ -99,7 +99,7 @@ impl<'a, R: System> Surroundings for Live<'_, R, Session<'a, R::Started>> {
     fn act(&mut self, event: ClientEvent, deed: ClientDeed)
         ensures starts { deed ≢ Start
             → is_running self.new.session.work ≡ is_running self.old.session.work }
-        // What is due then is set, and nothing else.
+        // Only what is due then is set.
         ensures course { IsCourseAfter deed self.old.session.course self.new.session.course }
     {
         self.session.do_deed(self.rt, event, deed)
@@ -166,7 +166,7 @@ impl<'a, P: OpenProcess + Drop> Session<'a, P> {
         }
     }
 
-    /// Waits for the next event. The node's word goes first.
+    /// Waits for the next event. What the node says comes first.
     fn wait_for_event<R: Files + Processes + Clock + Input + Eprint + AllocGlobal + Wait>(
         &mut self,
         rt: &R,
@@ -242,7 +242,7 @@ impl<'a, P: OpenProcess + Drop> Session<'a, P> {
         }
     }
 
-    /// Whether there was a guard that has ended.
+    /// Whether there is a guard that has ended.
     fn has_lost_its_guard(&mut self) -> bool
         ensures work { self.new.work ≡ self.old.work }
         ensures guard { result ≡ true → is_some self.old.guard ≡ true }
@@ -276,7 +276,7 @@ impl<'a, P: OpenProcess + Drop> Session<'a, P> {
         }
     }
 
-    /// A held signal that came, the first time that it is seen.
+    /// A held signal that has come, the first time that it is seen.
     fn new_signal<R: Files + AllocGlobal>(&mut self, rt: &R) -> Option<Signal>
         ensures work { self.new.work ≡ self.old.work }
         ensures new { IfSome result (λ signal. (self.old.holds_signals_back ≡ true)
@@ -292,7 +292,8 @@ impl<'a, P: OpenProcess + Drop> Session<'a, P> {
         Some(signal)
     }
 
-    /// The event of a signal: if there is no command, it ends the holding of the lock.
+    /// The event of a signal: it ends the wait for standard input; during any other work it is only
+    /// reported.
     fn event_of_signal(&mut self, signal: Signal) -> ClientEvent
         ensures event { result ≡ signal_event self.old.work signal }
         ensures after { self.new.work ≡ after_signal self.old.work }
@@ -309,7 +310,8 @@ impl<'a, P: OpenProcess + Drop> Session<'a, P> {
         }
     }
 
-    /// How the command ended, once it and all that the lock waits for have; then the guard may go.
+    /// How the command ended, once it and all that the lock waits for have ended; then the guard
+    /// may go.
     fn end_of_command<R: Files + Input + Eprint + AllocGlobal>(
         &mut self,
         rt: &R,
@@ -535,7 +537,7 @@ impl<'a, P: OpenProcess + Drop> Session<'a, P> {
         self.work.end(rt, self.mark.as_str());
     }
 
-    /// Reports that the lock is lost, by what happened, and what becomes of the command.
+    /// Reports that the lock is lost, why, and what becomes of the command.
     fn report_loss<R: Eprint>(&self, rt: &R, event: ClientEvent, fate: Fate) {
         let has_command = !self.request.command.is_empty();
         let command = if has_command { fate } else { Fate::NoCommand };
@@ -565,7 +567,7 @@ impl<'a, P: OpenProcess + Drop> Session<'a, P> {
         }
     }
 
-    /// Reports how far the lock is, if it is verbose.
+    /// Reports that the lock is granted or released, if the request is verbose.
     fn report_course<R: Eprint>(&self, rt: &R, event: ClientEvent, deed: ClientDeed) {
         if self.request.is_verbose
             && let Some(notice) = course_notice(self.node, event, deed)
@@ -585,7 +587,7 @@ impl<'a, P: OpenProcess + Drop> Session<'a, P> {
     }
 }
 
-/// What waits for the lines of this desk.
+/// Returns a waiter for the lines of this desk.
 fn waiter_for<'a, R: Net + AllocGlobal>(
     rt: &R,
     desk: &mut DeskConnection,

@@ -1,4 +1,4 @@
-//! What `lock` needs of the runtime.
+//! What `lock` needs from the runtime.
 use std::io::Input;
 use std::net::Net;
 use std::process::Processes;

@@ -15,7 +15,7 @@ use std::time::Duration;
 /// The descriptor of standard input.
 const INPUT: i32 = 0;
 
-/// Their tokens in the poll.
+/// The tokens in the poll of all that is waited for.
 const DESK: Token = Token(0);
 
 const STANDARD_INPUT: Token = Token(1);
@@ -45,7 +45,7 @@ enum InputWatch {
 }
 
 impl InputWatch {
-    /// How it is watched after the system was asked for that, and perhaps refused.
+    /// How standard input is watched after the system was asked to watch it, and perhaps refused.
     fn after(is_registered: bool) -> InputWatch
         ensures { IsWatched result }
     {
@@ -74,7 +74,7 @@ impl Waiter {
         Ok(waiter)
     }
 
-    /// Waits for this connection from now on, as that of the desk.
+    /// Waits for this connection from now on, as the desk's.
     ///
     /// # Errors
     /// What the system answers.

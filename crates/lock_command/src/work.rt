@@ -15,7 +15,7 @@ use std::rt::Files;
 /// What is done under the lock.
 #[derive(Drop)]
 pub enum Work<P: OpenProcess> {
-    /// Nothing yet, or nothing more.
+    /// No work yet, or no more work.
     None,
     /// A command runs.
     Running(Child<P>),
@@ -62,7 +62,7 @@ impl<P: OpenProcess + Drop> Work<P> {
         matches!(self, Work::Family(_))
     }
 
-    /// How it ended, the first time that this is known. It reads standard input if that has
+    /// How the work ended, the first time that this is known. Reads standard input if that has
     /// something to read, and drops what it reads.
     pub fn ended<R: Input + Eprint>(&mut self, rt: &R, has_input: bool) -> Option<CommandEnd>
         ensures end { EndsSo self.old has_input result }
@@ -81,7 +81,7 @@ impl<P: OpenProcess + Drop> Work<P> {
         end
     }
 
-    /// How the command ended, once no process with this mark is left.
+    /// How the command ended, once no process with this mark is left, or if that cannot be seen.
     pub fn family_ended<R: Files + AllocGlobal>(&mut self, rt: &R, mark: &str) -> Option<CommandEnd>
         ensures end { FamilyEndsSo self.old result }
         ensures after { GoesOn result self.old self.new }
@@ -140,7 +140,7 @@ impl<P: OpenProcess + Drop> Work<P> {
 }
 
 /// The command's process, and those that have this mark. If `/proc` cannot be read, only the
-/// first.
+/// command's process.
 fn family_of<R: Files + AllocGlobal>(rt: &R, command: u32, mark: &str) -> Vec<u32> {
     let mut family = match members(rt, mark) {
         Ok(family) => family,
@@ -157,7 +157,7 @@ fn look<R: Eprint, P: OpenProcess>(rt: &R, child: &mut Child<P>) -> Option<Comma
     match child.try_wait() {
         Ok(Some(status)) => Some(command_end(status)),
         Ok(None) => None,
-        // Our parent may have said that the ends of children are not kept.
+        // The parent of this process may have said that the ends of children are not kept.
         Err(_) => {
             let _ = rt.eprintln(NoticeLine(Notice::UnknownEnd));
             Some(CommandEnd::Exited(UNKNOWN_STATUS))
@@ -165,10 +165,10 @@ fn look<R: Eprint, P: OpenProcess>(rt: &R, child: &mut Child<P>) -> Option<Comma
     }
 }
 
-/// As many bytes of standard input are read at a time.
+/// The most bytes of standard input that are read at a time.
 const PIECE: usize = 4096;
 
-/// Reads standard input once: whether it has ended, or cannot be read.
+/// Reads standard input once. Returns an end if it has ended, or cannot be read.
 fn read_input<R: Input>(rt: &R) -> Option<CommandEnd>
     ensures { (result ≡ None) ⊎ (result ≡ Some (Exited 0)) }
 {

@@ -1,4 +1,4 @@
--- A lock desk: who waits for the lock at a node, to whom it is lent, and what each call makes of
+-- A lock desk: who waits for the lock at a node, to whom it is lent, and how each call changes
 -- that.
 use Rattle.std.specs.Prelude.{ℕ, ◌-◌, Bool, true, false, not, ◌&&◌, ◌||◌, ◌==◌, if◌then◌else◌, nat_lt, nat_le, List, [], ◌∷◌, ◌++◌, length, filter, Option, Some, None, is_some}
 use Rattle.std.specs.List.{list_any, list_all}
@@ -6,8 +6,8 @@ use Rattle.lock_desk.specs.declared.fault.AskFault.{AskFault}
 use Rattle.lock_desk.specs.declared.fault.AskFault.TheVariants.{Full, Twice}
 
 -- what a desk knows: the tickets that wait, in the order in which they asked; the ticket that the
--- lock is lent to; how many further ticks that loan outlasts if there is a lease; and whether a
--- loan ended since the last full tick
+-- lock is lent to; how many more ticks that loan outlasts if there is a lease; and whether a loan
+-- ended since the last full tick
 pub record DeskState : Type 0 where
   pub waiting : List ℕ
   pub lent : Option ℕ
@@ -22,7 +22,7 @@ no_desk = record { waiting = []; lent = None; left = 0; served = false }
 abbrev pub is_in : List ℕ → ℕ → Bool
 is_in tickets t = list_any (λ w. w == t) tickets
 
--- no ticket stands twice in the list
+-- no ticket appears twice in the list
 abbrev pub are_distinct : List ℕ → Bool
 are_distinct [] = true
 are_distinct (t ∷ ts) = not (is_in ts t) && are_distinct ts
@@ -53,7 +53,7 @@ abbrev pub may_be_lent : List ℕ → Option ℕ → Bool
 may_be_lent tickets None = true
 may_be_lent tickets (Some t) = is_number t && not (is_in tickets t)
 
--- a loan has at most the lease left, and what is no loan has nothing left
+-- a loan has at most the lease left, and without a loan nothing is left
 abbrev pub left_fits : ℕ → Option ℕ → ℕ → Bool
 left_fits lease lent left = nat_le left lease && (is_some lent || left == 0)
 
@@ -67,7 +67,7 @@ desk_fits lease d =
     && may_be_lent d.waiting d.lent
     && left_fits lease d.lent d.left
 
--- to ask is refused as Full if 64 tickets wait, and else as Twice if this ticket waits or
+-- asking is refused as Full if 64 tickets wait, and otherwise as Twice if this ticket waits or
 -- borrows
 abbrev pub ask_fault : ℕ → DeskState → Option AskFault
 ask_fault t d =
@@ -104,7 +104,7 @@ after_leave t d =
 abbrev pub loan_ends : Bool → ℕ → DeskState → Bool
 loan_ends privileged lease d = lends d && (not privileged || (nat_lt 0 lease && d.left == 0))
 
--- a loan that goes on has a tick less left, if there is a lease
+-- a loan that goes on has one tick less left, if there is a lease
 abbrev pub counted_down : ℕ → DeskState → DeskState
 counted_down lease d = if lends d && nat_lt 0 lease then record d { left = d.left - 1 } else d
 
@@ -131,7 +131,7 @@ lent_next lease d = lent_to_first lease d.waiting d
 abbrev pub loan_begun : Bool → ℕ → DeskState → DeskState
 loan_begun privileged lease d = if lends_next privileged d then lent_next lease d else d
 
--- the last part of a tick: a desk that lends to nobody has not served any more
+-- the last part of a tick: for a desk that lends to nobody, `served` is cleared
 abbrev pub cleared : DeskState → DeskState
 cleared d = if lends d then d else record d { served = false }
 

@@ -1,4 +1,4 @@
--- Laws of a desk: what the layers above may rest on.
+-- Laws of a desk: what the layers above may rely on.
 use Rattle.std.specs.Prelude.{◌≡◌, ◌⊎◌, ℕ, ◌<◌, Bool, true, false, not, ◌&&◌, ◌||◌, if◌then◌else◌, List, [], ◌∷◌, length, Option, None, is_some}
 use Rattle.lock_desk.specs.Desk.{DeskState, lends, is_number, desk_fits, ask_fault, asked, after_leave, desk_ticked, loan_fits, with_loan}
 use Rattle.lock_desk.specs.Act.{desk_act}
@@ -19,7 +19,7 @@ OnlyTicksLend =
     → (lends (asked t d) ≡ true → lends d ≡ true)
     × (lends (after_leave t d) ≡ true → lends d ≡ true)
 
--- a loan that outlasts a tick is the loan that stood before: no tick ends one and begins another
+-- a loan that outlasts a tick is the same as before it: no tick ends one and begins another
 abbrev pub LoansAreNotExchanged : Type 0
 LoansAreNotExchanged =
     (lease : ℕ) (privileged : Bool) (d : DeskState) → lends d ≡ true
@@ -48,7 +48,7 @@ is_full_tick lease (Ticks privileged) d = not (lends (desk_ticked lease privileg
 abbrev pub begins_loan : ℕ → DeskCall → DeskState → Bool
 begins_loan lease call d = not (lends d) && lends (after_call lease call d)
 
--- no loan begins in these calls, up to the first full tick and in it
+-- no loan begins in these calls, up to and including the first full tick
 abbrev pub LendsNoMore : ℕ → DeskState → List DeskCall → Type 0
 LendsNoMore lease d [] = Unit {0}
 LendsNoMore lease d (call ∷ calls) =
@@ -62,7 +62,7 @@ OneLoanAStay =
     (lease : ℕ) (d : DeskState) (calls : List DeskCall) → lends d || d.served ≡ true
     → LendsNoMore lease d calls
 
--- a full tick with privilege, while somebody waits, is one of a desk that had served, or one that
+-- if a tick with privilege is full while somebody waits, the desk had served before, or the tick
 -- ended a loan
 abbrev pub PassesOnlyServed : Type 0
 PassesOnlyServed =
@@ -75,8 +75,8 @@ FullTicksClear =
     (lease : ℕ) (privileged : Bool) (d : DeskState) → lends (desk_ticked lease privileged d) ≡ false
     → (desk_ticked lease privileged d).served ≡ false
 
--- those who wait after a tick: all but the first, which the lock is lent to, if a loan began;
--- and else all
+-- those who wait after a tick: if a loan began, all but the first, which the lock is lent to;
+-- otherwise all
 abbrev pub IsTurn : List ℕ → List ℕ → DeskAct → Type 0
 IsTurn before after (Granted t) = before ≡ t ∷ after
 IsTurn before after (Lost t) = before ≡ after
@@ -95,13 +95,13 @@ TicksKeepRanges =
     (lease : ℕ) (privileged : Bool) (d : DeskState) → desk_fits lease d ≡ true
     → desk_fits lease (desk_ticked lease privileged d) ≡ true
 
--- if a ticket asks
+-- it does so if a ticket asks and is not refused
 abbrev pub AsksKeepRanges : Type 0
 AsksKeepRanges =
     (lease t : ℕ) (d : DeskState) → is_number t ≡ true → desk_fits lease d ≡ true
     → ask_fault t d ≡ None → desk_fits lease (asked t d) ≡ true
 
--- if one leaves
+-- and if a ticket leaves
 abbrev pub LeavesKeepRanges : Type 0
 LeavesKeepRanges =
     (lease t : ℕ) (d : DeskState) → desk_fits lease d ≡ true

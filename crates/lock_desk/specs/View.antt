@@ -2,7 +2,7 @@
 use Rattle.std.specs.Prelude.{ℕ}
 use Rattle.lock_desk.specs.Desk.{DeskState}
 
--- a desk as its owner sees it: the ticks that a loan is for (0 is no limit), and the state
+-- a desk as its owner sees it: how many ticks a loan is for (0 means no limit), and the state
 pub record DeskView : Type 0 where
   pub lease : ℕ
   pub state : DeskState

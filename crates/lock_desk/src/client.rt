@@ -8,8 +8,8 @@ use crate::ClientLine;
 use byte_lines::{HalfLine, LineReading};
 use std::marker::Model;
 
-/// Reads the lines of one client, in whatever pieces its bytes come. It keeps the line under way,
-/// up to 16 bytes of it: a longer one is one `Unknown`, at its newline.
+/// Reads the lines of one client, in whatever pieces its bytes arrive. It keeps up to 16 bytes of
+/// the line under way: a longer line is one `Unknown`, at its newline.
 #[derive(Drop)]
 pub struct ClientReader {
     half: HalfLine<16>,
@@ -22,7 +22,7 @@ impl Model for ClientReader {
 }
 
 impl ClientReader {
-    /// A reader to which no byte came.
+    /// A reader that has taken no byte.
     pub fn new() -> ClientReader
         ensures { StandsAfter 16 [] result }
     {
@@ -31,7 +31,7 @@ impl ClientReader {
         }
     }
 
-    /// Takes the next byte, and answers the line that it ends, if it is a newline.
+    /// Takes the next byte, and returns the line that it ends, if it is a newline.
     pub fn push(&mut self, byte: u8) -> Option<ClientLine>
         ensures stands { (bytes : List ℕ) → StandsAfter 16 bytes self.old
             → StandsAfter 16 (bytes ++ byte ∷ []) self.new }

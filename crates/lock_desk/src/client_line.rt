@@ -7,7 +7,7 @@ pub enum ClientLine {
     Lock,
     /// `unlock`: it gives the lock back, or waits no longer.
     Unlock,
-    /// `status`: it asks how the node stands.
+    /// `status`: it asks for the status of the node.
     Status,
     /// Any other line.
     Unknown,

@@ -42,8 +42,8 @@ impl<A: Allocator> Model for Desk<A> {
 }
 
 impl<A: Allocator> Desk<A> {
-    /// A desk at which nobody asked, with loans of this many ticks; 0 is no limit. All places are
-    /// reserved here.
+    /// A desk at which nobody has asked, with loans of this many ticks; 0 means no limit. All
+    /// places are reserved here.
     ///
     /// # Errors
     /// If memory runs out.
@@ -60,7 +60,7 @@ impl<A: Allocator> Desk<A> {
         })
     }
 
-    /// The ticks that a loan is for; 0 is no limit.
+    /// How many ticks a loan is for; 0 means no limit.
     pub fn lease(&self) -> u16
         ensures lease { result ≡ self.now.lease }
         ensures fits { IsTrue (desk_fits self.now.lease self.now.state) }
@@ -90,7 +90,7 @@ impl<A: Allocator> Desk<A> {
         self.waiting.as_slice()
     }
 
-    /// How many further ticks the loan outlasts if there is a lease; 0 if there is no loan.
+    /// How many more ticks the loan outlasts if there is a lease; 0 if there is no loan.
     pub fn left(&self) -> u16
         ensures { result ≡ self.now.state.left }
     {
@@ -111,9 +111,9 @@ impl<A: Allocator> Desk<A> {
         self.waiting.contains(&ticket)
     }
 
-    /// Puts the ticket after all others that wait. Refused as `Full` if 64 tickets wait,
-    /// whichever they are, and else as `Twice` if this one waits or the lock is lent to it; then
-    /// nothing has changed.
+    /// Puts the ticket after all others that wait. Refused as `Full` if 64 tickets wait, whichever
+    /// they are, and otherwise as `Twice` if this one waits or the lock is lent to it. If it is
+    /// refused, nothing changes.
     pub fn ask(&mut self, ticket: u16) -> Result<(), AskFault>
         // It is accepted exactly if nothing forbids it; else the first fault is reported.
         ensures accepted { OnOk result (ask_fault ticket self.old.state ≡ None) }
@@ -132,12 +132,12 @@ impl<A: Allocator> Desk<A> {
         Ok(())
     }
 
-    /// Takes the ticket out of those that wait, or ends its loan. Refused if it does neither;
-    /// then nothing has changed.
+    /// Takes the ticket out of those that wait, or ends its loan. Refused if it neither waits nor
+    /// borrows; then nothing changes.
     pub fn leave(&mut self, ticket: u16) -> Result<(), Stranger>
         ensures gone { OnOk result (self.new
             ≡ record self.old { state = after_leave ticket self.old.state }) }
-        // Exactly a stranger, who neither waits nor borrows, is refused.
+        // A ticket is refused exactly if it is a stranger: it neither waits nor borrows.
         ensures known { OnOk result (is_stranger ticket self.old.state ≡ false) }
         ensures refused { OnErr result (is_stranger ticket self.old.state ≡ true) }
         ensures unchanged { OnErr result (self.new ≡ self.old) }
@@ -162,11 +162,11 @@ impl<A: Allocator> Desk<A> {
         self.served = true;
     }
 
-    /// What a tick of the node does at its desk, in this order. A loan ends if the node has no
-    /// privilege or its lease ran out, and else has a tick less left. If the node is privileged,
-    /// lends to nobody, has not served and somebody waits, the first who waits borrows. If it
-    /// now lends to nobody, `served` is cleared: the tick is a full one, and the node's machines
-    /// may move.
+    /// Does what a tick of the node does at its desk, in this order. A loan ends if the node has no
+    /// privilege or the lease has run out; otherwise, if there is a lease, it has one tick less
+    /// left. If the node is privileged, lends to nobody, has not served and somebody waits, the
+    /// first who waits borrows. If it now lends to nobody, `served` is cleared: the tick is a full
+    /// one, and the node's machines may move.
     pub fn tick(&mut self, privileged: bool) -> DeskAct
         ensures ticked { self.new
             ≡ record self.old { state = desk_ticked self.old.lease privileged self.old.state } }
@@ -212,8 +212,8 @@ impl<A: Allocator> Desk<A> {
         }
     }
 
-    /// Writes a loan. Refused if its ticket waits, if more is left than the lease, or if
-    /// anything is left of no loan; then nothing has changed.
+    /// Writes a loan. Refused if its ticket waits, if more is left than the lease, or if anything
+    /// is left without a loan; then nothing changes.
     pub fn set_loan(&mut self, lent: Option<u16>, left: u16, served: bool) -> Result<(), OutOfRange>
         ensures written { OnOk result (self.new
             ≡ record self.old { state = with_loan self.old.state lent left served }) }
@@ -231,8 +231,8 @@ impl<A: Allocator> Desk<A> {
         Ok(())
     }
 
-    /// Writes those who wait, the next one first. Refused if they are more than 64, if one
-    /// stands twice, or if one of them borrows; then nothing has changed.
+    /// Replaces the tickets that wait by these, the next one first. Refused if there are more than
+    /// 64, if one appears twice, or if one of them borrows; then nothing changes.
     pub fn set_waiting(&mut self, tickets: &[u16]) -> Result<(), OutOfRange>
         ensures written { OnOk result (self.new
             ≡ record self.old { state = with_queue self.old.state tickets.now }) }

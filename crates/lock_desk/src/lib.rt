@@ -2,19 +2,19 @@
 //!
 //! A `Desk` has the tickets that wait for the lock at one node, at most 64 and in the order in
 //! which they asked, and the loan of the lock to one of them. `ask` puts a ticket last, `leave`
-//! takes it out or ends its loan, and `tick`, once a tick of the node, ends a loan and begins the
-//! next. A `ClientReader` reads what one client writes: `lock`, `unlock` and `status`.
+//! takes it out or ends its loan, and `tick`, once in each tick of the node, ends a loan or begins
+//! the next. A `ClientReader` reads what one client writes: `lock`, `unlock` and `status`.
 //!
-//! It is no mutual exclusion by itself: a desk lends whenever its node says that it is privileged.
-//! That one node alone is privileged is what the network sees to. Nor does a ticket prove anything
-//! to others: there are no fencing numbers.
+//! A desk alone does not give mutual exclusion: it lends whenever its node says that it is
+//! privileged. It is the network that ensures that only one node is privileged. Nor does a ticket
+//! prove anything to others: there are no fencing numbers.
 //!
 //! The trap: a loan does not outlast the first tick without privilege, so `tick` must be given the
 //! privilege of that very moment, and a `Lost` must be handed on to the client. After a loan the
-//! desk lends to nobody until a tick has ended with no loan, also if others wait: that tick lets
+//! desk lends to nobody until a tick has ended with no loan, even if others wait: that tick lets
 //! the token pass.
 //!
-//! Its rules are this project's own; the token that it rests on is that of Dijkstra,
+//! Its rules are this project's own; the token that it relies on is that of Dijkstra,
 //! Self-stabilizing systems in spite of distributed control, 1974.
 #![tactic(auto)]
 

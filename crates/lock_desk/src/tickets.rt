@@ -17,14 +17,14 @@ pub fn take_out<A: Allocator>(tickets: &mut Vec<u16, A>, ticket: u16)
     tickets.retain(move |waiting| *waiting != ticket)
 }
 
-/// Whether the tickets may wait if the lock is lent so.
+/// Whether these tickets may wait while the lock is lent as `lent` says.
 pub fn queue_fits(tickets: &[u16], lent: Option<u16>) -> bool
     ensures { result ≡ queue_fits tickets.now lent }
 {
     tickets.len() <= PLACES && are_distinct(tickets) && may_be_lent(tickets, lent)
 }
 
-/// Whether the lock may be lent so while the tickets wait.
+/// Whether the lock may be lent as `lent` says while these tickets wait.
 pub fn may_be_lent(tickets: &[u16], lent: Option<u16>) -> bool
     ensures { result ≡ may_be_lent tickets.now lent }
 {
@@ -34,7 +34,7 @@ pub fn may_be_lent(tickets: &[u16], lent: Option<u16>) -> bool
     }
 }
 
-/// Whether no ticket stands twice in the list.
+/// Whether no ticket appears twice in the list.
 fn are_distinct(tickets: &[u16]) -> bool
     ensures { result ≡ are_distinct tickets.now }
 {
@@ -46,7 +46,7 @@ fn are_distinct(tickets: &[u16]) -> bool
     true
 }
 
-/// Writes tickets in place of those of the list.
+/// Replaces the tickets of the list by these.
 pub fn write_over<A: Allocator>(list: &mut Vec<u16, A>, tickets: &[u16])
     requires { length tickets.now ≤ vec_capacity list.old }
     ensures tickets { list.new.items ≡ tickets.now }

@@ -10,7 +10,8 @@ abbrev pub parent_or : Option ℕ → Option ℕ → Option ℕ
 parent_or (Some parent) least = Some parent
 parent_or None least = least
 
--- it comes in from the node's parent, or from its least neighbour if it has none, as the root
+-- it comes in from the node's parent, or from its least neighbour if it has no parent, like the
+-- root
 abbrev pub counted_port : Site → LocalState → Option ℕ
 counted_port site s = parent_or s.parent (lowest site.neighbours)
 

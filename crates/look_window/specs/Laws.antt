@@ -15,7 +15,7 @@ use Rattle.node_texts.specs.LookText.{status_part}
 use Rattle.look_window.specs.Counted.{machine_from}
 use Rattle.look_window.specs.NodeLook.{node_look}
 
--- the line for whoever looks begins with the values of the status line that the node would write then
+-- the line for lookers begins with the values of the status line that the node would write then
 abbrev pub LooksSayTheStatus : Type 0
 LooksSayTheStatus =
     (site : Site) (s : LocalState) (notes : TurnNotes) (process : ProcessPart) (version : List ℕ) (now : ℕ)
@@ -29,7 +29,8 @@ is_moved site s t =
     is_none (ticked site s).desk.lent
     && (is_on (tree_of site (recomputed site s)) t && may_move site (recomputed site s) t)
 
--- of a machine that is seen before a tick and after it, one move is counted if it moved, and none if it did not
+-- for a machine that is seen before a tick and after it, one move is counted if it moved, and none if it did
+-- not
 abbrev pub MovesAreCounted : Type 0
 MovesAreCounted =
     (site : Site) (s : LocalState) (t : ℕ) → s.value t < site.ranges.ring → 1 < site.ranges.ring

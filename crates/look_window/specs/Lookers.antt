@@ -10,7 +10,8 @@ abbrev pub is_whole : WriteAnswer → List ℕ → Bool
 is_whole (Wrote count) bytes = count == length bytes
 is_whole _ bytes = false
 
--- the line was written to the looker once, as its pipe answered, and said whole if it took all of it
+-- the line was written to the looker once, as its pipe answered, and is reported as whole if the
+-- looker took all of it
 abbrev pub IsShown : {P : Type 0} → (P → Option (List ℕ)) → (P → Counts) → List ℕ → P → P → Bool → Type 0
 IsShown took counts line old new whole =
     (answer : WriteAnswer) × Writes answer line (took old) (took new) (counts old) (counts new)

@@ -7,7 +7,7 @@ use Rattle.node_core.specs.Status.{status_line}
 use Rattle.node_texts.specs.declared.status_line.StatusLine.{StatusLine}
 use Rattle.node_texts.specs.StatusText.{status_text}
 
--- what a node says of itself
+-- what a node says about itself
 abbrev pub line_of : Site → LocalState → StatusLine
 line_of site s = record {
   node = site.id;

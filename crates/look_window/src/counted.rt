@@ -8,9 +8,9 @@ use node_core::Node;
 use std::alloc::Allocator;
 use turn_watch::MachineSight;
 
-/// The machine that comes in from the node's parent. The root has none, and there it is the one from the
-/// least neighbour: once the network is settled, the machine that begins each round. A node that is alone
-/// has no machine.
+/// The machine that comes in from the node's parent. The root has no parent; there it is the machine from
+/// the least neighbour, which begins each round once the network is settled. A node that is alone has no
+/// machine.
 pub fn counted_machine<A: Allocator>(node: &Node<A>) -> Option<MachineSight>
     ensures { result ≡ counted_machine (site_in node.now) (state_of node.now) }
 {
@@ -19,7 +19,7 @@ pub fn counted_machine<A: Allocator>(node: &Node<A>) -> Option<MachineSight>
     Some(MachineSight { port, value })
 }
 
-/// From which neighbour it comes in.
+/// The neighbour from which that machine comes in.
 fn counted_port<A: Allocator>(node: &Node<A>) -> Option<u16>
     ensures port { result ≡ counted_port (site_in node.now) (state_of node.now) }
     ensures node { IfSome result (λ port. port < (site_in node.now).ranges.nodes) }

@@ -1,7 +1,8 @@
-//! The window into a node: what it notes of itself, who is shown how it stands, and what they are shown.
+//! The window into a node: what it notes about itself, which lookers are shown how it stands, and what
+//! they are shown.
 //!
-//! Whoever connects to a node's socket for lookers gets one line, a JSON object, and is closed. Nothing is
-//! read from them.
+//! Whoever connects to a node's socket for lookers gets one line, a JSON object; then the connection is
+//! closed. Nothing is read from lookers.
 //!
 //! ```
 //! let mut window = LookNotes::open(rt, USUAL_LIMIT, "0.1.0", now);
@@ -15,11 +16,11 @@
 //! }                                                           // each looker is closed as it is dropped
 //! ```
 //!
-//! Of those who come between two turns 64 are shown the line, and further ones are closed. A new socket of
-//! Linux takes 100 KB at once, and no line has more than 8 KB. So each line goes out in one write, a looker
-//! that reads nothing keeps nothing waiting, and nobody is kept from one turn to the next.
+//! Of the lookers that come between two turns, 64 are shown the line, and further ones are closed. A new
+//! socket on Linux takes 100 KB at once, and no line has more than 8 KB. So each line goes out in one
+//! write, a looker that reads nothing keeps nothing waiting, and nobody is kept from one turn to the next.
 //!
-//! The trap: a looker that reads nothing before the end came as the 65th. It asks again.
+//! The trap: a looker that reads nothing before the end came after the first 64. It should ask again.
 #![tactic(auto)]
 
 mod counted;

@@ -1,4 +1,4 @@
-//! The line for whoever looks at a node.
+//! The line for lookers at a node.
 ghost use Rattle.std.specs.Prelude.{◌≡◌, ◌<◌, IfOk, length, string_bytes};
 ghost use Rattle.node_core.specs.View.{site_in, state_of};
 ghost use Rattle.look_window.specs.NodeLook.{node_look};
@@ -9,7 +9,7 @@ use node_texts::{LoanPart, LookAnswer, ProcessPart, StatusLine, TurnPart, link_p
 use std::alloc::{AllocError, Allocator, Global};
 use turn_watch::TurnNotes;
 
-/// What a node says of its process.
+/// What a node says about its process.
 #[derive(Clone, Copy)]
 pub struct ProcessSaid<'a> {
     /// The process.
@@ -18,8 +18,8 @@ pub struct ProcessSaid<'a> {
     pub version: &'a str,
 }
 
-/// The line for whoever looks at this node at that time, with its newline: what its status line says, and
-/// what was noted of its links, loans and turns, and of the token.
+/// The line for lookers at this node at that time, with its newline: what its status line says, and what
+/// was noted about its links, loans and turns, and about the token.
 ///
 /// # Errors
 /// If memory runs out.

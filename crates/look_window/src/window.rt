@@ -1,4 +1,4 @@
-//! What a node notes of itself, and shows to lookers.
+//! What a node notes about itself, and shows to lookers.
 ghost use Rattle.std.specs.Prelude.{◌≡◌, ◌≢◌, ◌<◌, ℕ, false, is_some, length, slice_get, replicate};
 ghost use Rattle.std.specs.Prelude.{IfOk, Some, string_bytes};
 ghost use Rattle.node_core.specs.View.{site_in, state_of};
@@ -25,7 +25,7 @@ use std::rt::{Clock, Files};
 use std::time::{SystemTime, UNIX_EPOCH};
 use turn_watch::{DeskSight, TurnNotes};
 
-/// What a node noted of itself, and what it says of its process.
+/// What a node noted about itself, and what it says about its process.
 #[derive(Drop)]
 pub struct LookNotes<'a> {
     notes: TurnNotes,
@@ -33,7 +33,7 @@ pub struct LookNotes<'a> {
 }
 
 impl<'a> LookNotes<'a> {
-    /// Notes begin at this time. Turns are late after `limit` microseconds.
+    /// Notes that begin at this time. Turns are late after `limit` microseconds.
     pub fn open<R: Files + Clock + AllocGlobal>(
         rt: &R,
         limit: u64,
@@ -56,7 +56,7 @@ impl<'a> LookNotes<'a> {
         }
     }
 
-    /// The node did something that is no turn.
+    /// The node did something other than a turn.
     pub fn attended(&mut self, node: &Node, now: u64)
         ensures { self.new ≡ record self.old {
           notes = record self.old.notes {
@@ -72,7 +72,7 @@ impl<'a> LookNotes<'a> {
 
     /// A turn has ended at this time, in microseconds of the node's clock. `ports` are the node's, one for each
     /// of the network's `nodes` nodes by its id, and `has_granted` says whether a loan began. Each turn notes
-    /// the link to one node, the next turn that to the next.
+    /// the link to one node, and the next turn the link to the next node.
     pub fn turn_ended<P: Pipe>(
         &mut self,
         node: &Node,
@@ -112,7 +112,7 @@ impl<'a> LookNotes<'a> {
         }
     }
 
-    /// The line for whoever looks at the node at this time.
+    /// The line for lookers at the node at this time.
     ///
     /// # Errors
     /// If memory runs out.
@@ -126,13 +126,13 @@ impl<'a> LookNotes<'a> {
     }
 }
 
-/// Which process this is, if the system says it.
+/// The id of this process, if the system gives it.
 fn own_process<F: Files + AllocGlobal>(files: &F) -> Option<u64> {
     let found = fs::read_link(files, "/proc/self").ok()?;
     found.path_text().parse::<u64>().ok()
 }
 
-/// The milliseconds since the start of 1970, UTC, if the system says them.
+/// The milliseconds since the start of 1970, UTC, if the system gives them.
 fn millis_now<C: Clock>(clock: &C) -> Option<u64> {
     let now = SystemTime::now(clock).ok()?;
     let since = now.duration_since(UNIX_EPOCH).ok()?;

@@ -1,5 +1,5 @@
--- What `bound --json` prints for a network, as data. An object's members stand in the order of
--- their names.
+-- What `bound --json` prints for a network, as data. An object's members are in the order of their
+-- names.
 use Rattle.std.specs.Prelude.{ℕ, Bool, if◌then◌else◌, List, length, map, Option, Some, None, codes}
 use Rattle.std.specs.List.{range_with_len}
 use Rattle.serde_json.specs.Data.{Data, Members, null, number, unsigned, array, object, no_members, put}
@@ -25,7 +25,7 @@ abbrev pub column_value : NodeColumn → Network → ℕ → Data
 column_value Distances net v = count (distance_of net v)
 column_value Parents net v = or_null (parent_of net v)
 
--- and of the first nodes, by ascending id
+-- what a column says of the first `nodes` nodes, by ascending id
 abbrev pub column_data : NodeColumn → Network → ℕ → List Data
 column_data column net nodes = map (column_value column net) (range_with_len 0 nodes)
 
@@ -38,7 +38,7 @@ shape_members net others =
     (put (codes "edges") (count (length net.edges))
     (put (codes "nodes") (count net.nodes) others))))
 
--- those of all eight
+-- the numbers of all eight lines, added to other members
 abbrev pub bound_members : Network → Members → Members
 bound_members net others =
     put (codes "sweeps") (count (bound_of net))

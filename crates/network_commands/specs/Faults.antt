@@ -1,4 +1,4 @@
--- Which faults a command may end with that reads a network and prints a text.
+-- The faults with which a command that reads a network and prints a text may end.
 use Rattle.command_faults.specs.declared.fault.Fault.{Fault}
 use Rattle.command_faults.specs.declared.fault.Fault.TheVariants.{Network, Memory, Output, Closed}
 

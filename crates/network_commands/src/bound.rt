@@ -96,7 +96,7 @@ pub fn push_number(text: &mut String, word: &str, number: u32) -> Result<(), All
     writeln!(text, "{word} {number}")
 }
 
-/// What is said of each node.
+/// What a line says of each node.
 #[derive(Clone, Copy)]
 pub(crate) enum NodeColumn {
     /// Its distance.

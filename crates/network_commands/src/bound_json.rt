@@ -54,7 +54,7 @@ pub fn bound_json(
     value.to_string(alloc)
 }
 
-/// The same as a value.
+/// The same numbers as a value.
 fn bound_value(
     alloc: Global,
     net: &Net,
@@ -149,7 +149,7 @@ fn list_of(alloc: Global, net: &Net, column: NodeColumn) -> Result<Value, AllocE
     Ok(Value::Array(list))
 }
 
-/// Adds that to an empty list.
+/// Adds what a column says of all nodes to an empty list.
 fn push_column(list: &mut Vec<Value>, net: &Net, column: NodeColumn) -> Result<(), AllocError>
     requires { list.old.items ≡ [] }
     ensures { OnOk result (map view list.new.items ≡ column_data column net.now net.now.nodes) }

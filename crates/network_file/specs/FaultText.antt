@@ -4,7 +4,7 @@ use Rattle.topology.specs.FaultName.{fault_name}
 use Rattle.network_file.specs.declared.fault.NetworkFault.{NetworkFault}
 use Rattle.network_file.specs.declared.fault.NetworkFault.TheVariants.{Unreadable, Refused}
 
--- that it is the network, and the name of the fault
+-- the word `network`, and the name of the fault
 abbrev pub network_fault_text : NetworkFault → List ℕ
 network_fault_text Unreadable = codes "network Unreadable"
 network_fault_text (Refused fault) = codes "network " ++ fault_name fault

@@ -1,4 +1,4 @@
--- The line of what a node finds in its network file.
+-- The line that says what a node finds in its network file.
 use Rattle.std.specs.Prelude.{ℕ, Bool, not, ◌==◌, if◌then◌else◌, List, [], ◌∷◌, ◌++◌, length, codes, decimal, Result, Ok, Err}
 use Rattle.topology.specs.Network.{Network, Edge, are_joined}
 use Rattle.topology.specs.Change.{is_same_frame}
@@ -9,11 +9,11 @@ use Rattle.network_file.specs.FaultText.{network_fault_text}
 abbrev pub edge_text : Edge → List ℕ
 edge_text edge = codes " [" ++ (decimal edge.0 ++ (codes ", " ++ (decimal edge.1 ++ codes "]")))
 
--- the same, and nothing of an edge that is one of these already
+-- the same, but nothing for an edge that is one of these already
 abbrev pub edge_if_new : List Edge → Edge → List ℕ
 edge_if_new edges edge = if are_joined edges edge.0 edge.1 then [] else edge_text edge
 
--- those of the second edges that are none of the first
+-- those of the second edges that are not among the first
 abbrev pub new_edges_text : List Edge → List Edge → List ℕ
 new_edges_text edges [] = []
 new_edges_text edges (edge ∷ rest) = edge_if_new edges edge ++ new_edges_text edges rest
@@ -34,7 +34,7 @@ not_taken_line id file why =
     codes "tokentree: node " ++ (decimal id ++ (codes " does not take up " ++ (file
     ++ (codes ": " ++ why))))
 
--- what a node says that has this network
+-- what a node that has this network says
 abbrev pub news_line : ℕ → List ℕ → Network → Result Network NetworkFault → List ℕ
 news_line id file own (Err fault) = not_taken_line id file (network_fault_text fault)
 news_line id file own (Ok net) =

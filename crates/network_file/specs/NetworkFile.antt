@@ -1,4 +1,4 @@
--- When the bytes of a file are a network, and with which fault they are refused.
+-- When the bytes of a file are a network, and which fault they have if not.
 use Rattle.std.specs.Prelude.{◌≡◌, ℕ, ◌<◌, ◌≤◌, List, length, ◌⊎◌}
 use Rattle.std.specs.Str.{IsUtf8}
 use Rattle.topology.specs.Network.{Network}
@@ -11,12 +11,12 @@ use Rattle.network_file.specs.declared.fault.NetworkFault.TheVariants.{Unreadabl
 abbrev pub most_bytes : ℕ
 most_bytes = 1048576
 
--- the bytes are few enough and, as a text, the network
+-- the bytes are few enough and, read as a text, give the network
 abbrev pub IsNetworkOf : List ℕ → Network → Type 0
 IsNetworkOf bytes net = (length bytes ≤ most_bytes) × IsReadFrom bytes net
 
--- the bytes are too many; or few enough and no UTF-8, so no TOML; or a text that is refused for the
--- fault
+-- the bytes are too many; or few enough, but not UTF-8 and so not TOML; or a text that is invalid
+-- with this fault
 abbrev pub IsRefusedFor : List ℕ → NetworkFault → Type 0
 IsRefusedFor bytes Unreadable = most_bytes < length bytes
 IsRefusedFor bytes (Refused fault) =

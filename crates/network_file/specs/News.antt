@@ -9,11 +9,11 @@ use Rattle.network_file.specs.declared.news.Found.TheVariants.{Same, OtherEdges,
 use Rattle.network_file.specs.declared.news.FileNews.{FileNews}
 use Rattle.network_file.specs.Reasons.{reason}
 
--- the second network has an edge that the first has not
+-- the second network has an edge that the first does not have
 abbrev pub has_new : Network → Network → Bool
 has_new first second = list_any (λ edge. not (are_joined first.edges edge.0 edge.1)) second.edges
 
--- what a file says to a node that has this network
+-- what a node that has this network finds in a file
 abbrev pub found_in : Network → Result Network NetworkFault → Found
 found_in own (Err fault) = Refused fault
 found_in own (Ok net) =
@@ -21,15 +21,16 @@ found_in own (Ok net) =
     then (if has_new own net || has_new net own then OtherEdges else Same)
     else Other
 
--- nothing was refused when the file was read last
+-- there was no reason against the file when it was last read
 abbrev pub new_news : FileNews
 new_news = record { refused = 0 }
 
--- what is remembered is why the file was not taken up
+-- a node remembers why the file was not taken up
 abbrev pub news_then : Found → FileNews
 news_then found = record { refused = reason found }
 
--- a change of edges is said, and why a file is not taken up, unless that was so before
+-- a change of edges is reported; so is why a file is not taken up, unless the reason was the same
+-- before
 abbrev pub is_said : Found → ℕ → Bool
 is_said Same before = false
 is_said OtherEdges before = true

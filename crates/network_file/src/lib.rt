@@ -1,4 +1,4 @@
-//! The network of a file, and what a node says of its file, which it reads again and again while it runs.
+//! The network of a file, and what a node says about its file, which it reads repeatedly while it runs.
 //!
 //! ```
 //! let net = read_network(rt, "two-nodes.toml")?;       // or a `NetworkFault`
@@ -9,12 +9,12 @@
 //! }
 //! ```
 //!
-//! What makes a text a network stands in `topology`. Here stands what makes a file such a text: it
-//! is a plain file of at most 1,048,576 bytes, and they are UTF-8.
+//! `topology` says what makes a text a network. This crate says what makes a file such a text: it
+//! is a plain file of at most 1,048,576 bytes, which are UTF-8.
 //!
 //! The traps: memory that runs out while the file is read is a fault of the network, not of the file. And
-//! the line compares the file with the network that the node has, so it is made before the node takes the
-//! new edges up.
+//! the line compares the file with the network that the node has, so it is made before the node takes up
+//! the new edges.
 #![tactic(auto)]
 
 mod fault;

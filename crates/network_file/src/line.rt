@@ -1,4 +1,4 @@
-//! The line of what a node finds in its network file.
+//! The line that says what a node finds in its network file.
 ghost use Rattle.std.specs.Prelude.{◌≡◌, ◌++◌, OnOk, IfOk, string_bytes};
 ghost use Rattle.network_file.specs.Line.{news_line, taken_line, or_none, new_edges_text, edge_if_new};
 
@@ -53,14 +53,14 @@ fn taken_line(
     )
 }
 
-/// A list, or that it is empty.
+/// A list, or ` none` if it is empty.
 fn or_none<'a>(list: &'a str) -> &'a str
     ensures { result.now ≡ or_none list.now }
 {
     if list.is_empty() { " none" } else { list }
 }
 
-/// The edges of the second network that the first has not, a space before each.
+/// The edges of the second network that the first does not have, with a space before each.
 fn new_edges_text(alloc: Global, first: &Net, second: &Net) -> Result<String, AllocError>
     ensures { IfOk result
         (λ text. string_bytes text ≡ new_edges_text first.now.edges second.now.edges) }
@@ -70,7 +70,7 @@ fn new_edges_text(alloc: Global, first: &Net, second: &Net) -> Result<String, Al
     Ok(text)
 }
 
-/// Adds those of these edges that a network has not.
+/// Adds those of these edges that a network does not have.
 fn push_new(text: &mut String, net: &Net, edges: &[(u16, u16)]) -> Result<(), AllocError>
     ensures { OnOk result (string_bytes text.new
         ≡ string_bytes text.old ++ new_edges_text net.now.edges edges.now) }

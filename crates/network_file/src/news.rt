@@ -19,7 +19,7 @@ pub enum Found {
     Refused(NetworkFault),
 }
 
-/// What is found in a file that was read so, by a node that has this network.
+/// What a node that has this network finds in a file that was read with this result.
 pub fn found_in(own: &Net, read: &Result<Net, NetworkFault>) -> Found
     ensures { result ≡ found_in own.now read.now }
 {
@@ -31,7 +31,7 @@ pub fn found_in(own: &Net, read: &Result<Net, NetworkFault>) -> Found
     }
 }
 
-/// Whether the second network has an edge that the first has not.
+/// Whether the second network has an edge that the first does not have.
 fn has_new(first: &Net, second: &Net) -> bool
     ensures { result ≡ has_new first.now second.now }
 {
@@ -41,7 +41,7 @@ fn has_new(first: &Net, second: &Net) -> bool
         .any(|edge| !first.are_joined(edge.0, edge.1))
 }
 
-/// What a node has said of its network file.
+/// What a node has said about its network file.
 #[derive(Clone, Copy, Drop)]
 pub struct FileNews {
     /// The number of the reason why the file was not taken up when it was read last; 0 if it was.
@@ -56,8 +56,8 @@ impl FileNews {
         FileNews { refused: 0 }
     }
 
-    /// Takes note of what was found, and says whether it is said: each change of edges, and why the file is not
-    /// taken up, unless that was so when it was read last.
+    /// Notes what was found, and returns whether to report it. Each change of edges is reported; so is why the
+    /// file is not taken up, unless the reason was the same when the file was last read.
     pub fn step(&mut self, found: Found) -> bool
         ensures after { self.new ≡ news_then found }
         ensures said { result ≡ is_said found self.old.refused }

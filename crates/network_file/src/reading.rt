@@ -17,7 +17,7 @@ pub const MOST_BYTES: u64 = 1_048_576;
 /// # Errors
 /// [`NetworkFault::Unreadable`] if the file cannot be read, is a folder, a pipe or a device, or has
 /// more than 1,048,576 bytes. [`NetworkFault::Refused`] if memory runs out, if the bytes are not
-/// UTF-8, which is no TOML either, and for whatever refuses the text.
+/// UTF-8, and so not TOML, or if the text is invalid.
 pub fn read_network<R: Files + AllocGlobal>(rt: &R, path: &str) -> Result<Net, NetworkFault> {
     match bytes_of(rt, path) {
         Ok(bytes) => network_of(rt.alloc(), bytes.as_slice()),
@@ -28,9 +28,9 @@ pub fn read_network<R: Files + AllocGlobal>(rt: &R, path: &str) -> Result<Net, N
     }
 }
 
-/// The bytes of a file, of a large one only the first, one more than a network file may have.
+/// The bytes of a file; of a large one only the first ones, one more than a network file may have.
 fn bytes_of<R: Files + AllocGlobal>(rt: &R, path: &str) -> io::Result<Vec<u8>> {
-    // A pipe or a device is not waited for.
+    // This does not wait for a pipe or a device.
     if !fs::metadata(rt, path)?.is_file() {
         return Err(io::Error::from(ErrorKind::InvalidInput));
     }

@@ -1,4 +1,4 @@
--- What is said of a network file that is refused.
+-- What is said of an invalid network file.
 use Rattle.std.specs.Prelude.{ℕ, ℤ, List, ◌++◌, Option, Some, None, codes, decimal}
 use Rattle.std.specs.Fmt.{signed_decimal}
 use Rattle.std.specs.Borrow.{Bor}
@@ -7,7 +7,7 @@ use Rattle.network_hints.specs.declared.flaw.ValueFlaw.{ValueFlaw}
 use Rattle.network_hints.specs.declared.flaw.ValueFlaw.TheVariants.{NoKey, NoInteger, NoArray, NoEdge, OutOfRange}
 use Rattle.network_hints.specs.declared.flaw.ValueFlaw.TheVariants.{TooMany, NoRoot, NoNode, Loop, Twice}
 
--- that it is none of so many nodes
+-- the words which say that it is none of this many nodes
 abbrev pub none_of_text : ℤ → List ℕ
 none_of_text nodes = codes " is none of " ++ (signed_decimal nodes ++ codes " nodes")
 

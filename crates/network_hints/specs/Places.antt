@@ -2,12 +2,12 @@
 use Rattle.std.specs.Prelude.{ℕ, ◌+◌, ◌==◌, nat_lt, ◌&&◌, if◌then◌else◌, List, min}
 use Rattle.std.specs.List.{fold}
 
--- one more, up to the greatest number
+-- a number plus one, up to the greatest number
 abbrev pub one_more : ℕ → ℕ
 one_more n = min (n + 1) 18446744073709551615
 
--- the place after one more byte: a new line after a newline, and the same column after a byte that goes on with a
--- character of UTF-8
+-- the place after one more byte: a new line after a newline, and the same column after a byte that continues a
+-- UTF-8 character
 abbrev pub step : ℕ × ℕ → ℕ → ℕ × ℕ
 step place byte =
     if byte == 10 then (one_more place.0, 1)

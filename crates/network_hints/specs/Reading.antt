@@ -1,4 +1,5 @@
--- The values of a table, over the grammar of the toml crate, or what is wrong with it first.
+-- The values of a table, over the grammar of the toml crate, or the first thing that is wrong with
+-- it.
 use Rattle.std.specs.Prelude.{ℕ, ◌+◌, ℤ, Bool, not, is_some, if◌then◌else◌, List, [], ◌∷◌, Option, Some, None, option_and_then, option_map, Result, Ok, Err}
 use Rattle.toml.specs.Data.{Data, Items, Members, no_items, item, as_integer, as_array, get_member}
 use Rattle.network_hints.specs.Keys.{key_name}
@@ -8,7 +9,7 @@ use Rattle.network_hints.specs.declared.key.Key.TheVariants.{Nodes, Root, Capaci
 use Rattle.network_hints.specs.declared.flaw.ValueFlaw.{ValueFlaw}
 use Rattle.network_hints.specs.declared.flaw.ValueFlaw.TheVariants.{NoKey, NoInteger, NoArray, NoEdge}
 
--- a value changed so, or the same error
+-- a value changed by f, or the same error
 abbrev pub mapped : {X Y E : Type 0} → (X → Y) → Result X E → Result Y E
 mapped f (Ok x) = Ok (f x)
 mapped f (Err e) = Err e
@@ -51,7 +52,7 @@ abbrev pub and_more : Option (ℤ × ℤ) → ℕ → Result (List (ℤ × ℤ))
 and_more None n rest = Err n
 and_more (Some e) n rest = mapped (λ es. e ∷ es) rest
 
--- the edges, each of them, or the place of the first that is none, counted on from n
+-- all edges, or the place of the first item that is no edge, counted on from n
 abbrev pub ends_in : ℕ → Items → Result (List (ℤ × ℤ)) ℕ
 ends_in n no_items = Ok []
 ends_in n (item d ds) = and_more (ends_of d) n (ends_in (n + 1) ds)
@@ -61,7 +62,7 @@ abbrev pub and_then : {X Y : Type 0} → (X → Result Y ValueFlaw) → Result X
 and_then f (Ok x) = f x
 and_then f (Err flaw) = Err flaw
 
--- that flaw of the edges
+-- the edges, or the flaw that there is no edge at that place
 abbrev pub or_place : Result (List (ℤ × ℤ)) ℕ → Result (List (ℤ × ℤ)) ValueFlaw
 or_place (Ok edges) = Ok edges
 or_place (Err place) = Err (NoEdge place)
@@ -79,7 +80,7 @@ values_of ms =
     Ok (record { nodes = nodes; root = root; capacity = capacity; lease = lease; edges = edges }))
     (edges_of ms)) (integer_of Lease ms)) (integer_of Capacity ms)) (integer_of Root ms)) (integer_of Nodes ms)
 
--- the first flaw of the values, or the one for which there are none
+-- the first flaw of the values, or the one because of which there are no values
 abbrev pub flaw_in : Result FileValues ValueFlaw → Option ValueFlaw
 flaw_in (Ok values) = value_flaw values
 flaw_in (Err flaw) = Some flaw

@@ -1,4 +1,4 @@
--- What is wrong first with the values of a network file.
+-- The first thing that is wrong with the values of a network file.
 use Rattle.std.specs.Prelude.{ℤ, pos, Bool, ◌||◌, ◌&&◌, if◌then◌else◌, int_lt, int_le, nat_lt, List, [], ◌∷◌, length, Option, Some, None, option_map}
 use Rattle.std.specs.List.{find, list_any}
 use Rattle.std.specs.Ordering.{int_eq}
@@ -29,7 +29,7 @@ abbrev pub flaw_or : Option ValueFlaw → Option ValueFlaw → Option ValueFlaw
 flaw_or None other = other
 flaw_or (Some flaw) other = Some flaw
 
--- the first number that is out of its range, between nodes and root the number of edges
+-- the first number that is out of its range; the number of edges comes between nodes and root
 abbrev pub number_flaw : FileValues → Option ValueFlaw
 number_flaw v =
     flaw_or (range_flaw Nodes v.nodes (pos 2) (pos 64))
@@ -38,7 +38,7 @@ number_flaw v =
     (flaw_or (range_flaw Capacity v.capacity (pos 1) (pos 4096))
     (range_flaw Lease v.lease (pos 0) (pos 65535)))))
 
--- an end of an edge is no node of n
+-- an end of an edge is none of n nodes
 abbrev pub has_bad_end : ℤ → ℤ × ℤ → Bool
 has_bad_end n e =
     int_lt e.0 (pos 0) || (int_le n e.0 || (int_lt e.1 (pos 0) || int_le n e.1))
@@ -51,12 +51,12 @@ is_loop e = int_eq e.0 e.1
 abbrev pub is_twice : ℤ × ℤ → ℤ × ℤ → Bool
 is_twice e f = (int_eq f.0 e.0 && int_eq f.1 e.1) || (int_eq f.0 e.1 && int_eq f.1 e.0)
 
--- the first edge that stands there again later
+-- the first edge that occurs again later
 abbrev pub first_twice : List (ℤ × ℤ) → Option (ℤ × ℤ)
 first_twice [] = None
 first_twice (e ∷ es) = if list_any (is_twice e) es then Some e else first_twice es
 
--- the first edge that names no node; else the first loop; else the first that stands twice
+-- the first edge that names no node; else the first loop; else the first that occurs twice
 abbrev pub edge_flaw : ℤ → List (ℤ × ℤ) → Option ValueFlaw
 edge_flaw n edges =
     flaw_or (option_map (λ e. NoNode e.0 e.1 n) (find (has_bad_end n) edges))

@@ -1,4 +1,4 @@
--- What was read of a file, without where it lies in memory.
+-- What was read from a file, without its place in memory.
 use Rattle.network_hints.specs.Values.{FileValues}
 use Rattle.network_hints.specs.declared.values.Values.{Values}
 

@@ -14,15 +14,15 @@ pub enum ValueFlaw {
     NoInteger(Key),
     /// The edges are no array.
     NoArray,
-    /// The edge at this place, the first being 1, is no array of two integers.
+    /// The edge at this place, the first being 0, is no array of two integers.
     NoEdge(usize),
     /// The value is not in the range from the first number to the second.
     OutOfRange(Key, i64, i64, i64),
     /// There are more than 256 edges.
     TooMany(usize),
-    /// The root is none of so many nodes.
+    /// The root is none of this many nodes.
     NoRoot(i64, i64),
-    /// The edge names a node that is none of so many.
+    /// The edge names a node that is none of this many.
     NoNode(i64, i64, i64),
     /// An edge joins the node with itself.
     Loop(i64),
@@ -83,7 +83,7 @@ impl fmt::Display for Edge {
     }
 }
 
-/// That it is none of so many nodes.
+/// The words which say that it is none of this many nodes.
 #[derive(Clone, Copy)]
 struct NoneOf(i64);
 

@@ -11,7 +11,7 @@ pub enum Key {
     Root,
     /// How many items a direction of an edge holds.
     Capacity,
-    /// For how many ticks the lock is lent at most.
+    /// The most ticks for which the lock is lent.
     Lease,
     /// Which nodes are neighbours.
     Edges,

@@ -5,11 +5,11 @@
 //! let said = hint(alloc, "x.toml", "nodes = 2\nleese = 0\n..")?;   // Some("x.toml: no key 'lease'; ..")
 //! ```
 //!
-//! Whether a text is a network, and by which name it is refused, `topology` decides. Here stands only
-//! what is shown to a person besides; the places are looked for in the same order.
+//! `topology` decides whether a text is a network, and which fault it has. This crate has only what
+//! is shown to a person besides; it looks for the places in the same order.
 //!
-//! The trap: that the edges join all nodes is not looked at. A text whose only fault is that one has
-//! no hint here.
+//! The trap: this does not look at whether the edges join all nodes. A text whose only fault is that they
+//! do not has no hint here.
 #![tactic(auto)]
 
 mod flaw;

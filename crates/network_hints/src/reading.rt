@@ -82,7 +82,7 @@ fn two_integers(ends: &[Value]) -> Option<(i64, i64)>
     Some((first, second))
 }
 
-/// The edges of an array, or the place of the first that is none.
+/// The edges of an array, or the place of the first value that is no edge, counted from 0.
 fn ends_in(alloc: Global, values: &[Value]) -> Result<Result<Vec<(i64, i64)>, usize>, AllocError>
     ensures { IfOk result (λ r. mapped (λ es. es.items) r ≡ ends_in 0 (items_view values.now)) }
 {

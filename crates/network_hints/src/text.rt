@@ -1,4 +1,4 @@
-//! The hint of a text.
+//! The hint for a text.
 ghost use Rattle.std.specs.Prelude.{◌≡◌};
 ghost use Rattle.network_hints.specs.Places.{place_after, step};
 
@@ -8,7 +8,7 @@ use crate::reading::table_flaw;
 use std::alloc::{AllocError, Global};
 use toml::Table;
 
-/// What is wrong with the text of this file, in a line; none if nothing is, as far as it is looked for.
+/// What is wrong with the text of this file, in one line; none if nothing that is looked for is wrong.
 ///
 /// # Errors
 /// If memory runs out.

@@ -101,7 +101,7 @@ fn is_loop(edge: (i64, i64)) -> bool
     edge.0 == edge.1
 }
 
-/// The first edge that stands there again later.
+/// The first edge that occurs again later.
 fn first_twice(edges: &[(i64, i64)]) -> Option<(i64, i64)>
     ensures { result ≡ first_twice edges.now }
 {
@@ -112,7 +112,7 @@ fn first_twice(edges: &[(i64, i64)]) -> Option<(i64, i64)>
     }
 }
 
-/// Whether an edge stands among others, either way round.
+/// Whether an edge is among others, either way round.
 fn stands_among(edge: (i64, i64), others: &[(i64, i64)]) -> bool
     ensures { result ≡ list_any (is_twice edge) others.now }
 {

@@ -32,7 +32,7 @@ is_unjoined edges e = not (are_joined edges e.0 e.1)
 abbrev pub unjoined : ℕ → List Edge → List Edge
 unjoined n edges = filter (is_unjoined edges) (pairs n)
 
--- so many edges, each drawn from the pairs that are left, until none is left
+-- this many edges, each drawn from the pairs that are left; fewer if the pairs run out
 abbrev pub further_edges : ℕ → List Edge → Lcg → List Edge
 further_edges zero left g = []
 further_edges (suc count) [] g = []
@@ -41,7 +41,8 @@ further_edges (suc count) (e ∷ es) g =
     let at = draw (length left) g in
     get_or left at.0 (0, 0) ∷ further_edges count (remove left at.0) at.1
 
--- the edges of a random graph of n nodes: a tree, and as many more as `edges` asks for
+-- the edges of a random graph of n nodes: a tree, and then further ones, until there are `edges` or
+-- no pair is left
 abbrev pub random_edges : ℕ → ℕ → ℕ → List Edge
 random_edges n edges seed =
     let tree = tree_edges (n - 1) (seeded seed) in

@@ -5,7 +5,7 @@ use Rattle.std.specs.Cmp.Lexicographic.{slice_cmp}
 use Rattle.toml.specs.Data.{Data, Items, no_items, item, Members, no_members, member, integer, array}
 use Rattle.topology.specs.Network.{Network, Edge}
 
--- the members with one more, in the order of their keys
+-- the members with this value under this key, in the order of their keys
 abbrev pub with_member : List ℕ → Data → Members → Members
 with_member k d no_members = member k d no_members
 with_member k d (member l e ms) =

@@ -12,9 +12,9 @@ pub enum Kind {
     Line,
     /// A line whose ends are joined.
     Ring,
-    /// Node 0 is joined to each other node.
+    /// Node 0 is joined to all other nodes.
     Star,
-    /// Each node is joined to each other node.
+    /// Each node is joined to all other nodes.
     Complete,
     /// A binary tree, filled level by level: the children of node u are 2u+1 and 2u+2.
     Tree,
@@ -28,7 +28,7 @@ pub enum Kind {
     Random {
         /// How many edges there are.
         edges: u16,
-        /// The seed that all is drawn from.
+        /// The seed from which all edges are drawn.
         seed: u32,
     },
 }
@@ -74,8 +74,8 @@ fn is_edge(kind: Kind, nodes: u16, edge: (u16, u16)) -> bool
     }
 }
 
-/// All pairs of `nodes` nodes, the one with the smaller id first: node after node, with each that is in
-/// front of it.
+/// All pairs of `nodes` nodes, the one with the smaller id first: for each node in turn, its pairs with
+/// the nodes before it.
 #[tactic(auto, using(crate::proofs::PairByPair::pairs_start, crate::proofs::PairByPair::pairs_more, crate::proofs::PairByPair::pairs_next))]
 pub fn pairs<A: Allocator + Copy>(alloc: A, nodes: u16) -> Result<Vec<(u16, u16), A>, AllocError>
     ensures { IfOk result (λ all. all.items ≡ pairs nodes) }
@@ -102,7 +102,7 @@ pub fn regular_edges<A: Allocator + Copy>(
     joined(alloc, all.as_slice(), kind, nodes)
 }
 
-/// Those of some pairs that an edge of a kind joins.
+/// Those of the given pairs that an edge of a kind joins.
 fn joined<A: Allocator + Copy>(
     alloc: A,
     all: &[(u16, u16)],

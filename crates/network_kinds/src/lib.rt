@@ -5,13 +5,13 @@
 //! let text = network_text(alloc, &net)?;                     // the network file that names it
 //! ```
 //!
-//! [`edges_of`] gives the edges of a kind on as many nodes; each kind is a test of pairs of nodes, but
-//! for random graphs, which are drawn from a seed. [`network_text`] is the other way round of
-//! `Net::read`: for every network, the text reads as exactly that network.
+//! [`edges_of`] gives the edges of a kind on a number of nodes. Each kind is a test of pairs of nodes,
+//! except random graphs, which are drawn from a seed. [`network_text`] is the inverse of `Net::read`:
+//! for every network, the text reads as exactly that network.
 //!
 //! The trap: not every kind has every number of nodes. A complete graph of more than 23 nodes has more
 //! edges than a network may have; [`network_of`] refuses it, as it refuses any network that is beyond
-//! the limits. [`least_nodes`] and [`most_nodes`] are the range of a kind.
+//! the limits. [`least_nodes`] and [`most_nodes`] give the range of a kind.
 //!
 //! The kinds are those of every book on graphs; the random ones are random recursive trees with
 //! further edges.

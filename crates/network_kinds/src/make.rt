@@ -29,7 +29,7 @@ pub fn edges_of<A: Allocator + Copy>(
 /// The network of a kind, with these numbers.
 ///
 /// # Errors
-/// The first [`NetFault`] from `TooSmall` on that the numbers and the edges have, in their order;
+/// The first [`NetFault`], in their order from `TooSmall` on, that the numbers and the edges have;
 /// `Memory` if memory runs out on the way.
 #[tactic(auto, using(crate::proofs::Refused::refused_of))]
 pub fn network_of<A: Allocator + Copy>(
@@ -52,7 +52,7 @@ pub fn network_of<A: Allocator + Copy>(
 /// The network of these numbers and edges.
 ///
 /// # Errors
-/// As `Net::make`.
+/// Those of `Net::make`.
 fn with_ends<A: Allocator + Copy>(
     alloc: A,
     nodes: u16,

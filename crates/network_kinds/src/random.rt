@@ -12,7 +12,7 @@ use rand_core::utils::NextWord;
 use rand_pcg::Lcg64Xsh32;
 use std::alloc::{AllocError, Allocator};
 
-/// A number below `values`: the next word modulo how many values there are.
+/// A number below `values`: the next word modulo `values`.
 #[tactic(auto, unfolding(crate::specs::Random::draw))]
 fn draw_below(generator: &mut Lcg64Xsh32, values: usize) -> usize
     requires { 0 < values }
@@ -24,9 +24,9 @@ fn draw_below(generator: &mut Lcg64Xsh32, values: usize) -> usize
 }
 
 /// The edges of a random network of `nodes` nodes, drawn from a seed: each node but the first is joined
-/// to an earlier one, any of them as likely as the others; and then, until there are `edges` edges,
-/// further pairs are joined, any of those left as likely as the others. There are fewer if there are
-/// no more pairs, and never fewer than the tree has.
+/// to an earlier one, any of them about as likely as the others; and then, until there are `edges`
+/// edges, further pairs are joined, any of those left about as likely as the others. There are fewer if
+/// the pairs run out, but never fewer than the tree has.
 pub fn random_edges<A: Allocator + Copy>(
     alloc: A,
     nodes: u16,
@@ -44,7 +44,7 @@ pub fn random_edges<A: Allocator + Copy>(
     Ok(drawn)
 }
 
-/// The edges of a tree with so many nodes after the first one.
+/// The edges of a tree with `later` nodes after the first one.
 #[tactic(auto, using(crate::proofs::Drawn::tree_more))]
 fn tree_edges<A: Allocator + Copy>(
     alloc: A,
@@ -74,7 +74,7 @@ fn unjoined<A: Allocator + Copy>(
     without_joined(alloc, all.as_slice(), edges)
 }
 
-/// Those of some pairs that no edge joins.
+/// Those of the given pairs that no edge joins.
 fn without_joined<A: Allocator + Copy>(
     alloc: A,
     all: &[(u16, u16)],
@@ -103,7 +103,7 @@ fn are_joined(edges: &[(u16, u16)], v: u16, w: u16) -> bool
     edges.iter().any(|edge| (edge.0 == v && edge.1 == w) || (edge.0 == w && edge.1 == v))
 }
 
-/// Adds as many edges, each drawn from the pairs that are left.
+/// Adds `count` edges, each drawn from the pairs that are left; fewer if the pairs run out.
 fn push_further<A: Allocator + Copy>(
     edges: &mut Vec<(u16, u16), A>,
     left: &mut Vec<(u16, u16), A>,
@@ -123,7 +123,7 @@ fn push_further<A: Allocator + Copy>(
     Ok(())
 }
 
-/// Takes the edge at a place out of those that are left, and puts it last.
+/// Takes the pair at a place out of those that are left, and adds it after the other edges.
 #[tactic(auto, using(crate::proofs::Drawn::moved_is))]
 fn move_at<A: Allocator + Copy>(
     edges: &mut Vec<(u16, u16), A>,

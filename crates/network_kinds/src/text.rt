@@ -10,8 +10,8 @@ use std::alloc::{AllocError, Global};
 use toml::{Table, Value};
 use topology::Net;
 
-/// The text of a network, as a network file has it: a line for each of the five keys, in the order of
-/// the alphabet.
+/// The text of a network, as a network file has it: a line for each of the five keys, in alphabetical
+/// order.
 ///
 /// # Errors
 /// If memory runs out.

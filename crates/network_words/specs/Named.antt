@@ -20,6 +20,7 @@ kind_named name =
 abbrev pub most_edges : ℕ → ℕ
 most_edges n = min (n * (n - 1) / 2) 256
 
--- the default number of edges of a random graph: twice as many as a tree, if it can have so many
+-- the default number of edges of a random graph: twice as many as a tree has, or the most that it
+-- can have if those are fewer
 abbrev pub usual_edges : ℕ → ℕ
 usual_edges n = min (2 * (n - 1)) (most_edges n)

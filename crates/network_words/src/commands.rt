@@ -1,4 +1,4 @@
-//! What the lines of `bound` and `network` do.
+//! What the command lines of `bound` and `network` do.
 use crate::{bound, network};
 use clap::ArgMatches;
 use command_words::program::Runtime;
@@ -16,7 +16,7 @@ Examples:
 This is the part of tokentree that knows networks. Other parts run nodes, and ask
 them; the whole program also simulates, measures and draws.";
 
-/// Does what the words say, after the first, the program's name, and returns the exit status.
+/// Does what the words say, and returns the exit status. The first word is the program's name.
 pub fn run_words<R: Runtime, S: AsStr>(rt: &R, words: &[S]) -> ExitCode {
     if asks_for_version(words) {
         return say_version(rt);

@@ -6,8 +6,8 @@
 //! let status = run_words(rt, &["tokentree", "bound"]);                   // status 2
 //! ```
 //!
-//! The work of a command is in `network_commands`; `command_words` has what the lines of all commands
-//! share.
+//! The work of a command is in `network_commands`; `command_words` has what the command lines of all
+//! commands share.
 //!
 //! The trap: the parser decides which words a command takes, and no contract covers it; tests try
 //! command lines.

@@ -78,7 +78,7 @@ const ROOT: Number<'static> = Number {
     most: 1,
 };
 
-/// The capacities.
+/// The capacities that `--capacity` takes.
 const CAPACITY: Number<'static> = Number {
     id: "capacity",
     name: "--capacity",
@@ -86,7 +86,7 @@ const CAPACITY: Number<'static> = Number {
     most: 4096,
 };
 
-/// The leases.
+/// The leases that `--lease` takes.
 const LEASE: Number<'static> = Number {
     id: "lease",
     name: "--lease",

@@ -40,7 +40,7 @@ module _ {P : Type 0} (gave took : P → Option (List ℕ)) where
   pub heard-start : (v : Visitor P) → HasHeard v v
   heard-start v = record { more = []; came = goes-nothing (gave v.pipe); unwritten = refl; line = sym (append-nil (first_line v)); turns = refl }
 
-  -- one more byte came: it was read into a buffer of one
+  -- one more byte came: it was read into a buffer of one byte
   more-of : (old now next : Visitor P) (n : ℕ) (buffer : List ℕ) (so : HasHeard old now) → 0 < n → n ≤ length buffer → length buffer ≡ 1
       → GoesOn (take n buffer) (gave now.pipe) (gave next.pipe) → GoesOn (so.more ++ slice_index buffer 0 ∷ []) (gave old.pipe) (gave next.pipe)
   more-of old now next n buffer so some within one goes =
@@ -85,7 +85,7 @@ module _ {P : Type 0} (gave took : P → Option (List ℕ)) where
     says = tt;
   }
 
-  -- one that waits on, after one more turn
+  -- a visitor that waits on, after one more turn
   pub waits-on : (nodes : ℕ) (old now next : Visitor P) → HasHeard old now → next.pipe ≡ now.pipe → next.line ≡ now.line → next.count ≡ now.count
       → next.turns ≡ now.turns + 1 → next.turns < 256 → Listened gave took nodes old next arrival.Waits
   waits-on nodes old now next so pipe line count turns few = record {

@@ -25,7 +25,7 @@ module _ {P : Type 0} (gave took : P → Option (List ℕ)) (counts : P → Coun
   pub read-gone : (x y : Option (Client P)) → y ≡ None → IsReadAt gave took counts x y
   read-gone x y e = subst (λ z. IsReadAt gave took counts x z) (sym e) tt
 
-  -- it lives before it is read, and after that
+  -- a client lives before it is read, and after that
   between : (w x y z : Option (Client P)) → LivesAt gave took counts w x → IsReadAt gave took counts x y → LivesAt gave took counts y z → IsReadAt gave took counts w z
   between w x y None f g h = tt
   between w x None (Some d) f g h = elim h [ ]

@@ -58,7 +58,8 @@ module _ {P : Type 0} (gave took : P → Option (List ℕ)) (counts : P → Coun
   within-silent s (Some a) None xs ys e d = absurd cc
   within-silent s (Some a) (Some b) xs ys e d = d ∙ sym (append-nil xs)
 
-  -- its reader took bytes that ended a line, and this was answered, or there was no room for that
+  -- its reader took bytes that ended a line, and the line was answered, or there was no room for
+  -- the answer
   pub within-line : (s : List ℕ) (line : ClientLine) (text : List ℕ) (x y z : Option (Client P)) (xs ys zs : List ℕ) → LivesAt gave took counts x y → HeardAt gave [] s (line ∷ []) x y → is_some y ≡ true → ys ≡ xs
       → ((zs ≡ ys ++ text) × (z ≡ y)) ⊎ ((256 < length (ys ++ text)) × (z ≡ None)) → EndsWithin gave took counts s x xs z zs (line ∷ []) text
   within-line s line text x None z xs ys zs lives heard there same told = absurd cc
@@ -76,7 +77,7 @@ module _ {P : Type 0} (gave took : P → Option (List ℕ)) (counts : P → Coun
         no_room = subst (λ all. 256 < length (all ++ text)) same more;
       }
 
-  -- bytes, and then bytes
+  -- bytes, and then more bytes
   pub within-join : (r s : List ℕ) (x y z : Option (Client P)) (xs ys zs : List ℕ) (l m : List ClientLine) (p q : List ℕ) → LivesAt gave took counts x y → HeardAt gave [] r l x y
       → EndsWithin gave took counts r x xs y ys l p → EndsWithin gave took counts s y ys z zs m q → EndsWithin gave took counts (r ++ s) x xs z zs (l ++ m) (p ++ q)
   within-join r s None None None xs ys zs l m p q lives heard f g = (both-nothing l m f.0 g.0, both-nothing p q f.1 g.1)
@@ -120,7 +121,7 @@ module _ {P : Type 0} (gave took : P → Option (List ℕ)) (counts : P → Coun
       inr (bytes, subst (λ given. HasNoRoom gave took counts given bytes a xs l p) (append-nil bytes) (room-then bytes [] [] bytes a b xs ys [] l [] p lives heard (same ∙ sym (append-nil xs)) f))
   at-within bytes (Some a) (Some b) (Some c) xs ys zs l p lives heard there same f = f ∙ ap (λ all. all ++ p) same
 
-  -- it was served, and then served
+  -- it was served, and then served once more
   pub at-join : (bytes : List ℕ) (x y z : Option (Client P)) (xs ys zs : List ℕ) (l m : List ClientLine) (p q : List ℕ) → LivesAt gave took counts x y → HeardAt gave bytes bytes l x y
       → EndsAt gave took counts x xs y ys l p → EndsAt gave took counts y ys z zs m q → EndsAt gave took counts x xs z zs (l ++ m) (p ++ q)
   at-join bytes None None None xs ys zs l m p q lives heard f g = (both-nothing l m f.0 g.0, both-nothing p q f.1 g.1)

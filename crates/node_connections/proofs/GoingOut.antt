@@ -81,7 +81,7 @@ module _ (xs bytes more : List ℕ) (r count : ℕ) (read : r ≡ min 256 (lengt
       let whole : take f (drop w xs) ≡ drop w xs = take_all f (drop w xs) (omega (arith, size, wide, room-is, long, few)) in
       ap (λ ys. left ++ take f ys) slice ∙ (ap (λ ys. ys ++ take f (drop w xs)) nothing ∙ whole)
 
--- the buffer at a place, whatever stands in for one that is not there
+-- the buffer at a place does not depend on what stands in for a missing one
 pub buffer-at : (bs : List (Buffer ℕ)) (k : ℕ) (b : Buffer ℕ) → k < length bs → b ≡ get_or bs k b → slice_index_or bs k (buffer [] 0) ≡ b
 buffer-at bs k b less is = get_or_default bs k (buffer [] 0) b less ∙ sym is
 

@@ -85,7 +85,7 @@ module _ {P : Type 0} (gave : P → Option (List ℕ)) where
   heard-later took counts bytes (Some a) None f same = tt
   heard-later took counts bytes (Some a) (Some b) f same = heard-alike a b f.0.0 same
 
-  -- a client of which this was heard is written back to its place
+  -- a client from which this was heard is written back to its place
   pub heard-put : (given read : List ℕ) (lines : List ClientLine) (s : Slab (Client P)) (k : ℕ) (old new : Client P) → Some old ≡ get s k → HeardAt gave given read lines (Some old) (Some new)
       → HeardAt gave given read lines (get s k) (get (with_value s k new) k)
   heard-put given read lines s k old new e f =

@@ -114,7 +114,7 @@ module _ {P A : Type 0} where
         ],
   )
 
-  -- one came, to a ticket that was free
+  -- one client came, to a ticket that was free
   pub admits-one : (k : ℕ) (old new : Clients P A) → is_connected old k ≡ false → ((t : ℕ) → t ≢ k → (get new.table t ≡ get old.table t) × (answers_of new t ≡ answers_of old t))
       → (is_connected new k ≡ true → answers_of new k ≡ []) → (is_connected new k ≡ true → HasNewReader (get new.table k)) → Admits old new
   admits-one k old new free others silent fresh t =

@@ -15,7 +15,8 @@ module _ {P : Type 0} where
   unlinked : (q : NodePort P) → q.link.pipe ≡ None → q.greeting ≡ None → is_linked (Some q) ≡ false
   unlinked q pipe greeting = rw (pipe, greeting) refl
 
-  -- of the ports below i those to no neighbours are closed; all others are as before
+  -- of the ports below i, those to nodes that are no neighbours are closed; all others are as
+  -- before
   pub record AreClosed (ns : List ℕ) (old new : List (NodePort P)) (i : ℕ) : Type 0 where
     pub kept : AreKept ns old new
     pub closed : (w : ℕ) → w < i → ¬ Contains ns w → is_linked (slice_get new w) ≡ false
@@ -81,7 +82,7 @@ module _ {P : Type 0} where
   loose-set ns ports i q has so w not =
       let other : w ≢ i = λ e. elim (not (subst (λ v. Contains ns v) (sym e) has)) [ ] in rw (others-set ports i q w other) (so w not)
 
-  -- the same of a port that changed somehow
+  -- the same for a port that changed in some way
   pub loose-others : (ns : List ℕ) (old new : List (NodePort P)) (i : ℕ) → Contains ns i → ((w : ℕ) → w ≢ i → slice_get new w ≡ slice_get old w) → AreLoose ns old → AreLoose ns new
   loose-others ns old new i has others so w not =
       let other : w ≢ i = λ e. elim (not (subst (λ v. Contains ns v) (sym e) has)) [ ] in rw (others w other) (so w not)

@@ -1,4 +1,4 @@
--- Small examples of clients, visitors, doors and ports, and some that look like them and are none.
+-- Small examples of clients, visitors, doors and ports, and some that look like them but are not.
 use Rattle.std.proofs.Common.{◌≡◌, zero, suc, true, false, ◌∷◌, None, Some, codes, refl, inl, inr, arith, []}
 use Rattle.node_connections.specs.Clients.{is_connected, answers_of, GivesWithin, IsReported, room_of}
 use Rattle.node_connections.specs.Hearing.{IsWiredAt, Wires}
@@ -17,7 +17,7 @@ use Rattle.node_connections.specs.Ports.{AtBoth}
 use Rattle.node_connections.specs.Speaking.{is_left, takes_frames}
 
 module _ {P A : Type 0} (old new : Clients P A) where
-  -- the client of a loan that ended hears so, unless there is no room or it is closed
+  -- the client of a loan that ended hears of it, unless there is no room or it is closed
   reported_not-silent : answers_of old 3 ≡ [] → answers_of new 3 ≡ [] → is_connected new 3 ≡ true → ¬ IsReported (Lost 3) old new
   reported_not-silent before after there (inl reported, others) = grind (arith, common_steps, before, after, reported.0)
   reported_not-silent before after there (inr closed, others) = grind (arith, there, closed.1)
@@ -39,7 +39,7 @@ gives_not-more g = omega (arith, g)
 
 -- ---- visitors
 
--- node 2 of three says who it is; node 3 is none of them
+-- node 2 of three says who it is; there is no node 3 among them
 arrives : IsArrival 3 (codes "H0002") (arrival.Is 2)
 arrives = (refl, omega arith)
 

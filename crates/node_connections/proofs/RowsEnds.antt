@@ -152,7 +152,8 @@ module _ {P A : Type 0} (gave took : P → Option (List ℕ)) (counts : P → Co
           let here : EndsAt gave took counts (Some a) [] None (answers_of new 3) [] [] = rw (was, is, waits) at ends in
           ends_not-quiet gave took counts a b sound (answers_of new 3) here
 
-      -- who says nothing, on a pipe that never closes or fails, is not closed when answers are written
+      -- a client that says nothing, on a pipe that never closes or fails, is not closed when answers
+      -- are written
       writes_not-closed : ¬ WritesOut gave took counts old new
       writes_not-closed f =
           let here : EndsByWrite gave took counts (Some a) None = rw (was, is) at (f.ends 3) in

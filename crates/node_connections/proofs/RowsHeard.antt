@@ -61,7 +61,7 @@ line-alone = (λ same. absurd (omega (arith, same)), λ differ. (refl, refl))
 line_not-nothing : IsLineAlone 3 Lock [] 3 [] [] → ⊥
 line_not-nothing f = (let e : ◌≡◌ {A = List ClientLine} [] (Lock ∷ []) = (f.0 refl).0 in absurd cc)
 
--- another answer is none to that line
+-- a different answer is not an answer to that line
 line_not-another : IsLineAlone 3 Unknown (codes "unknown\n") 3 (Unknown ∷ []) (codes "released\n") → ⊥
 line_not-another f = (let e : ◌≡◌ {A = List ℕ} (codes "released\n") (codes "unknown\n") = (f.0 refl).1 in absurd cc)
 

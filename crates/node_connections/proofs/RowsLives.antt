@@ -113,7 +113,7 @@ module _ {P : Type 0} (gave took : P → Option (List ℕ)) (counts : P → Coun
   reads_not-of-nobody : ¬ ReadsAt gave took counts (read.Got 1) (codes "u") None None
   reads_not-of-nobody r = (let e : ◌≡◌ {A = ReadAnswer} (read.Got 1) read.Closed = r.1 in absurd cc)
 
-  -- a read that writes is none
+  -- a read that writes is not a read
   reads_not-writes : (a b : Client P) → took a.pipe ≡ Some [] → took b.pipe ≡ Some (codes "u") → ¬ ReadsAt gave took counts read.Later [] (Some a) (Some b)
   reads_not-writes a b before after r = grind (arith, before, after, r.1)
 
@@ -161,7 +161,7 @@ module _ {P A : Type 0} (gave took : P → Option (List ℕ)) (counts : P → Co
   admits_not-taken : get old.table t ≡ Some a → get new.table t ≡ None → ¬ Admits old new
   admits_not-taken was is f = (let e : ◌≡◌ {A = Option (Client P)} None (Some a) = rw (was, is) at ((f t).0 (rw was refl)).0 in absurd cc)
 
-  -- and nothing for an earlier client with that ticket waits for it
+  -- and nothing that was for an earlier client with that ticket waits for it
   admits_not-reported : get old.table t ≡ None → get new.table t ≡ Some b → answers_of new t ≡ codes "lost\n" → ¬ Admits old new
   admits_not-reported was is waits f = (let e : ◌≡◌ {A = List ℕ} (codes "lost\n") [] = rw waits at ((f t).1 (rw was refl) (rw is refl)).0 in absurd cc)
 
@@ -171,7 +171,7 @@ module _ {P A : Type 0} (gave took : P → Option (List ℕ)) (counts : P → Co
   same_not-closed : get old.table t ≡ Some a → get new.table t ≡ None → ¬ SameClients old new
   same_not-closed was is f = (let e : ◌≡◌ {A = Bool} false true = rw (was, is) at (f t) in absurd cc)
 
-  -- all are read if the only one gave a byte
+  -- all clients are read if the only one gave a byte
   all-read : get old.table t ≡ Some a → get new.table t ≡ Some b → ((u : ℕ) → u ≢ t → get new.table u ≡ None)
       → gave a.pipe ≡ Some [] → gave b.pipe ≡ Some (codes "u") → took b.pipe ≡ took a.pipe → counts b.pipe ≡ counts a.pipe
       → AllRead gave took counts old new

@@ -1,4 +1,4 @@
--- Small examples of what a port says and hears, and some that look like them and are none.
+-- Small examples of what a port says and hears, and some that look like them but are not.
 use Rattle.std.proofs.Common.{◌≡◌, ℕ, Bool, true, false, List, ◌∷◌, Option, None, Some, codes, refl, ap, sym, subst, inl, arith, append-nil, []}
 use Rattle.topology.specs.declared.frame.Frame.{Frame}
 use Rattle.topology.specs.declared.frame.Ranges.{Ranges}
@@ -86,7 +86,7 @@ module _ {P : Type 0} (gave took : P → Option (List ℕ)) (counts : P → Coun
   pulls-none : (r : Ranges) → Pulls r gave took counts [] old old
   pulls-none r = record { last = old; comes = comes-nothing r; ends = inl refl }
 
-  -- a port that stands with its pipe has not broken
+  -- a port that still has a pipe has not broken
   breaks_not-standing : (p q : P) → old.link.pipe ≡ Some p → new.link.pipe ≡ Some q → ¬ Breaks counts old new
   breaks_not-standing p q was is b = (let broken = rw was at b.0 in grind (arith, is, broken.1))
 

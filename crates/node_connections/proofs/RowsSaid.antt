@@ -30,7 +30,7 @@ module _ {P : Type 0} (took : P → Option (List ℕ)) (a b : Client P) (before 
   says-waiting : said took a (codes "lost\n") ≡ Some (codes "lost\n")
   says-waiting = rw before refl
 
-  -- of what waited a part went out, and the rest waits
+  -- a part of what waited went out, and the rest waits
   said-part : took b.pipe ≡ Some (codes "lo") → SaidAt took [] (Some a) (codes "lost\n") (Some b) (codes "st\n")
   said-part after = rw (before, after) refl
 
@@ -52,7 +52,7 @@ plain-said took a b more waits before after f =
     let e : ◌≡◌ {A = Option (List ℕ)} (Some waits) (Some more) = subst (λ o. GoesOn more (Some []) (option_map (λ bytes. bytes ++ waits) o)) after g in ap bytes-of e
 
 module _ {P A : Type 0} (old new : Clients P A) where
-  -- the text waits, and of no other client anything changes
+  -- the text waits, and nothing changes for any other client
   reports-lost : answers_of old 3 ≡ [] → answers_of new 3 ≡ codes "lost\n" → new.table ≡ old.table → ((t : ℕ) → t ≢ 3 → answers_of new t ≡ answers_of old t) → Reports (codes "lost\n") 3 old new
   reports-lost before after table others = (inl (rw (before, after) refl, ap (λ x. get x 3) table), λ t o. (others t o, ap (λ x. get x t) table))
 

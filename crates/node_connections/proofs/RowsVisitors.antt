@@ -21,7 +21,7 @@ module _ {P : Type 0} (gave took : P → Option (List ℕ)) (old new : Visitor P
     says_not-another : ¬ Says 3 (codes "02\n") old new (arrival.Is 1)
     says_not-another s = (let e : codes "H00" ++ codes "02\n" ≡ codes "H0001\n" = rw half at s.0 in grind (arith, e))
 
-    -- of one that said nothing more, its line stays, and a turn is over
+    -- if it said nothing more, its line stays, and a turn is over
     listens-on : gave old.pipe ≡ Some [] → gave new.pipe ≡ Some [] → took new.pipe ≡ took old.pipe → first_line new ≡ codes "H00" → new.turns ≡ old.turns + 1 → new.turns ≡ 7
         → Listened gave took 3 old new arrival.Waits
     listens-on before after wrote line turns seven = record { more = []; came = rw (before, after) refl; unwritten = wrote; says = (rw (line, half) refl, turns, omega (arith, seven)) }

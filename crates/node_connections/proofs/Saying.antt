@@ -83,7 +83,7 @@ module _ {P : Type 0} (took : P → Option (List ℕ)) where
 -- ---- all clients
 
 module _ {P A : Type 0} (took : P → Option (List ℕ)) where
-  -- to the client with this ticket these bytes were said, and nothing to others
+  -- these bytes were said to the client with this ticket, and nothing to others
   abbrev pub SaidTo : List ℕ → ℕ → Clients P A → Clients P A → Type 0
   SaidTo more t old new = IsSaid took more t old new × ((u : ℕ) → u ≢ t → IsSaid took [] u old new)
 

@@ -141,7 +141,7 @@ module _ {P A : Type 0} (gave took : P → Option (List ℕ)) (counts : P → Co
   pub ends-join : (a b c : Clients P A) → LiveOn gave took counts a b → AllEndByWrite a b → AllEndByWrite b c → AllEndByWrite a c
   ends-join a b c lives f g t = write-join gave took counts (get a.table t) (get b.table t) (get c.table t) (lives t) (f t) (g t)
 
-  -- one was closed to which a write failed
+  -- a client to which a write failed was closed
   pub ends-failed : (k : ℕ) (a b c : Clients P A) → FailsAt gave took counts (get a.table k) (get b.table k) → OthersStay k a c → is_connected c k ≡ false → AllEndByWrite a c
   ends-failed k a b c failed others gone t =
       elim (cases_eq t k) [

@@ -20,12 +20,12 @@ module _ {P : Type 0} (took : P → Option (List ℕ)) where
   gone-said more (Some b) (Some c) xs ys f e = absurd (let d = e in cc)
 
 module _ {P A : Type 0} (took : P → Option (List ℕ)) where
-  -- who is gone stays so while others are served
+  -- a client that is gone stays gone while others are served
   pub stays-gone : (more : List ℕ) (t : ℕ) (old new : Clients P A) → IsSaid took more t old new → is_connected old t ≡ false → is_connected new t ≡ false
   stays-gone more t old new f none =
       subst (λ (x : Option (Client P)). is_some x ≡ false) (sym (gone-said took more (get old.table t) (get new.table t) (answers_of old t) (answers_of new t) f (nobody (get old.table t) none))) refl
 
--- ---- what is heard meanwhile
+-- ---- what is heard while clients are served
 
 module _ {P A : Type 0} (gave : P → Option (List ℕ)) where
   pub heard-alone-join : (k : ℕ) (r s : List ℕ) (a b c : Clients P A) (t : ℕ) (xs ys : List ClientLine) → IsHeardAlone gave a b k r t xs → IsHeardAlone gave b c k s t ys → IsHeardAlone gave a c k (r ++ s) t (xs ++ ys)
@@ -34,7 +34,7 @@ module _ {P A : Type 0} (gave : P → Option (List ℕ)) where
     λ differ. heard-join gave [] [] [] [] xs ys (get a.table t) (get b.table t) (get c.table t) (f.1 differ) (g.1 differ),
   )
 
-  -- a reader took a byte, and the line that this ended was served meanwhile, or it ended none
+  -- a reader took a byte, and the line that this ended was served, or it ended none
   pub heard-line : (k byte : ℕ) (line : ClientLine) (a b c : Clients P A) → HeardAt gave [] (byte ∷ []) (line ∷ []) (get a.table k) (get b.table k) → OthersStay k a b → NothingHeard gave b c
       → (text : List ℕ) (t : ℕ) (xs : List ClientLine) (ps : List ℕ) → IsLineAlone k line text t xs ps → IsHeardAlone gave a c k (byte ∷ []) t xs
   heard-line k byte line a b c heard others unheard text t xs ps f = (

@@ -14,12 +14,13 @@ IsArrival nodes line arrival.Goes = (id : ℕ) → id < nodes → line ≡ hello
 IsArrival nodes line arrival.Waits = ⊥
 
 module _ {P : Type 0} where
-  -- what stands of a visitor's first line
+  -- what has come so far of a visitor's first line
   abbrev pub first_line : Visitor P → List ℕ
   first_line visitor = take visitor.count visitor.line
 
-  -- What a visitor says with these bytes: its first line goes on by them, and it has turns left; or they
-  -- end that line, which is the hello of that node. Nothing is said of one that goes.
+  -- What a visitor says with these bytes: its first line goes on with them, and it has turns left;
+  -- or they end that line, which is the hello of that node. Nothing is claimed of a visitor that
+  -- goes.
   abbrev pub Says : ℕ → List ℕ → Visitor P → Visitor P → Arrival → Type 0
   Says nodes more old new arrival.Waits =
       (first_line new ≡ first_line old ++ more) × (new.turns ≡ old.turns + 1) × (new.turns < 256)

@@ -65,7 +65,8 @@ module _ {P : Type 0} (gave took : P → Option (List ℕ)) (counts : P → Coun
       ⊎ ((bytes : List ℕ) × HasNoRoom bytes bytes client waited lines answers))
       old waited new waits lines answers
 
-  -- the same of bytes that its pipe gave before: it was closed only if there was no room for an answer
+  -- the same for bytes that its pipe gave before: it was closed only if there was no room for an
+  -- answer
   abbrev pub EndsWithin : List ℕ → Option (Client P) → List ℕ → Option (Client P) → List ℕ
       → List ClientLine → List ℕ → Type 0
   EndsWithin bytes old waited new waits lines answers =

@@ -21,8 +21,9 @@ module _ {P : Type 0} where
   HasNewReader (Some client) = StandsAfter 16 [] client.reader
 
 module _ {P : Type 0} (gave : P → Option (List ℕ)) where
-  -- A client's pipe gave these bytes, and its reader took those, which ended just these lines, whatever it
-  -- took before. One that is there was there before; of one that is closed nothing is claimed.
+  -- A client's pipe gave these bytes, and its reader took those, which ended just these lines,
+  -- whatever it took before. A client that is there was there before; of one that is closed nothing
+  -- is claimed.
   abbrev pub HeardAt : List ℕ → List ℕ → List ClientLine → Option (Client P) → Option (Client P)
       → Type 0
   HeardAt given read lines old None = ⊤

@@ -14,11 +14,11 @@ Wires old new =
     ((new.link ≡ old.link) × (new.is_stuck ≡ old.is_stuck))
     ⊎ ((is_some new.link.pipe ≡ true) × IsBare new.link × (new.is_stuck ≡ false))
 
--- so it is at each port
+-- this holds at each port
 abbrev pub AreWired : {P : Type 0} → List (NodePort P) → List (NodePort P) → Type 0
 AreWired ports wired = (w : ℕ) → AtBoth Wires (slice_get ports w) (slice_get wired w)
 
--- so it is at the port with this id, and no other port changed
+-- this holds at the port with this id, and no other port changed
 abbrev pub IsWiredAt : {P : Type 0} → ℕ → List (NodePort P) → List (NodePort P) → Type 0
 IsWiredAt id ports wired =
     AtBoth Wires (slice_get ports id) (slice_get wired id)

@@ -7,7 +7,7 @@ use Rattle.node_connections.specs.declared.port.NodePort.{NodePort}
 abbrev pub link_sight : {P : Type 0} → NodePort P → LinkSight
 link_sight port = record { is_up = is_some port.link.pipe; made = port.made }
 
--- a node that is none of the network has no port
+-- a node that is not in the network has no port
 abbrev pub link_at : {P : Type 0} → Option (NodePort P) → Option LinkSight
 link_at None = None
 link_at (Some port) = Some (link_sight port)

@@ -1,4 +1,4 @@
--- Clients that live on: of one that is still connected, no read and no write said that it is gone.
+-- Clients that live on: if one is still connected, no read and no write said that it is gone.
 use Rattle.std.specs.Prelude.{◌≡◌, ◌≢◌, ◌⊎◌, ◌<◌, ℕ, true, false, List, Option, None, Some, length, ⊤, []}
 use Rattle.byte_streams.specs.Streams.{Rose}
 use Rattle.slab.specs.Slab.{get}
@@ -46,7 +46,7 @@ module _ {P : Type 0} (gave took : P → Option (List ℕ)) (counts : P → Coun
   LivesAt None (Some new) = ⊥
   LivesAt (Some old) (Some new) = Lives gave took counts old.pipe new.pipe
 
-  -- what a read of the client with a ticket says, of its pipe
+  -- what a read of the client with a ticket says of its pipe
   abbrev pub ReadsAt : ReadAnswer → List ℕ → Option (Client P) → Option (Client P) → Type 0
   ReadsAt answer bytes None new = (new ≡ None) × (answer ≡ read.Closed)
   ReadsAt answer bytes (Some old) None = ⊥
@@ -120,7 +120,7 @@ module _ {P A : Type 0} (gave took : P → Option (List ℕ)) (counts : P → Co
   LiveOn old new = (t : ℕ) → LivesAt gave took counts (get old.table t) (get new.table t)
 
 module _ {P A : Type 0} (counts : P → Counts) where
-  -- so it is for each client
+  -- this holds for each client
   abbrev pub AllGoOut : Clients P A → Clients P A → Type 0
   AllGoOut old new = (t : ℕ) → GoesOutAt counts (get old.table t) (answers_of old t) (get new.table t) (answers_of new t)
 

@@ -16,25 +16,26 @@ module _ {P : Type 0} (took : P → Option (List ℕ)) where
   abbrev pub said : Client P → List ℕ → Option (List ℕ)
   said client waits = option_map (λ bytes. bytes ++ waits) (took client.pipe)
 
-  -- A client that is there was there before, and just these bytes more were said to it. Of a client
-  -- that is closed nothing is claimed.
+  -- A client that is there was there before, and just these further bytes were said to it. Of a
+  -- client that is closed nothing is claimed.
   abbrev pub SaidAt : List ℕ → Option (Client P) → List ℕ → Option (Client P) → List ℕ → Type 0
   SaidAt more old waited None waits = ⊤
   SaidAt more None waited (Some new) waits = ⊥
   SaidAt more (Some old) waited (Some new) waits = GoesOn more (said old waited) (said new waits)
 
 module _ {P A : Type 0} (took : P → Option (List ℕ)) where
-  -- to the client with this ticket just these bytes more were said, unless it is closed
+  -- just these further bytes were said to the client with this ticket, unless it is closed
   abbrev pub IsSaid : List ℕ → ℕ → Clients P A → Clients P A → Type 0
   IsSaid more t old new =
       SaidAt took more (get old.table t) (answers_of old t) (get new.table t) (answers_of new t)
 
-  -- nothing more was said to anybody: what waited waits still, or went out
+  -- nothing more was said to anybody: what waited still waits, or went out
   abbrev pub NothingSaid : Clients P A → Clients P A → Type 0
   NothingSaid old new = (t : ℕ) → IsSaid [] t old new
 
 module _ {P A : Type 0} (gave : P → Option (List ℕ)) (old new : Clients P A) where
-  -- the client's reader took these bytes, and they ended these lines; no other client's took any
+  -- the client's reader took these bytes, and they ended these lines; no other client's reader took
+  -- any
   abbrev pub IsHeardAlone : ℕ → List ℕ → ℕ → List ClientLine → Type 0
   IsHeardAlone ticket read t lines =
       (t ≡ ticket → HeardAt gave [] read lines (get old.table t) (get new.table t))
@@ -59,7 +60,7 @@ module _ {P A : Type 0} (gave took : P → Option (List ℕ)) (counts : P → Co
       × EndsAt gave took counts (get old.table t) (answers_of old t) (get new.table t) (answers_of new t)
       lines answers
 
-  -- the same of these bytes of one client, and of no others
+  -- the same for these bytes of one client, and for no others
   abbrev pub IsServedAlone : ℕ → List ℕ → ℕ → List ClientLine → List ℕ → Type 0
   IsServedAlone ticket read t lines answers =
       IsHeardAlone gave old new ticket read t lines

@@ -23,8 +23,8 @@ pub record PushesOut {P : Type 0} (gave took : P → Option (List ℕ)) (counts 
   pub stuck : new.is_stuck ≡ is_left came
   pub greeting : new.greeting ≡ old.greeting
 
--- what follows the link's answer to an offer: an accepted line is written at once, and at any other
--- answer nothing has changed
+-- what follows the link's answer to an offer: an accepted line is written at once, and after any
+-- other answer nothing has changed
 abbrev pub Follows : {P : Type 0} → (P → Option (List ℕ)) → (P → Option (List ℕ)) → (P → Counts)
     → Offer → NodePort P → NodePort P → Bool → Type 0
 Follows gave took counts offer.Taken accepted new is_taken =

@@ -12,13 +12,13 @@ use slab::Slab;
 use socket_links::{Pipe, ReadAnswer, WriteAnswer};
 use std::alloc::{AllocError, Allocator, Global};
 
-/// At most so many clients are connected.
+/// The most clients that may be connected.
 pub const PLACES: usize = 128;
 
-/// At most so many bytes of answers wait for one client.
+/// The most bytes of answers that may wait for one client.
 const ROOM: usize = 256;
 
-/// At most so many bytes of one client are read in a turn.
+/// The most bytes of one client that are read in a turn.
 pub const PIECE: usize = 64;
 
 /// One client.
@@ -31,9 +31,9 @@ pub struct Client<P> {
 /// The clients, at most 128, each under its ticket, and the answers that wait for them.
 #[derive(Drop)]
 pub struct Clients<P, A: Allocator + Copy = Global> {
-    /// By ticket, 0 to 127, who is connected.
+    /// The clients that are connected, by ticket, 0 to 127.
     pub table: Slab<Client<P>, A>,
-    /// By ticket, the bytes of answers that wait, at most 256 for each client.
+    /// The bytes of answers that wait, by ticket, at most 256 for each client.
     pub answers: Vec<HeapCircularBuffer<u8, A>, A>,
     ghost room: { 128 ≤ table.capacity },
     ghost answers_are: { length answers.items ≡ 128 },
@@ -49,8 +49,8 @@ impl<P: Pipe, A: Allocator + Copy> Clients<P, A> {
     ghost use Rattle.node_connections.specs.Lives.{FailsAt, GoesOutAt, LivesAt, LiveOn, OthersStay, ReadsAt};
     ghost use Rattle.node_connections.specs.Said.{NothingSaid};
 
-    /// No clients yet. All memory for them is reserved here. `AllocError` comes only if that is
-    /// refused.
+    /// A table without clients. All memory for them is reserved here. `AllocError` comes only if
+    /// that is refused.
     pub fn new(alloc: A) -> Result<Clients<P, A>, AllocError>
         ensures { IfOk result (λ clients. (t : ℕ) → is_connected clients t ≡ false) }
     {
@@ -76,8 +76,8 @@ impl<P: Pipe, A: Allocator + Copy> Clients<P, A> {
         self.table.contains(ticket as usize)
     }
 
-    /// A client has come. If 128 are connected it is closed; else it gets a ticket that no connected
-    /// client has.
+    /// Takes in a client that has come. If 128 are connected, it is closed; otherwise it gets a
+    /// ticket that no connected client has.
     pub fn admit(&mut self, pipe: P)
         ensures closed { 128 ≤ slab_len self.old.table → self.new ≡ self.old }
         ensures past { 128 ≤ self.old.table.vacant_key → self.new ≡ self.old }
@@ -138,7 +138,8 @@ impl<P: Pipe, A: Allocator + Copy> Clients<P, A> {
         ensures same { SameClients self.old self.new }
         ensures lives { LiveOn P.gave P.took P.counts self.old self.new }
         ensures nothing { NothingSaid P.took self.old self.new }
-        // Its reader took the byte, and read the line in it, if that ends one. No other client changed.
+        // Its reader took the byte, and read the line that it ends, if it ends one. No other client
+        // changed.
         ensures heard { HeardAt P.gave [] (byte ∷ []) (option_to_list result)
             (get self.old.table ticket) (get self.new.table ticket) }
         ensures others { OthersStay ticket self.old self.new }

@@ -9,9 +9,9 @@ use socket_links::Pipe;
 pub enum Door<P> {
     /// A new connection.
     Came(P),
-    /// There is none now.
+    /// There is no connection now.
     Nobody,
-    /// It failed in this call.
+    /// The door failed in this call.
     Failed,
 }
 

@@ -17,7 +17,7 @@ pub(crate) struct Greeting<P> {
     ghost within: { sent < 6 },
 }
 
-/// How far a greeting came.
+/// How far a greeting got.
 #[derive(Drop)]
 pub(crate) enum Greeted<P> {
     /// The hello is out.
@@ -40,7 +40,7 @@ impl<P: Pipe> Greeting<P> {
 
     /// Writes once what is left of the hello of node `id`.
     pub fn push_out(self, id: u16) -> Greeted<P>
-        // What the pipe took goes on along the hello, and to its end if the hello is out.
+        // What the pipe took continues the hello, and reaches its end if the hello is out.
         ensures { Greets P.took (hello id ++ newline ∷ []) self result }
     {
         let Greeting { mut pipe, sent } = self;

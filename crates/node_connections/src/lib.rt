@@ -10,12 +10,13 @@
 //! let is_there = clients.write(ticket);                // false: its pipe failed
 //! ```
 //!
-//! A [`port::NodePort`] has the frames of one neighbour and the hello before them, a [`lobby::Lobby`]
-//! the visitors, and [`clients::Clients`] the clients with the answers that wait for them. [`Doors`]
-//! bring connections. Nothing here knows the node: what it answers and when it speaks is the caller's.
+//! A [`port::NodePort`] has the frames of one neighbour and the hello before them, a
+//! [`lobby::Lobby`] the visitors, and [`clients::Clients`] the clients with the answers that wait
+//! for them. [`Doors`] bring connections. Nothing here knows the node: what it answers and when it
+//! speaks is up to the caller.
 //!
-//! The trap: a client of which a read or a write says that it is gone stays in the table, and keeps
-//! its ticket, until the caller closes it.
+//! The trap: when a read or a write says that a client is gone, that client stays in the table, and
+//! keeps its ticket, until the caller closes it.
 #![tactic(auto)]
 
 pub mod clients;

@@ -7,10 +7,10 @@ use socket_links::{Pipe, ReadAnswer, decode_hello};
 use std::alloc::{AllocError, Allocator, Global};
 use topology::Net;
 
-/// At most so many connections wait for their hello.
+/// The most connections that may wait for their hello.
 pub const PLACES: usize = 64;
 
-/// A hello must have come within so many turns.
+/// A hello must have come within this many turns.
 const PATIENCE: u16 = 256;
 
 /// The bytes of a hello, without its newline.
@@ -23,7 +23,7 @@ struct Visitor<P> {
     /// The first line so far.
     line: [u8; HELLO],
     count: usize,
-    /// In so many turns it was listened to.
+    /// The number of turns in which it was listened to.
     turns: u16,
     ghost within: { (count ≤ 5) × (length line ≡ 5) },
 }
@@ -35,7 +35,7 @@ enum Arrival {
     Waits,
     /// Its first line is no hello, or it closed, failed, or was too slow.
     Goes,
-    /// It is this node.
+    /// It is the node with this id.
     Is(u16),
 }
 
@@ -53,8 +53,8 @@ impl<P: Pipe> Visitor<P> {
         }
     }
 
-    /// Reads on in its first line, one byte at a time and not beyond its newline: after that come
-    /// frames.
+    /// Reads on in the visitor's first line, one byte at a time and not beyond its newline: after
+    /// that come frames.
     fn listen(&mut self, net: &Net) -> Arrival
         ensures { Listened P.gave P.took net.now.nodes self.old self.new result }
     {
@@ -116,7 +116,7 @@ impl<P: Pipe, A: Allocator + Copy> Lobby<P, A> {
         self.visitors.is_empty()
     }
 
-    /// A connection has come. It is closed if 64 wait already.
+    /// Takes in a connection that has come. It is closed if 64 wait already.
     pub fn admit(&mut self, pipe: P)
         ensures closed { 64 ≤ slab_len self.old.visitors → self.new ≡ self.old }
         ensures others { (place : ℕ) → place ≢ self.old.visitors.vacant_key

@@ -44,7 +44,7 @@ impl<P: Pipe> NodePort<P> {
         }
     }
 
-    /// Whether a connection stands, and how many there were so far with it.
+    /// Whether a connection stands, and how many there have been so far, this one included.
     pub fn sight(&self) -> LinkSight
         ensures { result ≡ link_sight self.now }
     {
@@ -68,12 +68,12 @@ impl<P: Pipe> NodePort<P> {
         self.link.is_attached() && !self.is_stuck
     }
 
-    /// This pipe is the connection from now on; an older one is closed.
+    /// Makes this pipe the connection from now on; an older connection is closed.
     pub fn attach(&mut self, pipe: P)
         ensures stands { (self.new.link.pipe ≡ Some pipe) × (self.new.greeting ≡ None)
             × (self.new.is_stuck ≡ false) }
         ensures made { self.new.made ≡ one_more self.old.made }
-        // Of the new one nothing is kept yet.
+        // Nothing of the new connection is kept yet.
         ensures bare { IsBare self.new.link }
     {
         let _older = self.link.attach(pipe);
@@ -92,7 +92,7 @@ impl<P: Pipe> NodePort<P> {
         self.is_stuck = false;
     }
 
-    /// A new connection, on which the hello goes out first.
+    /// Takes a new connection, on which the hello goes out first.
     pub fn greet(&mut self, pipe: P)
         ensures hello { IfSome self.new.greeting
             (λ greeting. (greeting.pipe ≡ pipe) × (greeting.sent ≡ 0)) }
@@ -109,7 +109,7 @@ impl<P: Pipe> NodePort<P> {
         ensures wires { Wires self.old self.new }
         // Without a hello nothing is done.
         ensures none { self.old.greeting ≡ None → (self.new ≡ self.old) × (result ≡ false) }
-        // A connection that stands now is one more.
+        // If a connection stands now, it counts as one more.
         ensures made { self.new.made ≡ (if result then one_more self.old.made else self.old.made) }
     {
         let Some(greeting) = self.greeting.take() else {
@@ -143,7 +143,7 @@ impl<P: Pipe> NodePort<P> {
     /// Writes what is left of the last line, as far as the pipe takes it.
     pub fn push_out(&mut self)
         ensures pushed { PushesOut P.gave P.took P.counts self.old self.new }
-        // What the pipe took goes on along that line.
+        // What the pipe took continues that line.
         ensures line { PushesOn P.took [] self.old.link self.new.link }
         ensures made { self.new.made ≡ self.old.made }
     {
@@ -155,7 +155,8 @@ impl<P: Pipe> NodePort<P> {
     pub fn offer(&mut self, frame: &Frame) -> bool
         ensures offered { OffersLine P.gave P.took P.counts (spelling frame.now ++ newline ∷ [])
             self.old self.new result }
-        // What the pipe took goes on by the frame's line, or by nothing if it is not accepted.
+        // What the pipe took goes on with the frame's line, or with nothing if the frame is not
+        // accepted.
         ensures line { PushesOn P.took (if result then spelling frame.now ++ newline ∷ [] else [])
             self.old.link self.new.link }
         ensures made { self.new.made ≡ self.old.made }
@@ -182,7 +183,7 @@ impl<P: Pipe> NodePort<P> {
     }
 }
 
-/// What is seen of the link to a node, by these ports; none if the node has no port there.
+/// What is seen of the link to a node at these ports; none if they have no port for that node.
 pub fn link_at<P: Pipe>(ports: &[NodePort<P>], id: u16) -> Option<LinkSight>
     ensures { result ≡ link_at (slice_get ports.now id) }
 {

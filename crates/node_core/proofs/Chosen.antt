@@ -15,7 +15,7 @@ pub else_is : {X : Type 0} (b : Bool) (x y z : X) → false ≡ b → z ≡ y �
 else_is false x y z off is = is
 else_is true x y z off is = absurd cc
 
--- a choice is compared as the definition says it
+-- a choice is compared in the way that the definition says
 pub named_test : (chosen : Option ℕ) (t : ℕ) (b : Bool) → b ≡ option_eq eqb chosen (Some t) → b ≡ is_named chosen t
 named_test None t b is = is
 named_test (Some p) t b is = is

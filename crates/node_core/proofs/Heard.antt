@@ -14,11 +14,11 @@ use Rattle.node_core.specs.View.{NodeView, site_in, state_of}
 use Rattle.node_core.proofs.Chosen.{then_is, else_is}
 use Rattle.node_core.proofs.Same.{same_state}
 
--- nothing out of range
+-- a frame out of range changes nothing
 pub taken_unfit : (v : NodeView) (w : ℕ) (f : Frame) → false ≡ frame_fits v.registers.ranges f → state_of v ≡ taken (site_in v) w (item.Frame f) (state_of v)
 taken_unfit v w f unfit = else_is (frame_fits v.registers.ranges f) (heard (site_in v) w f (state_of v)) (state_of v) (state_of v) unfit refl
 
--- a frame at its port, after what the node says before
+-- a frame in range is heard at its port, with what the node said before it
 pub taken_heard : (v : NodeView) (r : RegistersView) (w : ℕ) (f : Frame) (present : Payload) → true ≡ frame_fits v.registers.ranges f
     → port_of r ≡ at (port_of v.registers) w (port_after v.registers.ranges.counter (port_of v.registers w) f present) → r ≡ record v.registers { ports = r.ports }
     → port_after v.registers.ranges.counter (port_of v.registers w) f present
@@ -28,7 +28,7 @@ taken_heard v r w f present fits wrote rest same =
     then_is (frame_fits v.registers.ranges f) (heard (site_in v) w f (state_of v)) (state_of v) (state_of (record v { registers = r })) fits
     (same_state _ _ refl refl (wrote ∙ ap (at (port_of v.registers) w) same) (ap value_of rest) refl)
 
--- it is no matter if the frame acknowledges another number
+-- what the node says does not matter if the frame acknowledges a different number
 not_acked : (modulus : ℕ) (p : PortState) (f : Frame) (present : Payload) → f.ack ≢ p.seq → port_acked modulus p f present ≡ p
 not_acked modulus p f present other = grind (arith, nat_tests)
 

@@ -14,7 +14,7 @@ use Rattle.registers.specs.Registers.{RegistersView, IsRegisters, port_of, value
 use Rattle.node_core.specs.OnRegisters.{IsTreeWithin, machine_may_move, machine_moved, values_moved}
 use Rattle.node_core.proofs.OnTree.{on-from_Contains, Contains-from_on}
 
--- values x of which those at places of `done` that pass q have become m
+-- the values x, of which those at the places in `done` that pass q have become m
 abbrev pub moved_at : (done : List ℕ) (q : ℕ → Bool) (m x : ℕ → ℕ) → ℕ → ℕ
 moved_at done q m x t = if is_on done t && q t then m t else x t
 
@@ -22,7 +22,7 @@ moved_at done q m x t = if is_on done t && q t then m t else x t
 pub standing : (ns near : List ℕ) (k : ℕ) → near ≡ ns → k < length ns → Contains ns (get_or near k 0)
 standing ns near k are within = rw are (k, within, get_or_default ns k (get_or ns k 0) 0 within)
 
--- in an ascending list what stands at a place stands at none before
+-- in an ascending list what stands at a place stands at no earlier one
 pub not_before : (ns : List ℕ) (k : ℕ) → IsStrictlyIncreasing ns → k < length ns → is_on (take k ns) (get_or ns k 0) ≡ false
 not_before ns k up within = elim (cases_Bool (is_on (take k ns) (get_or ns k 0))) [
   | inr off ↦ off
@@ -107,13 +107,13 @@ stayed_one_more old now tree chosen k t ok done within is stays =
       values = stays_one old.neighbours (λ u. is_on tree u && machine_may_move old chosen u) (machine_moved old chosen) (value_of old) (value_of now) k t within is fails done.values;
     }
 
--- a test that implies to be listed is not changed by asking for it
+-- a test that implies being listed does not change if being listed is tested, too
 listed_anyway : (a b c : Bool) → (b ≡ true → a ≡ true) → (a && (b && c)) ≡ (b && c)
 listed_anyway a true c h = rw (h refl) refl
 listed_anyway true false c h = refl
 listed_anyway false false c h = refl
 
--- at the end all have moved that might
+-- at the end all that might move have moved
 pub all_moved : (old now : RegistersView) (tree : List ℕ) (chosen : Option ℕ) (k : ℕ) → IsTreeWithin old tree → IsMovedUpTo old now tree chosen k → length old.neighbours ≤ k
     → value_of now ≡ values_moved old tree chosen
 all_moved old now tree chosen k within done past = fun_ext (λ i.

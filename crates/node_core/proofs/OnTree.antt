@@ -48,7 +48,7 @@ any_on ts ns q inside = same_test _ _
     let (k, within, same) = inside t on in
     list_any_at (λ w. is_on ts w && q w) ns k t within (rw (same, on) passes))
 
--- so a loop over all neighbours that finds one has its answer, and one that found none
+-- so a loop over all neighbours has its answer if it finds one, and if it found none
 pub one_on : (ts ns : List ℕ) (q : ℕ → Bool) (k : ℕ) → ((w : ℕ) → IsTrue (is_on ts w) → Contains ns w) → k < length ns
     → true ≡ (is_on ts (get_or ns k 0) && q (get_or ns k 0)) → true ≡ list_any q ts
 one_on ts ns q k inside within passes = sym (list_any_at (λ w. is_on ts w && q w) ns k 0 within (sym passes)) ∙ any_on ts ns q inside
@@ -60,7 +60,7 @@ none_on ts ns q k inside past none =
     let found : list_any (λ w. is_on ts w && q w) ns ≡ false = rw whole at none in
     sym found ∙ any_on ts ns q inside
 
--- none of those up to here, so far
+-- if none before this one passes, and this one does not, none so far passes
 pub none_more : (p : ℕ → Bool) (ns : List ℕ) (k : ℕ) → k < length ns → list_any p (take k ns) ≡ false → false ≡ p (get_or ns k 0)
     → list_any p (take (k + 1) ns) ≡ false
 none_more p ns k within none fails = list_any_more p ns k 0 within ∙ rw (none, ← fails) refl

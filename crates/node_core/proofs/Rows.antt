@@ -56,8 +56,8 @@ nothing_moves = refl
 tree_of_root : tree_of near (root_with 3 3) ≡ 1 ∷ []
 tree_of_root = refl
 
--- the root's machine may move if it sees its own value, and goes on by one; the child's if it
--- sees another
+-- the root's machine may move if it sees its own value, and goes on by one; the child's if it sees
+-- a different one
 root_may : is_node_privileged near (root_with 3 3) ≡ true
 root_may = refl
 
@@ -99,7 +99,7 @@ root_moved_on = refl
 child_copied : (ticked far (child_with 3 4)).value 0 ≡ 4
 child_copied = refl
 
--- but not if the node lends after it: who waits borrows, and the machine stands still
+-- but not if the node lends after it: a ticket that waits borrows, and the machine stands still
 abbrev asked_for : LocalState → LocalState
 asked_for s = record s { desk = record no_desk { waiting = 9 ∷ [] } }
 
@@ -109,7 +109,7 @@ lending_stays = refl
 lending_lends : (ticked near (asked_for (root_with 3 3))).desk.lent ≡ Some 9
 lending_lends = refl
 
--- distance and parent are made again in a tick: a child that believed in the distance 2 and no
+-- distance and parent are computed again in a tick: a child that believed in the distance 2 and no
 -- parent
 child_finds_its_way : (ticked far (record (child_with 0 0) { distance = 2; parent = None })).distance ≡ 1
 child_finds_its_way = refl
@@ -127,7 +127,7 @@ first_part = refl
 first_part_lends_not : (recomputed near (asked_for (root_with 3 3))).desk.lent ≡ None
 first_part_lends_not = refl
 
--- the desk lends to who waits, if the node is privileged
+-- the desk lends to a ticket that waits, if the node is privileged
 second_part : (desk_done near (asked_for (root_with 3 3))).desk.lent ≡ Some 9
 second_part = refl
 

@@ -1,4 +1,4 @@
--- Deeds of one node, small enough to see through.
+-- Deeds of one node, small enough to check by hand.
 use Rattle.std.proofs.Common.{◌≡◌, ℕ, List, [], ◌∷◌, false, refl, ap, rules, arith}
 use Rattle.std.proofs.lemmas.Grind.{common_steps}
 use Rattle.lock_desk.specs.Desk.{no_desk}
@@ -38,7 +38,7 @@ asks-and-sends = search rules
 no-such-ticket : Leads middle (Asks 65536 ∷ []) start (with_waiting (65536 ∷ [])) → ⊥
 no-such-ticket h = grind arith
 
--- a node sends to neighbours, and takes from neighbours, alone
+-- a node sends only to neighbours, and takes only from neighbours
 not-to-others : (f : Frame) (last : LocalState) → Leads middle (Sends 1 f ∷ []) start last → ⊥
 not-to-others f last h = let a = h.0 in grind (arith, common_steps)
 

@@ -21,8 +21,8 @@ before s t = (s.port t).copy.ring
 abbrev pub is_special : Site → LocalState → ℕ → Bool
 is_special site s t = is_named (special site.is_root (tree_of site s)) t
 
--- the machine from t may move: the special one if it sees its own value, any other if it sees
--- another value
+-- the machine from t may move: the special one if it sees its own value, any other if it sees a
+-- different value
 abbrev pub may_move : Site → LocalState → ℕ → Bool
 may_move site s t = is_privileged (is_special site s t) (s.value t) (before s t)
 

@@ -1,5 +1,5 @@
--- The machines as they stand in a node's registers: the same words as for a state of the node, for
--- those functions that see the registers alone.
+-- The machines as they stand in a node's registers: the same notions as for a state of the node,
+-- for functions that see the registers alone.
 use Rattle.std.specs.Prelude.{ℕ, Bool, ◌&&◌, IsTrue, List, Option, Contains, if◌then◌else◌}
 use Rattle.registers.specs.k_state.Machine.{root_moved, is_privileged}
 use Rattle.registers.specs.Registers.{RegistersView, IsRegisters, port_of, value_of}
@@ -10,7 +10,7 @@ pub record IsTreeWithin (r : RegistersView) (tree : List ℕ) : Type 0 where
   pub registers : IsRegisters r
   pub neighbours : (w : ℕ) → IsTrue (is_on tree w) → Contains r.neighbours w
 
--- the machine from t, if `chosen` is the special one, may move
+-- the machine from t may move, if `chosen` is the special one
 abbrev pub machine_may_move : RegistersView → Option ℕ → ℕ → Bool
 machine_may_move r chosen t =
     is_privileged (is_named chosen t) (value_of r t) (port_of r t).copy.ring
@@ -20,7 +20,7 @@ abbrev pub machine_moved : RegistersView → Option ℕ → ℕ → ℕ
 machine_moved r chosen t =
     if is_named chosen t then root_moved (value_of r t) r.ranges.ring else (port_of r t).copy.ring
 
--- the values after all machines moved that may
+-- the values after all machines that may move have moved
 abbrev pub values_moved : RegistersView → List ℕ → Option ℕ → ℕ → ℕ
 values_moved r tree chosen t =
     if is_on tree t && machine_may_move r chosen t then machine_moved r chosen t else value_of r t

@@ -6,8 +6,8 @@ use Rattle.registers.specs.data_link.Port.{PortState, port_fits, default_port}
 use Rattle.lock_desk.specs.Desk.{DeskState, desk_fits, no_desk}
 use Rattle.node_core.specs.Site.{Site}
 
--- A node's distance and parent; by the neighbour's id its port, and the value of the machine that
--- comes in from there; its lock desk.
+-- A node's distance and parent; its port to each neighbour and the value of the machine that comes
+-- in from there, by the neighbour's id; its lock desk.
 pub record LocalState : Type 0 where
   pub distance : ℕ
   pub parent : Option ℕ
@@ -15,7 +15,7 @@ pub record LocalState : Type 0 where
   pub value : ℕ → ℕ
   pub desk : DeskState
 
--- Each field is in its range; of the ports and values, those of neighbours.
+-- Each field is in its range; of the ports and values, only those of neighbours need be.
 pub record IsNodeInRange (site : Site) (s : LocalState) : Type 0 where
   pub distance : s.distance ≤ site.ranges.nodes
   pub parent : IsTrue (parent_fits site.ranges.nodes s.parent)

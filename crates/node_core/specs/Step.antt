@@ -19,7 +19,7 @@ abbrev pub item_fits : Ranges → Item → Bool
 item_fits r (item.Frame f) = frame_fits r f
 item_fits r item.Noise = true
 
--- a frame from neighbour w at its port; what the node says to w before it may be staged
+-- a frame from neighbour w comes to its port; it may stage what the node had to say to w before it
 abbrev pub heard : Site → ℕ → Frame → LocalState → LocalState
 heard site w f s = record s {
   port = at s.port w (port_after site.ranges.counter (s.port w) f (payload_for site s w));

@@ -1,5 +1,5 @@
-//! The laws of a node's account, each the contract of a function that does nothing; and those of its parts that the crates
-//! above cite: of its tree step, its desk, its edges.
+//! The laws of a node's account, each the contract of a function that does nothing; and those laws
+//! of its parts (its tree step, its desk, its edges) that the crates above cite.
 ghost use Rattle.node_core.specs.Laws.{AccountsJoin, OneEnd, FramesJoin};
 
 pub use bfs_tree::laws::step_in_range;
@@ -10,9 +10,9 @@ pub use lock_desk::laws::{
     waiting_tickets_are_served,
 };
 
-/// Two accounts of a node, the second from where the first led, are one account, which says of each
-/// neighbour what the first says and then what the second says; and an account leads to one state
-/// alone. So the accounts of many turns are strung together to one.
+/// Two accounts of a node, the second from where the first led, are one account. It says of each
+/// neighbour what the first says and then what the second says. An account leads to one state
+/// alone. So the accounts of many turns can be strung together into one.
 pub fn accounts()
     ensures join { AccountsJoin }
     ensures one_end { OneEnd }

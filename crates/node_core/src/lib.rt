@@ -2,9 +2,9 @@
 //! what it does with them.
 //!
 //! A [`Node`] is moved by four calls: it takes an item that a neighbour sent (`take`), it ticks
-//! (`tick`), and its clients `ask` and `leave`. What it sends is `frame_for` a neighbour. All that
-//! it knows of the network is its own id, whether it is the root, the ranges of numbers, and its
-//! neighbours' ids.
+//! (`tick`), and its clients `ask` and `leave`. What it sends to a neighbour is `frame_for` that
+//! neighbour. All that it knows of the network is its own id, whether it is the root, the ranges of
+//! numbers, and its neighbours' ids.
 //!
 //! ```
 //! let mut node = Node::new(alloc, &net, 1)?;
@@ -12,14 +12,14 @@
 //! node.take(0, &Item::Frame(frame));     // what neighbour 0 sent
 //! ```
 //!
-//! This is no network and no thread: who calls when, and what becomes of a frame under way, stands
-//! elsewhere. Every state in range is a possible start, so no call rests on how the state came
-//! about.
+//! There is no network and no thread here: other crates say who makes these calls and when, and
+//! what becomes of a frame under way. Every state in range is a possible start, so no call rests on
+//! how the state came about.
 //!
-//! A node's *account* is the list of what it did, in order: it took and sent frames, it ticked, and its
-//! clients asked and left. Nothing computes one: the contracts of code that drives a node name it, and
-//! the account of many turns is that of the first, then that of the second, and so on
-//! (`laws::accounts`). A send is the moment at which the link accepts the frame, whole.
+//! A node's *account* is the list of what it did, in order: it took and sent frames, it ticked, and
+//! its clients asked and left. No code computes one: the contracts of the code that drives a node
+//! name it. The account of many turns is that of the first, then that of the second, and so on
+//! (`laws::accounts`). A send is the moment at which the link accepts the whole frame.
 //!
 //! The traps: what a node says to a neighbour is what it had to say *before* the frame that it
 //! takes; and a node that lends does not let the token go, so its machines stand still until a tick

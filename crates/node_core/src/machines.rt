@@ -23,7 +23,8 @@ pub fn tree<A: Allocator>(registers: &Registers<A>, parent: Option<u16>, id: u16
     })
 }
 
-/// Whether a machine comes in from `t` that may move, if `chosen` is the special one's.
+/// Whether a machine comes in from `t` and may move. The special machine, if any, comes in from
+/// `chosen`.
 fn may_move<A: Allocator>(
     registers: &Registers<A>,
     tree: &TreeNeighbours,
@@ -38,7 +39,7 @@ fn may_move<A: Allocator>(
     tree.contains(t) && privileged(chosen == Some(t), value, before)
 }
 
-/// Its value after a move.
+/// The value, after a move, of the machine that comes in from `t`.
 fn moved_value<A: Allocator>(registers: &Registers<A>, chosen: Option<u16>, t: u16) -> u16
     requires { t < registers.now.ranges.nodes }
     ensures value { result ≡ machine_moved registers.now chosen t }
@@ -87,7 +88,7 @@ pub fn ring_for<A: Allocator>(registers: &Registers<A>, tree: &TreeNeighbours, w
     }
 }
 
-/// Whether a neighbour is on the tree. It looks at no other one.
+/// Whether a neighbour is on the tree. Looks at no other neighbour.
 fn is_on_tree<A: Allocator>(
     registers: &Registers<A>,
     parent: Option<u16>,
@@ -101,7 +102,7 @@ fn is_on_tree<A: Allocator>(
     parent == Some(neighbour) || registers.copy_of(neighbour).parent == Some(id)
 }
 
-/// Whether a machine comes in from `t` that may move, at a node that is not the root.
+/// Whether a machine comes in from `t` and may move, at a node that is not the root.
 fn may_copy<A: Allocator>(registers: &Registers<A>, parent: Option<u16>, id: u16, t: u16) -> bool
     requires { t < registers.now.ranges.nodes }
     ensures { result ≡ (is_tree_neighbour parent id
@@ -111,8 +112,8 @@ fn may_copy<A: Allocator>(registers: &Registers<A>, parent: Option<u16>, id: u16
         && is_on_tree(registers, parent, id, t)
 }
 
-/// Whether one of the machines may move, at a node that is not the root: it has no special one. It
-/// goes through the neighbours once, and does not list those on the tree.
+/// Whether one of the machines may move, at a node that is not the root and so has no special
+/// machine. Goes through the neighbours once, without listing those on the tree.
 pub fn some_may_copy<A: Allocator>(registers: &Registers<A>, parent: Option<u16>, id: u16) -> bool
     ensures { result ≡ list_any (machine_may_move registers.now None)
         (tree_neighbours parent id registers.now.neighbours
@@ -150,7 +151,7 @@ pub fn ring_towards<A: Allocator>(
 }
 
 /// Moves each machine that may move. Each reads its own value and its own port's copy alone, so the
-/// order is no matter.
+/// order does not matter.
 pub fn move_machines<A: Allocator>(
     registers: &mut Registers<A>,
     tree: &TreeNeighbours,

@@ -21,9 +21,8 @@ ghost use Rattle.node_core.specs.View.{NodeView, site_in, state_of};
 
 use crate::machines::{move_machines, ring_towards, some_may_copy, some_may_move, tree};
 use crate::own::new_own;
-use crate::status::{push_number, push_number_or_none, push_yes_or_no};
+use crate::status::{STATUS_BYTES, StatusText, push_number, push_number_or_none, push_yes_or_no};
 use crate::ticked::Ticked;
-use arrayvec::ArrayString;
 use data_link::Item;
 use lock_desk::{AskFault, Desk, Stranger};
 use registers::{Frame, Net, OutOfRange, Payload, Ranges, Registers};
@@ -41,7 +40,7 @@ pub struct Node<A: Allocator = Global> {
     desk: Desk<A>,
 }
 
-/// Another name of a node, seen as the state that a file or a fault may write.
+/// Another name for a node, seen as the state that a file or a fault may write.
 pub type NodeState<A = Global> = Node<A>;
 
 impl<A: Allocator> Model for Node<A> {
@@ -236,7 +235,7 @@ impl<A: Allocator> Node<A> {
         self.registers.frame_for(port)
     }
 
-    /// A client's ticket asks for the lock. Refused as `Full` if 64 tickets wait, and else as
+    /// A client's ticket asks for the lock. Refused as `Full` if 64 tickets wait, and otherwise as
     /// `Twice` if this one waits or the lock is lent to it; then nothing has changed.
     pub fn ask(&mut self, ticket: u16) -> Result<(), AskFault>
         // It is accepted exactly if nothing forbids it; else the first fault is reported.
@@ -345,8 +344,8 @@ impl<A: Allocator> Node<A> {
         self.registers.set_value(port, value)
     }
 
-    /// Writes the loan. `OutOfRange` comes exactly if its ticket waits, if more is left than
-    /// the lease, or if anything is left of no loan; then nothing has changed.
+    /// Writes the loan. `OutOfRange` comes exactly if its ticket waits, if more ticks are left than
+    /// the lease, or if any are left without a loan; then nothing has changed.
     pub fn set_desk(&mut self, lent: Option<u16>, left: u16, served: bool) -> Result<(), OutOfRange>
         // It is written exactly if it is in range, and then nothing else has changed.
         ensures variant { IsOk result
@@ -361,9 +360,8 @@ impl<A: Allocator> Node<A> {
         self.desk.set_loan(lent, left, served).or(Err(OutOfRange))
     }
 
-    /// Writes the tickets that wait, the next one first. `OutOfRange` comes exactly if they are
-    /// more than 64, if one stands twice, or if one of them borrows; then nothing has
-    /// changed.
+    /// Writes the tickets that wait, the next one first. `OutOfRange` comes exactly if there are
+    /// more than 64, if one occurs twice, or if one of them borrows; then nothing has changed.
     pub fn set_waiting(&mut self, tickets: &[u16]) -> Result<(), OutOfRange>
         // It is written exactly if it is in range, and then nothing else has changed.
         ensures variant { IsOk result
@@ -393,13 +391,13 @@ impl<A: Allocator> Node<A> {
     }
 
     /// Takes an item that the neighbour `port` sent. Noise changes nothing, nor does a frame with a
-    /// field out of its range. Of any other frame, what the node had to say *before* it is staged
-    /// if the frame acknowledges the port's number; then its payload is copied if its number
-    /// is new. No other port changes.
+    /// field out of its range. Any other frame is heard in two steps: if it acknowledges the port's
+    /// number, the port stages what the node had to say *before* it; then, if its number is new,
+    /// its payload is copied. No other port changes.
     #[inline(always)]
     pub fn take(&mut self, port: u16, item: &Item)
         requires { Contains (site_in self.old).neighbours port }
-        // The state is that of the rule for a taken item, which says also what noise does.
+        // The state is that of the rule for a taken item, which also says what noise does.
         ensures state { state_of self.new
             ≡ taken (site_in self.old) port item.now (state_of self.old) }
         ensures site { site_in self.new ≡ site_in self.old }
@@ -414,15 +412,15 @@ impl<A: Allocator> Node<A> {
             let present = self.payload_for(port);
             let _heard = self.registers.hear(port, frame, present);
         } else {
-            // Nothing is staged, so what it has to say is no matter.
+            // Nothing is staged, so what the node has to say does not matter.
             let _heard = self.registers.hear(port, frame, frame.payload);
         }
     }
 
-    /// Takes up the neighbours that it has in a network with the same nodes, root, capacity and
-    /// lease (`Net::same_frame`). The port and the value of a neighbour that stays are kept whole,
-    /// those of a new one are as at the start, and those of one that is gone are dropped. Distance,
-    /// parent and desk stay.
+    /// Gives the node the neighbours that it has in a network with the same nodes, root, capacity
+    /// and lease (`Net::same_frame`). The port and the value of a neighbour that stays are kept
+    /// whole, those of a new one are as at the start, and those of one that is gone are dropped.
+    /// Distance, parent and desk stay.
     pub fn rewire<N: Allocator + Copy>(&mut self, net: &Net<N>)
         requires { site_of net.now (site_in self.old).id
             ≡ record (site_in self.old) {
@@ -486,7 +484,7 @@ impl<A: Allocator> Node<A> {
         // The state is that of the rule for a tick.
         ensures state { state_of self.new ≡ ticked (site_in self.old) (state_of self.old) }
         ensures site { site_in self.new ≡ site_in self.old }
-        // What became of the loan, as it is seen from the desk before and after the tick.
+        // What became of the loan, as seen from the desk before and after the tick.
         ensures act { result.act ≡ desk_act (state_of self.old).desk (state_of self.new).desk }
         // The tick is a full one exactly if the node lends to nobody after it.
         ensures full { result.full ≡ is_none (state_of self.new).desk.lent }
@@ -495,12 +493,12 @@ impl<A: Allocator> Node<A> {
         self.serve()
     }
 
-    /// Writes the node's status line, with its newline, to the front of `line` and says how many
+    /// Writes the node's status line, with its newline, to the front of `line` and returns how many
     /// bytes it has; the rest stays as it was. The line is `node V distance D parent P token T lent
     /// L waiting W`: T is `yes` if the node is privileged and else `no`, P and L may be `none`.
-    pub fn status(&self, line: &mut [u8; 96]) -> usize
+    pub fn status(&self, line: &mut [u8; STATUS_BYTES]) -> usize
         ensures text { take result line.new ≡ status_line (site_in self.now) (state_of self.now) }
-        // After the line nothing is written.
+        // Nothing is written after the line.
         ensures rest { drop result line.new ≡ drop result line.old }
         ensures within { result ≤ 96 }
     {
@@ -511,10 +509,10 @@ impl<A: Allocator> Node<A> {
     }
 
     /// The node's status line.
-    fn status_text(&self) -> ArrayString<96>
+    fn status_text(&self) -> StatusText
         ensures { result.bytes ≡ status_line (site_in self.now) (state_of self.now) }
     {
-        let mut text = ArrayString::<96>::new();
+        let mut text = StatusText::new();
         push_number(&mut text, "node ", self.id);
         push_number(&mut text, " distance ", self.distance);
         push_number_or_none(&mut text, " parent ", self.parent);

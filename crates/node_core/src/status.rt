@@ -6,8 +6,14 @@ ghost use Rattle.node_core.specs.Status.{number_or_none, yes_or_no};
 use arrayvec::ArrayString;
 use itoa::Buffer;
 
+/// The most bytes that a status line has, with its newline.
+pub const STATUS_BYTES: usize = 96;
+
+/// A status line that is being built.
+pub type StatusText = ArrayString<STATUS_BYTES>;
+
 /// Adds a name and a number.
-pub fn push_number(text: &mut ArrayString<96>, name: &str, number: u16)
+pub fn push_number(text: &mut StatusText, name: &str, number: u16)
     requires { array_string_len text.old + length name.now + 5 ≤ 96 }
     ensures bytes { text.new.bytes ≡ text.old.bytes ++ name.now ++ decimal number }
     // A number below 65536 has at most 5 digits.
@@ -19,7 +25,7 @@ pub fn push_number(text: &mut ArrayString<96>, name: &str, number: u16)
 }
 
 /// Adds a name, and a number or `none`.
-pub fn push_number_or_none(text: &mut ArrayString<96>, name: &str, number: Option<u16>)
+pub fn push_number_or_none(text: &mut StatusText, name: &str, number: Option<u16>)
     requires { array_string_len text.old + length name.now + 5 ≤ 96 }
     ensures bytes { text.new.bytes ≡ text.old.bytes ++ name.now ++ number_or_none number }
     // A number below 65536 has at most 5 digits, and `none` has 4.
@@ -35,7 +41,7 @@ pub fn push_number_or_none(text: &mut ArrayString<96>, name: &str, number: Optio
 }
 
 /// Adds a name, and `yes` or `no`.
-pub fn push_yes_or_no(text: &mut ArrayString<96>, name: &str, is_so: bool)
+pub fn push_yes_or_no(text: &mut StatusText, name: &str, is_so: bool)
     requires { array_string_len text.old + length name.now + 3 ≤ 96 }
     ensures bytes { text.new.bytes ≡ text.old.bytes ++ name.now ++ yes_or_no is_so }
     // `yes` has 3 letters.

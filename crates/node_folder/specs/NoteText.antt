@@ -16,7 +16,7 @@ file_fault_name read.Range = codes "Range"
 file_fault_name read.Long = codes "Long"
 file_fault_name read.Memory = codes "Memory"
 
--- the name of what stood in the way of a stored state
+-- the name of the fault that kept a stored state from being used
 abbrev pub start_fault_name : StartFault → List ℕ
 start_fault_name (File fault) = file_fault_name fault
 start_fault_name Absent = codes "Absent"

@@ -1,4 +1,4 @@
-//! What a node's process asks of its doors beside what its turns do.
+//! What a node's process asks of its doors, apart from what its turns ask.
 //!
 //! What runs a node is generic in its doors: a proof over sockets takes three times as long.
 
@@ -11,7 +11,7 @@ use unix_doors::{ClientSight, Doors, UnixDoors};
 
 /// The doors of a node's process.
 pub trait ProcessDoors: Doors {
-    /// How many clients are connected, and whether some were closed since this was asked last.
+    /// How many clients are connected, and how many were closed since the last look.
     fn look_at_clients(&mut self) -> ClientSight;
 
     /// Whether somebody who looks may have come.
@@ -23,11 +23,11 @@ pub trait ProcessDoors: Doors {
     /// Whether standard input, if it is watched, is at its end.
     fn has_input_ended<R: Input>(&mut self, rt: &R) -> bool;
 
-    /// Listens at this socket from now on, in place of that before. Answers the file that its name
-    /// leads to.
+    /// Listens at this socket from now on, in place of the one before. Returns the file that its
+    /// name leads to.
     ///
     /// # Errors
-    /// If the system does not watch it; then all stays as it was.
+    /// If the system does not watch it; then nothing changes.
     fn listen(&mut self, whom: Whom, made: Listener) -> io::Result<FileId>;
 }
 

@@ -11,10 +11,10 @@
 //! names.take_back(rt, &mut doors, lost);                          // a name that leads elsewhere
 //! ```
 //!
-//! Nothing here knows the node and its turns: `node_process` runs them. What a node does after it saw its
-//! files is decided in `node_keeping`. Contracts know nothing of the system's answers, so the functions
-//! that call it promise little: in which order a start goes, which fault ends it, and that a name that is
-//! not lost stays.
+//! Nothing here knows the node and its turns: `node_process` runs them. `node_keeping` decides what a node
+//! does once it has seen its files. Contracts know nothing of the system's answers, so the functions that
+//! call the system promise little: the order of a start, the fault that ends it, and that a name that is not
+//! lost stays.
 //!
 //! The trap: a name that leads to another's file is not this node's any more, and must not be removed.
 #![tactic(auto)]

@@ -77,18 +77,18 @@ impl<'a> Name<'a> {
 /// The files of a node's sockets.
 #[derive(Clone, Copy)]
 pub struct NameFiles {
-    /// Of that for neighbours.
+    /// The file of the socket for neighbours.
     pub links: FileId,
-    /// Of that for clients.
+    /// The file of the socket for clients.
     pub clients: FileId,
-    /// Of that for whoever looks.
+    /// The file of the socket for whoever looks.
     pub looks: FileId,
 }
 
 /// The names of a running node.
 #[derive(Drop)]
 pub struct Names<'a> {
-    /// All names.
+    /// The names of all its files.
     pub paths: &'a NodePaths,
     /// Its place in the folder.
     pub place: &'a FolderPlace,
@@ -151,7 +151,7 @@ impl<'a> Names<'a> {
     }
 }
 
-/// For whom a socket is.
+/// Whom a socket is for.
 #[derive(Clone, Copy)]
 pub enum Whom {
     /// Its neighbours.

@@ -8,9 +8,9 @@ use std::fmt;
 /// What a node's process says on standard output.
 #[derive(Clone, Copy)]
 pub enum Note {
-    /// From what it starts: its stored state or, if there is none, the default state.
+    /// What it starts from: its stored state or, because of this fault, the default state.
     Started(Option<StartFault>),
-    /// Both of its sockets listen.
+    /// All of its sockets listen.
     Ready,
 }
 
@@ -29,7 +29,7 @@ impl fmt::Display for Note {
     }
 }
 
-/// The name of what stood in the way of a stored state.
+/// The name of the fault that kept a stored state from being used.
 fn fault_name(fault: StartFault) -> &'static str
     ensures { result.now ≡ start_fault_name fault }
 {
@@ -45,8 +45,8 @@ fn fault_name(fault: StartFault) -> &'static str
     }
 }
 
-/// A note as a line without its newline; the node's id stands in front if a process that keeps
-/// many nodes prints it.
+/// A note as a line without its newline. The node's id is in front if the node is named, as one
+/// that `up` started is.
 #[derive(Clone, Copy)]
 pub struct NoteLine {
     /// The node that is named.

@@ -21,7 +21,7 @@ pub trait Opener {
     /// The doors.
     type D: ProcessDoors;
 
-    /// Opens them. Answers also the files of the sockets.
+    /// Opens them. Also returns the files of the sockets.
     ///
     /// # Errors
     /// Why it cannot.

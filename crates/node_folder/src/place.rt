@@ -13,11 +13,11 @@ use std::fs::File;
 use std::rt::Files;
 use topology::Net;
 
-/// Reads the network. Refuses an invalid file, an id that is no node's, and a folder whose name is
-/// too long.
+/// Reads the network. Fails if the file is invalid, the id is no node's, or the name of the folder
+/// is too long.
 ///
 /// # Errors
-/// Which of these it is; then nothing is made.
+/// Which of these it is, or that memory ran out; then nothing is made.
 pub fn check_words<R: Files + AllocGlobal>(
     rt: &R,
     words: &NodeWords<'_>,
@@ -42,7 +42,7 @@ pub fn check_words<R: Files + AllocGlobal>(
     }
 }
 
-/// Refuses an id that is no node's of this network, and a folder whose name is too long for its nodes.
+/// Fails if the id is no node's of this network, or the name of the folder is too long for its nodes.
 fn check_place(alloc: Global, words: &NodeWords<'_>, net: &Net) -> Result<(), NodeFault>
     ensures ok { IfOk result (λ _. words.now.id < net.now.nodes) }
     ensures err { IfErr result (λ fault. may_end Begun fault ≡ true) }
@@ -51,7 +51,7 @@ fn check_place(alloc: Global, words: &NodeWords<'_>, net: &Net) -> Result<(), No
     check_names(alloc, words.dir, net.nodes())
 }
 
-/// Refuses an id that is no node's.
+/// Fails if the id is no node's.
 fn check_id(id: u16, net: &Net) -> Result<(), NodeFault>
     ensures ok { IfOk result (λ _. id < net.now.nodes) }
     ensures err { IfErr result (λ fault. (fault ≡ NoNode net.now.nodes) × (net.now.nodes ≤ id)) }

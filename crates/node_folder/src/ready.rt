@@ -9,7 +9,7 @@ use std::rt::Env;
 use unix_doors::tell_ready;
 
 /// Says with which state the node starts, and that it is ready: its sockets listen. A service manager
-/// that started it learns that it is.
+/// that started it is notified of that.
 pub fn say_ready<R: Env + Print + AllocGlobal>(
     rt: &R,
     words: &NodeWords<'_>,

@@ -16,8 +16,9 @@ use std::io::Input;
 use std::rt::Files;
 use topology::Net;
 
-/// What a node sees after a turn that saved. It touches no file in another's folder. A node that
-/// `up` started is asked to end by the end of its input, or by a SIGTERM, which it holds back.
+/// What a node sees after a turn that saved its state. It touches no file in a folder that is
+/// another's. A node that `up` started is asked to end by the end of its input, or by a SIGTERM,
+/// which it holds back.
 pub fn see<R: Files + Input + AllocGlobal, D: ProcessDoors>(
     rt: &R,
     words: &NodeWords<'_>,

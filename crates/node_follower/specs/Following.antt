@@ -1,4 +1,4 @@
--- What a follower does, as an account; and when two nodes stand in the same state.
+-- What a follower does, as an account; and when two nodes are in the same state.
 use Rattle.std.specs.Prelude.{◌≡◌, ℕ, Bool, true, false, List, [], ◌∷◌, All, IsTrue, flat_map}
 use Rattle.flight_records.specs.declared.entry.Deed.{Deed}
 use Rattle.flight_records.specs.declared.entry.Deed.TheVariants.{Ticks, Takes, TakesAgain, Sends}
@@ -9,8 +9,8 @@ use Rattle.topology.specs.Network.{Network, neighbours_of}
 use Rattle.node_core.specs.Site.{Site, site_of}
 use Rattle.node_core.specs.State.{LocalState}
 
--- The account of a deed as a record has it, and of deeds: a connection is no deed of the node itself, a
--- short form does not name its frame, and a node whose edges change begins another account.
+-- The account of a deed as a record has it, and of deeds: a connection is no deed of the node
+-- itself, a short form does not name its frame, and a node whose edges change begins a new account.
 abbrev pub account_of_one : Deed → List account.Deed
 account_of_one Ticks = account.Ticks ∷ []
 account_of_one (Takes from frame) = account.Takes from frame ∷ []
@@ -47,14 +47,15 @@ AreSameAt w s t = (s.port w ≡ t.port w) × (s.value w ≡ t.value w)
 abbrev pub AreSame : List ℕ → LocalState → LocalState → Type 0
 AreSame neighbours s t = AreSameAlone s t × All (λ w. AreSameAt w s t) neighbours
 
--- No such deeds lead a node by its own steps from one state to where another node stands, if its
--- neighbours are the same.
+-- If each deed says by itself what the node did, these deeds do not lead a node by its own steps
+-- from the one state to any that is the same as the other, for a node with these neighbours.
 abbrev pub LeadElsewhere : Site → List Deed → LocalState → LocalState → Type 0
 LeadElsewhere site ds from to =
     All (λ d. IsTrue (is_own_account d)) ds → (last : LocalState)
     → account.Leads site (account_of ds) from last → ¬ AreSame site.neighbours last to
 
--- But for its neighbours, the site is that of this node in the network. So that has as many nodes, and the
--- same capacity and lease. Of its root a node knows only whether it is the root itself.
+-- Except for its neighbours, the site is that of this node in the network. So the network has the
+-- same capacity, lease and number of nodes. Of its root a node knows only whether it is the root
+-- itself.
 abbrev pub FitsNetwork : Network → Site → Type 0
 FitsNetwork net site = site_of net site.id ≡ record site { neighbours = neighbours_of net site.id }

@@ -52,12 +52,14 @@ impl<A: Allocator + Copy> Follower<A> {
         &self.node
     }
 
-    /// Does these deeds, one after the other, up to one that no node in its state does. Whether it did
-    /// all of them: then they lead it, by a node's own steps, to the state in which it is.
+    /// Does these deeds, one after the other, up to one that no node in its state does. Returns
+    /// whether it did all of them: then they lead it, by a node's own steps, to the state in which
+    /// it is.
     pub fn follow(&mut self, deeds: &[Deed]) -> bool
         ensures leads { IsTrue result → Leads (site_in self.old) (account_of deeds.now)
             (state_of self.old) (state_of self.new) }
-        // Else no node's own steps do, if each deed says by itself what the node did.
+        // Otherwise they lead nowhere by a node's own steps, if each deed says by itself what the
+        // node did.
         ensures refused { result ≡ false → All (λ d. IsTrue (is_own_account d)) deeds.now
             → (last : LocalState)
             → ¬ Leads (site_in self.old) (account_of deeds.now) (state_of self.old) last }
@@ -72,7 +74,7 @@ impl<A: Allocator + Copy> Follower<A> {
         true
     }
 
-    /// Does one deed, if a node in its state does it.
+    /// Does one deed, if a node in its state does it. Returns whether it did.
     pub fn does(&mut self, deed: &Deed) -> bool
         ensures leads { IsTrue result → Leads (site_in self.old) (account_of (deed.now ∷ []))
             (state_of self.old) (state_of self.new) }
@@ -130,7 +132,7 @@ impl<A: Allocator + Copy> Follower<A> {
         self.node.is_neighbour(to) && same_frame(&self.node.frame_for(to), frame)
     }
 
-    /// A ticket asks; one that is refused changes nothing.
+    /// Has a ticket ask; one that is refused changes nothing.
     fn asks(&mut self, ticket: u16)
         ensures state { state_of self.new ≡ record (state_of self.old) {
           desk = after_ask ticket (state_of self.old).desk;
@@ -140,20 +142,20 @@ impl<A: Allocator + Copy> Follower<A> {
         let _answer = self.node.ask(ticket);
     }
 
-    /// A ticket leaves, if it waits or borrows.
+    /// Has a ticket leave, if it waits or borrows.
     fn leaves(&mut self, ticket: u16)
         ensures state { state_of self.new ≡ record (state_of self.old) {
           desk = after_leave ticket (state_of self.old).desk;
         } }
         ensures site { site_in self.new ≡ site_in self.old }
     {
-        // The desk is in range, which the prover needs: a borrower does not wait.
+        // The prover needs to know that the desk is in range: a borrower does not wait.
         let _known_ranges = self.node.ranges();
         let _answer = self.node.leave(ticket);
     }
 
-    /// Whether it stands as a node stands: distance, parent and desk are the same, and, of each of its
-    /// neighbours, the port and the value.
+    /// Whether its state is that of a node: distance, parent and desk are the same, and so are the
+    /// port and the value of each of its neighbours.
     pub fn stands_as<B: Allocator>(&self, node: &Node<B>) -> bool
         ensures stands { IsTrue result → AreSame (site_in self.now).neighbours (state_of self.now)
             (state_of node.now) }
@@ -173,9 +175,9 @@ impl<A: Allocator + Copy> Follower<A> {
             && desk_stands_as(&self.node, node)
     }
 
-    /// Has the neighbours that its node has in this network from now on, if that has as many nodes, the
-    /// same capacity and lease, and this node for its root if it was the root before, and only then. Else
-    /// the answer is no, and nothing has changed.
+    /// Takes the neighbours that its node has in this network, if the network has the same
+    /// capacity, lease and number of nodes, and has this node for its root exactly if it was the
+    /// root before. Otherwise returns false, and nothing has changed.
     pub fn rewire(&mut self, net: &Net) -> bool
         ensures answer { IsTrue result ↔ FitsNetwork net.now (site_in self.old) }
         ensures site { IsTrue result
@@ -189,8 +191,8 @@ impl<A: Allocator + Copy> Follower<A> {
         true
     }
 
-    /// Whether the network has as many nodes, the same capacity and lease, and this node for its root if it
-    /// is the root, and only then.
+    /// Whether the network has the same capacity, lease and number of nodes, and has this node for
+    /// its root exactly if it is the root.
     fn is_of(&self, net: &Net) -> bool
         ensures { IsTrue result ↔ FitsNetwork net.now (site_in self.now) }
     {
@@ -202,7 +204,8 @@ impl<A: Allocator + Copy> Follower<A> {
             && self.node.is_root() == (self.node.id() == net.root())
     }
 
-    /// Takes over the state of a node that has the same neighbours. Whether it stands as that then.
+    /// Takes over the state of a node that has the same neighbours. Returns whether its state is
+    /// then that of the node.
     pub fn take_over<B: Allocator>(&mut self, node: &Node<B>) -> bool
         ensures same { IsTrue result → AreSame (site_in self.new).neighbours (state_of self.new)
             (state_of node.now) }
@@ -227,8 +230,8 @@ fn desk_stands_as<A: Allocator, B: Allocator>(one: &Node<A>, other: &Node<B>) ->
         && one.tickets() == other.tickets()
 }
 
-/// Whether the ports of a node to its neighbours, and the values of the machines that come in there, are
-/// those of another one.
+/// Whether the ports of a node to its neighbours, and the values of the machines that come in
+/// there, are those of another node.
 fn ports_stand_as<A: Allocator, B: Allocator>(one: &Node<A>, other: &Node<B>) -> bool
     ensures stand { IsTrue result → All (λ w. AreSameAt w (state_of one.now) (state_of other.now))
         (site_in one.now).neighbours }

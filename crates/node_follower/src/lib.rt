@@ -1,9 +1,10 @@
 //! A second node that does what a record says of a node, deed by deed.
 //!
-//! A record says in which state a node was, and what it did from then on. A [`Follower`] is a node of
-//! its own, which does the same: [`Follower::follow`] has it do each deed by the node's own steps, and
-//! says no at a deed that no node in that state does, as a frame sent that is not the one of its port.
-//! Whether it stands then as the node stands is a question of [`Follower::stands_as`].
+//! A record says in which state a node was, and what it did from then on. A [`Follower`] is a node
+//! of its own, which does the same: [`Follower::follow`] has it do each deed by the node's own
+//! steps, and says no at a deed that no node in that state does, such as sending a frame that is
+//! not the one of its port. Whether its state is then the node's is for [`Follower::stands_as`] to
+//! say.
 //!
 //! ```
 //! let mut follower = Follower::new(alloc, &net, 1)?;
@@ -12,16 +13,16 @@
 //! follower.follow(&deeds) && follower.stands_as(&node)   // these deeds led it to where it stands
 //! ```
 //!
-//! So deeds that were noted are known to be an account of the node: they lead it from the one state to
-//! the other by its own steps. Whoever keeps a record asks before it is written, and whoever reads one
-//! asks at the next state that is noted whole.
+//! So deeds that were noted are known to be an account of the node: they lead it from the one state
+//! to the other by its own steps. A writer of a record asks before it is written, and a reader asks
+//! at the next state that is noted whole.
 //!
 //! [`start_part`], [`own_part`], [`port_part`] and [`loan_part`] are the parts of a node's state that a
 //! record begins with.
 //!
-//! The traps: a frame that came again changes nothing. So if such a deed is missing, the follower stands as
-//! the node all the same: ask whoever notes the deeds whether all are there. And after a no it has done the
-//! deeds before that one: have it take over a state again.
+//! The traps: a frame that came again changes nothing. So if such a deed is missing, the follower
+//! is in the node's state all the same: ask the one that notes the deeds whether all are there. And
+//! after a no the follower has done the deeds before that one: have it take over a state again.
 #![tactic(auto)]
 
 mod follower;

@@ -1,4 +1,4 @@
-//! The parts of a node's state, as a record begins with them.
+//! The parts of a node's state with which a record begins.
 ghost use Rattle.std.specs.Prelude.{◌≡◌, Contains};
 ghost use Rattle.flight_records.specs.declared.entry.StatePart.TheVariants.{Start};
 ghost use Rattle.node_core.specs.View.{site_in, state_of};

@@ -4,7 +4,7 @@ use Rattle.node_core.specs.data_link.topology.Network.{Network}
 use Rattle.node_core.specs.data_link.topology.Tree.{distance_of, parent_of}
 use Rattle.node_core.specs.State.{LocalState}
 
--- two ids, or two times none
+-- the two ids are the same, or both are none
 abbrev pub same_id : Option ℕ → Option ℕ → Bool
 same_id None None = true
 same_id (Some v) (Some w) = v == w
@@ -15,6 +15,6 @@ abbrev pub is_in_place : Network → ℕ → ℕ → Option ℕ → Bool
 is_in_place net id distance parent =
     nat_lt id net.nodes && (distance == distance_of net id) && same_id parent (parent_of net id)
 
--- a node stands in its place
+-- a node is in its place
 abbrev pub is_placed : Network → ℕ → LocalState → Bool
 is_placed net id s = is_in_place net id s.distance s.parent

@@ -16,17 +16,17 @@ use Rattle.process_parts.specs.node_log.declared.log.NodeLog.{NodeLog}
 use Rattle.process_parts.specs.node_log.declared.rate.LineRate.{LineRate}
 use Rattle.node_journal.specs.Places.{is_placed}
 
--- what an event, if there is one, counts
+-- the rate of lines after an event, if there is one
 abbrev pub rate_if : Option Level → ℕ → Option NodeEvent → LineRate → LineRate
 rate_if least now None rate = rate
 rate_if least now (Some event) rate = rate_then least event now rate
 
--- what some events count, one after the other
+-- the rate of lines after some events, one after the other
 abbrev pub rates_then : Option Level → ℕ → List (Option NodeEvent) → LineRate → LineRate
 rates_then least now [] rate = rate
 rates_then least now (event ∷ events) rate = rates_then least now events (rate_if least now event rate)
 
--- two logs have seen the same, and say what is as urgent
+-- two logs have seen the same, and say events from the same level on
 pub record SawTheSame (old new : NodeLog) : Type 0 where
   pub least : new.least ≡ old.least
   pub up : new.up ≡ old.up
@@ -36,8 +36,8 @@ pub record SawTheSame (old new : NodeLog) : Type 0 where
   pub is_crowded : new.is_crowded ≡ old.is_crowded
   pub place : new.place ≡ old.place
 
--- A log has seen a node after a turn, in its place or not, with so many clients connected and closed. Of the
--- links it has seen the one that was next: it is up or down. Of an id above 63 nothing is said.
+-- A log has seen a node after a turn, in its place or not, with this many clients connected and closed. Of
+-- the links, it has seen the one that was next, which is up or down. Nothing is said about an id above 63.
 pub record HasSeen (old new : NodeLog) (s : LocalState) (is_up in_place : Bool) (connected closed now : ℕ) : Type 0 where
   pub lent : new.lent ≡ s.desk.lent
   pub is_full : new.is_full ≡ full_after (length s.desk.waiting) old.is_full
@@ -46,7 +46,7 @@ pub record HasSeen (old new : NodeLog) (s : LocalState) (is_up in_place : Bool) 
   pub link : old.next < 64 → slice_index_or new.up old.next false ≡ is_up
   pub others : (other : ℕ) → other ≢ old.next → slice_index_or new.up other false ≡ slice_index_or old.up other false
 
--- a connection stands at the port of a node; none does if the node has no port
+-- there is a connection at the port of a node; there is none if the node has no port
 abbrev pub stands_at : {P : Type 0} → Option (NodePort P) → Bool
 stands_at None = false
 stands_at (Some port) = is_some port.link.pipe
@@ -62,7 +62,7 @@ turn_events old s act is_up in_place connected closed now =
     ∷ by_place in_place now old.place
     ∷ []
 
--- a log that is on has seen a node, as it stands after a turn with this act at its desk; each event of the
+-- a log that is on has seen a node, as it is after a turn with this act at its desk; each event of the
 -- turn was said or counted, in order; and the next turn looks at the next link
 pub record LogsTurn {P : Type 0} (net : Network) (node : NodeView) (ports : List (NodePort P)) (act : DeskAct) (clients : ClientSight) (now : ℕ) (old new : NodeLog) : Type 0 where
   pub seen : HasSeen old new (state_of node) (stands_at (slice_get ports old.next)) (is_placed net (site_in node).id (state_of node)) clients.connected clients.closed now

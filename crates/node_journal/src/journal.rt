@@ -1,4 +1,4 @@
-//! What a node says of itself on standard error while it runs.
+//! What a node says about itself on standard error while it runs.
 ghost use Rattle.std.specs.Prelude.{◌≡◌, None, IsTrue, false, is_some, replicate, slice_get};
 ghost use Rattle.node_core.specs.View.{site_in, state_of};
 ghost use Rattle.node_journal.specs.Places.{is_placed};
@@ -63,7 +63,7 @@ impl<'a, R: Eprint> NodeJournal<'a, R> {
         ensures off { self.old.log.least ≡ None → self.new ≡ self.old }
         ensures level { self.new.log.least ≡ self.old.log.least }
         ensures name { (self.new.id ≡ self.old.id) × (self.new.has_priority ≡ self.old.has_priority) }
-        // One that is on logs the turn.
+        // A log that is on logs the turn.
         ensures logged { IsTrue (is_some self.old.log.least)
             → LogsTurn net.now node.now ports.now act clients now self.old.log self.new.log }
     {
@@ -119,7 +119,7 @@ impl<'a, R: Eprint> NodeJournal<'a, R> {
     }
 }
 
-/// Whether a connection to a node stands.
+/// Whether there is a connection to a node.
 fn is_up<P: Pipe>(ports: &[NodePort<P>], id: u16) -> bool
     ensures { result ≡ stands_at (slice_get ports.now id) }
 {

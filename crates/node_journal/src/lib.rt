@@ -1,4 +1,4 @@
-//! What a node says of itself on standard error while it runs: a line for each event that its log admits.
+//! What a node says about itself on standard error while it runs: a line for each event that its log admits.
 //!
 //! ```
 //! let mut journal = NodeJournal::begin(rt, &words, now);                               // `node 1 begins`, if asked for

@@ -26,8 +26,8 @@ lost_of sights = record {
   looks = is_lost sights.looks;
 }
 
--- a node with a place of its own ends by its stop file, with a fault if that stays, and as it is
--- asked to; else it runs on, and takes back each name that is lost
+-- a node with a place of its own ends if there is a stop file, with a fault if that stays, or if it
+-- is asked to; otherwise it runs on, and takes back each name that is lost
 abbrev pub in_place : Sights → StopSight → AfterSave
 in_place sights Stays = StopStays
 in_place sights Removed = Stop

@@ -29,7 +29,7 @@ stage_then sights seen Running = if is_asked sights then Ending else Running
 stage_then sights seen Ending = if is_urged sights seen then Killing else Ending
 stage_then sights seen Killing = Killing
 
--- it remembers which signals had come when it was asked first
+-- it remembers which signals had come when it was first asked
 abbrev pub seen_then : UpSights → Signals → UpStage → Signals
 seen_then sights seen Running = if is_asked sights then sights.signals else seen
 seen_then sights seen _ = seen

@@ -28,7 +28,8 @@ RunsOnInPlace =
     → (sights.place ≢ NotOwn) × (sights.stop ≡ Absent) × (sights.is_asked ≡ false)
     × (lost ≡ lost_of sights)
 
--- a node ends well by its stop file or as it is asked to, and by nothing else
+-- a node ends without a fault because of its stop file or because it is asked to, and for no other
+-- reason
 abbrev pub StopsWhenAsked : Type 0
 StopsWhenAsked =
     (sights : Sights) → after_save sights ≡ Stop
@@ -42,7 +43,7 @@ abbrev pub is_kill : KeeperDeed → Bool
 is_kill Kill = true
 is_kill _ = false
 
--- once `up` is asked to end nobody is started, whatever is seen
+-- once `up` is asked to end, no node is started, whatever is seen
 abbrev pub NobodyStartsAfterTheEnd : Type 0
 NobodyStartsAfterTheEnd =
     (failures : ℕ) (stage : KeeperStage) (seen : List Seen)
@@ -65,27 +66,27 @@ IsLeftAfterThreeFailures =
     → (status age : ℕ) × (seen ≡ Ended (Status status)) × (stage ≡ Runs age)
     × (is_failed (Status status) age ≡ true) × (2 ≤ failures)
 
--- whatever is seen, a node that is to end is killed at most once
+-- whatever is seen, a node is killed at most once
 abbrev pub IsKilledOnce : Type 0
 IsKilledOnce =
     (failures : ℕ) (stage : KeeperStage) (seen : List Seen)
     → length (filter is_kill (deeds failures stage seen)) ≤ 1
 
--- a node that is to end and does not is killed by the look after as many as it was given, and is
--- over then
+-- a node that must end and does not is killed by the look after the ones that it was given, and is
+-- then over
 abbrev pub IsKilledInTime : Type 0
 IsKilledInTime =
     (failures n : ℕ) →
     (stage_after_all failures (Closes n) (looks (n + 1)) ≡ Over)
     × (length (filter is_kill (deeds failures (Closes n) (looks (n + 1)))) ≡ 1)
 
--- a node that is to end and ends is named, with how it ended
+-- a node that must end and ends is named, with how it ended
 abbrev pub IsNamedAtItsEnd : Type 0
 IsNamedAtItsEnd =
     (failures n : ℕ) (end : End)
     → deeds failures (Closes n) (Ended end ∷ []) ≡ SayGone end ∷ []
 
--- once `up` is asked again, a node that is to end is killed at once, and is over then
+-- once `up` is asked again, a node that must end is killed at once, and is then over
 abbrev pub IsKilledAtOnce : Type 0
 IsKilledAtOnce =
     (failures n : ℕ) →

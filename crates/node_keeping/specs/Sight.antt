@@ -6,8 +6,8 @@ use Rattle.node_keeping.specs.declared.sight.FileId.{FileId}
 use Rattle.node_keeping.specs.declared.sight.FileSight.{FileSight}
 use Rattle.node_keeping.specs.declared.sight.FileSight.TheVariants.{Own, NotOwn, Unseen}
 
--- a file is known by its device and its number there; no file, and no folder on the way to it, is
--- another file; any other answer of the system says nothing
+-- a file is known by its device and its number there; if there is no file, or no folder on the way
+-- to it, this counts as another file; any other answer of the system says nothing
 abbrev pub file_sight : FileId → Result FileId ErrorKind → FileSight
 file_sight own (Ok found) =
     if (found.device == own.device) && (found.inode == own.inode) then Own else NotOwn

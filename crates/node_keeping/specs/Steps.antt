@@ -1,4 +1,4 @@
--- What `up` makes of a node that it keeps running.
+-- What `up` does with a node that it keeps running.
 use Rattle.std.specs.Prelude.{ℕ, zero, suc, ◌+◌, ◌-◌, Bool, true, false, ◌&&◌, not, ◌==◌, nat_lt, if◌then◌else◌, List, [], ◌∷◌}
 use Rattle.node_texts.specs.declared.lines.End.{End}
 use Rattle.node_texts.specs.declared.lines.End.TheVariants.{Status}
@@ -21,7 +21,7 @@ is_kept Over = false
 is_kept _ = true
 
 -- a node failed at its start if it ended with a status of its own that is not 0, and was looked at
--- less than 100 times; an end by a signal is none of its own
+-- fewer than 100 times; an end by a signal has no status of its own
 abbrev pub is_failed : End → ℕ → Bool
 is_failed (Status status) looks = not (status == 0) && nat_lt looks 100
 is_failed _ looks = false
@@ -38,7 +38,7 @@ looked_deed (Waits looks) = if looks == 0 then Start else Rest
 looked_deed (Closes looks) = if looks == 0 then Kill else Rest
 looked_deed _ = Rest
 
--- how often in a row a node has failed at its start, once it ended so
+-- how often in a row a node has failed at its start, once it ended like this
 abbrev pub failures_now : End → ℕ → ℕ → ℕ
 failures_now end looks failures =
     if is_failed end looks then (if nat_lt failures 255 then failures + 1 else 255) else 0
@@ -58,7 +58,7 @@ ended_deed end failures (Runs looks) =
 ended_deed end failures (Closes looks) = SayGone end
 ended_deed end failures _ = Rest
 
--- once `up` is asked to end, what runs is to end within 500 looks, and nothing is started
+-- once `up` is asked to end, what runs must end within 500 looks, and nothing is started
 abbrev pub asked_after : KeeperStage → KeeperStage
 asked_after (Waits looks) = Over
 asked_after Starts = Closes 500
@@ -119,7 +119,7 @@ deeds failures stage (seen ∷ rest) =
     deed_at seen failures stage
     ∷ deeds (failures_after seen stage failures) (stage_after seen failures stage) rest
 
--- so many looks that show nothing new
+-- this many looks that show nothing new
 abbrev pub looks : ℕ → List Seen
 looks zero = []
 looks (suc n) = Nothing ∷ looks n

@@ -5,12 +5,12 @@ ghost use Rattle.node_keeping.specs.Course.{is_asked, is_urged, stage_then, seen
 use crate::keeper::Seen;
 use held_signals::Signals;
 
-/// How far `up` is.
+/// How far `up` has come.
 #[derive(Clone, Copy)]
 pub enum UpStage {
     /// It keeps its nodes running.
     Running,
-    /// Its nodes are to end.
+    /// Its nodes must end.
     Ending,
     /// Its nodes are killed.
     Killing,
@@ -21,10 +21,10 @@ pub enum UpStage {
 pub struct UpSights {
     /// The signals that have come to it since its start.
     pub signals: Signals,
-    /// Whether its standard input, if that has an end, came to it.
+    /// Whether its standard input, if that has an end, has ended.
     pub has_input_ended: bool,
-    /// Whether a signal ended the process that is beside it once it was asked to end: so Ctrl-C came
-    /// again.
+    /// Whether a signal ended the process that runs beside it once it was asked to end: then Ctrl-C
+    /// came again.
     pub is_pressed: bool,
 }
 
@@ -50,14 +50,15 @@ impl UpCourse {
         }
     }
 
-    /// Whether its nodes are to end.
+    /// Whether its nodes must end.
     pub fn is_ending(&self) -> bool
         ensures { result ≡ is_ending self.now.stage }
     {
         self.stage != UpStage::Running
     }
 
-    /// Takes note of what was seen, and says of what each node's keeper takes note then, if of anything.
+    /// Takes note of what was seen, and returns what each node's keeper then takes note of, if
+    /// anything.
     pub fn step(&mut self, sights: UpSights) -> Option<Seen>
         ensures stage { self.new.stage ≡ stage_then sights self.old.seen self.old.stage }
         ensures seen { self.new.seen ≡ seen_then sights self.old.seen self.old.stage }
@@ -85,7 +86,7 @@ fn is_asked(sights: UpSights) -> bool
     sights.has_input_ended || sights.signals.any()
 }
 
-/// Whether anything asks `up` again, to which these signals had come before.
+/// Whether anything asks `up` to end again; these signals had come to it before.
 fn is_urged(sights: UpSights, seen: Signals) -> bool
     ensures { result ≡ is_urged sights seen }
 {

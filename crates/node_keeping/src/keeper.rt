@@ -1,4 +1,4 @@
-//! What `up` makes of a node that it keeps running.
+//! What `up` does with a node that it keeps running.
 ghost use Rattle.std.specs.Prelude.{◌≡◌, true};
 ghost use Rattle.node_keeping.specs.Steps.{stage_after, deed_at, failures_after, is_kept};
 ghost use Rattle.node_keeping.specs.Steps.{looked_at, looked_deed, ended_after, ended_deed, is_failed};
@@ -6,32 +6,32 @@ ghost use Rattle.node_keeping.specs.Steps.{asked_after, asked_deed, urged_deed};
 
 use node_texts::End;
 
-/// In how many looks a node that ended is started again.
+/// The number of looks after which a node that ended is started again.
 pub const LOOKS_BEFORE_START: u32 = 10;
 
-/// After how many looks a node that is to end is killed.
+/// The number of looks after which a node that must end is killed.
 pub const LOOKS_BEFORE_KILL: u32 = 500;
 
-/// A node that ends with a fault before it was looked at so often fails at its start.
+/// A node that ends with a fault before it was looked at this often has failed at its start.
 const LOOKS_OF_A_START: u32 = 100;
 
-/// A node that fails at its start so often in a row is left alone.
+/// A node that fails at its start this often in a row is left alone.
 const MOST_FAILURES: u8 = 3;
 
-/// How a node that is kept running stands.
+/// The stage of a node that is kept running.
 #[derive(Clone, Copy, PartialEq, Eq)]
 pub enum KeeperStage {
-    /// It is started after this many looks more.
+    /// It is started after this many more looks.
     Waits(u32),
     /// It is being started.
     Starts,
-    /// It runs, and was looked at so often since its start.
+    /// It runs, and was looked at this often since its start.
     Runs(u32),
-    /// It is to end, and is killed after this many looks more.
+    /// It must end, and is killed after this many more looks.
     Closes(u32),
     /// It failed at its start again and again, and is left alone.
     Left,
-    /// It is not started again, since `up` is to end.
+    /// It is not started again, since `up` must end.
     Over,
 }
 
@@ -42,20 +42,20 @@ pub enum Seen {
     Nothing,
     /// It was started.
     Started,
-    /// It ended so, or could not be started.
+    /// It ended like this, or could not be started.
     Ended(End),
     /// `up` is asked to end.
     Asked,
-    /// It is asked again, and waits for nobody any more.
+    /// `up` is asked again, and no longer waits for its nodes.
     Urged,
 }
 
 /// What to do with a node.
 #[derive(Clone, Copy)]
 pub enum KeeperDeed {
-    /// Nothing.
+    /// Do nothing.
     Rest,
-    /// It is started.
+    /// Start it.
     Start,
     /// Say that it ended like this, and is started again.
     SayAgain(End),
@@ -94,15 +94,15 @@ impl Keeper {
         }
     }
 
-    /// Whether there is more to do with it.
+    /// Whether there is more to do for this node.
     pub fn is_kept(&self) -> bool
         ensures { result ≡ is_kept self.now.stage }
     {
         !matches!(self.stage, KeeperStage::Left | KeeperStage::Over)
     }
 
-    /// Takes note of what was seen, and says what to do. What cannot be seen at that stage changes
-    /// nothing.
+    /// Takes note of what was seen, and returns what to do. What cannot be seen at that stage
+    /// changes nothing.
     pub fn step(&mut self, seen: Seen) -> KeeperDeed
         ensures stage { self.new.stage ≡ stage_after seen self.old.failures self.old.stage }
         ensures failures { self.new.failures ≡ failures_after seen self.old.stage self.old.failures }
@@ -149,7 +149,7 @@ impl Keeper {
         KeeperDeed::Rest
     }
 
-    /// It ended so, or could not be started.
+    /// It ended like this, or could not be started.
     fn end(&mut self, end: End) -> KeeperDeed
         ensures stage { self.new.stage ≡ ended_after end self.old.failures self.old.stage }
         ensures failures { self.new.failures
@@ -197,7 +197,7 @@ impl Keeper {
         KeeperDeed::SayLeft(end)
     }
 
-    /// It is not started any more.
+    /// It is no longer started.
     fn close(&mut self) -> KeeperDeed
         ensures stage { self.new ≡ record self.old { stage = asked_after self.old.stage } }
         ensures deed { result ≡ asked_deed self.old.stage }
@@ -215,7 +215,7 @@ impl Keeper {
         }
     }
 
-    /// It is waited for no longer.
+    /// It is no longer waited for.
     fn cut_short(&mut self) -> KeeperDeed
         ensures stage { self.new ≡ record self.old { stage = Over } }
         ensures deed { result ≡ urged_deed self.old.stage }
@@ -233,7 +233,7 @@ impl Keeper {
     }
 }
 
-/// Whether a node that ended so, and was looked at so often, failed at its start.
+/// Whether a node that ended like this, and was looked at this often, failed at its start.
 fn is_failed(end: End, looks: u32) -> bool
     ensures { result ≡ is_failed end looks }
 {

@@ -6,7 +6,7 @@ ghost use Rattle.node_keeping.specs.Laws.{IsNamedAtItsEnd, IsKilledAtOnce};
 ghost use Rattle.node_keeping.specs.CourseLaws.{RunsUnasked, AsksOnce, UrgesOnce};
 
 /// A node lends only in a folder that is its own: whoever removes the folder of a network and makes
-/// another there relies on it.
+/// another there relies on this.
 #[tactic(auto, using(crate::proofs::AfterSaving::displaced))]
 pub fn a_node_runs_on_in_its_place()
     ensures displaced { EndsWhereDisplaced }
@@ -14,14 +14,14 @@ pub fn a_node_runs_on_in_its_place()
     ensures asked { StopsWhenAsked }
 {}
 
-/// A node that ended is started again, but for one that fails at its start three times in a row.
+/// A node that ended is started again, unless it failed at its start three times in a row.
 pub fn a_node_is_started_again()
     ensures again { IsStartedAgain }
     ensures left { IsLeftAfterThreeFailures }
 {}
 
-/// Once `up` is asked to end nobody is started, each node that ends is named, and whoever does not end
-/// is killed once: after 500 looks, or as soon as `up` is asked again.
+/// Once `up` is asked to end, no node is started, each node that ends is named, and one that does
+/// not end is killed once: after 500 looks, or as soon as `up` is asked again.
 pub fn up_leaves_nobody()
     ensures nobody { NobodyStartsAfterTheEnd }
     ensures once { IsKilledOnce }
@@ -30,7 +30,8 @@ pub fn up_leaves_nobody()
     ensures at_once { IsKilledAtOnce }
 {}
 
-/// `up` runs on as long as nothing asks it to end. It asks its nodes to end once, and urges them once.
+/// `up` runs on as long as nothing asks it to end. It asks its nodes to end at most once, and urges
+/// them at most once.
 #[tactic(auto, using(crate::proofs::Coursing::unasked, crate::proofs::Coursing::said_once))]
 pub fn up_ends_when_asked()
     ensures unasked { RunsUnasked }

@@ -1,8 +1,8 @@
-//! What a node's process decides after each 256th turn, and what `up` decides of the nodes that it
-//! keeps running.
+//! What a node's process decides after each 256th turn, and what `up` decides about the nodes that
+//! it keeps running.
 //!
-//! Nothing here reads a file, starts a process or knows the time: whoever does says what was seen,
-//! and is answered what to do.
+//! Nothing here reads a file, starts a process or knows the time: the caller passes in what was
+//! seen, and gets back what to do.
 //!
 //! ```
 //! let mut keeper = Keeper::new();
@@ -13,7 +13,7 @@
 //! after_save(Sights { place: FileSight::NotOwn, ..sights });   // AfterSave::Displaced
 //! ```
 //!
-//! The trap: a keeper counts looks and knows no clock. How long a look takes is whoever looks to
+//! The trap: a keeper counts looks and knows no clock. How long a look takes is for the caller to
 //! choose: 50 milliseconds while nodes run, 10 while they end.
 #![tactic(auto)]
 

@@ -22,8 +22,8 @@ pub struct Sights {
     pub place: FileSight,
     /// Its stop file.
     pub stop: StopSight,
-    /// Whether it is asked to end in another way: by the end of its standard input, if it is to end with
-    /// that, or by a signal that is held back.
+    /// Whether it is asked to end in another way: by the end of its standard input, if it must end
+    /// with that, or by a signal that is held back.
     pub is_asked: bool,
     /// Its socket for neighbours.
     pub links: FileSight,
@@ -36,30 +36,30 @@ pub struct Sights {
 /// Which sockets of a node are made again, since their names lead elsewhere.
 #[derive(Clone, Copy, PartialEq, Eq)]
 pub struct Lost {
-    /// That for neighbours.
+    /// The socket for neighbours.
     pub links: bool,
-    /// That for clients.
+    /// The socket for clients.
     pub clients: bool,
-    /// That for whoever looks.
+    /// The socket for whoever looks.
     pub looks: bool,
 }
 
-/// What a node does then.
+/// What a node does after a turn that saved its state.
 #[derive(Clone, Copy, PartialEq, Eq)]
 pub enum AfterSave {
-    /// It ends at once, and touches no file: its folder was removed or made again, so that another
-    /// network may lend beside it.
+    /// It ends at once, and touches no file: its folder was removed or made again, so another
+    /// network may lend at the same time.
     Displaced,
-    /// It removes its sockets, and ends with a fault: whoever starts it again would have it ended
+    /// It removes its sockets, and ends with a fault: if it were started again, it would be ended
     /// again.
     StopStays,
-    /// It removes its sockets, and ends well.
+    /// It removes its sockets, and ends without a fault.
     Stop,
     /// It runs on, and makes these sockets again.
     GoOn(Lost),
 }
 
-/// Whether the stop file is looked for: in a folder that is another's it is not this node's.
+/// Whether the stop file is looked for: in a folder that is another node's, it is not this node's.
 pub fn looks_for_stop(place: FileSight) -> bool
     ensures { result ≡ looks_for_stop place }
 {
@@ -90,7 +90,7 @@ fn is_lost(sight: FileSight) -> bool
     sight == FileSight::NotOwn
 }
 
-/// Something that is said when it begins, and not again while it lasts.
+/// A complaint that is made when its cause begins, and not again while that lasts.
 #[derive(Clone, Copy, Drop)]
 pub struct Complaint {
     lasts: bool,
@@ -99,14 +99,14 @@ pub struct Complaint {
 impl Complaint {
     ghost use Rattle.std.specs.Prelude.{false};
 
-    /// Nothing is complained of.
+    /// There is nothing to complain about.
     pub fn new() -> Complaint
         ensures { result.lasts ≡ false }
     {
         Complaint { lasts: false }
     }
 
-    /// Takes note of whether it is so now, and returns whether that must be said.
+    /// Takes note of whether the cause is there now, and returns whether to complain.
     pub fn is_due(&mut self, is_so: bool) -> bool
         ensures lasts { self.new.lasts ≡ is_so }
         ensures due { result ≡ (is_so && not self.old.lasts) }

@@ -4,9 +4,10 @@ ghost use Rattle.node_keeping.specs.Sight.{file_sight};
 
 use std::io::ErrorKind;
 
-/// Which file it is, for as long as it is open: no two files of a system that are open have the same
-/// device and inode. A node keeps its lock file and sockets open, so their inodes go to no other file. In a folder that is
-/// another node's it ends and removes nothing: sockets and stop file there are not its own.
+/// Which file it is, for as long as it is open: no two open files of a system have the same device
+/// and inode. A node keeps its lock file and sockets open, so no other file gets their inodes. In a
+/// folder that is another node's it ends and removes nothing: the sockets and the stop file there
+/// are not its own.
 #[derive(Clone, Copy)]
 pub struct FileId {
     /// The device that it is on.
@@ -26,7 +27,7 @@ pub enum FileSight {
     Unseen,
 }
 
-/// What a name leads to, by what the system said of it.
+/// What a name leads to, by what the system said about it.
 pub fn sight_of(own: FileId, found: Result<FileId, ErrorKind>) -> FileSight
     ensures { result ≡ file_sight own found }
 {

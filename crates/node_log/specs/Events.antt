@@ -1,4 +1,4 @@
--- How urgent it is what a node says of itself.
+-- How urgent the events are that a node reports.
 use Rattle.std.specs.Prelude.{ℕ, Bool, ◌==◌, nat_le, if◌then◌else◌, Option, None, Some}
 use Rattle.node_log.specs.declared.event.NodeEvent.{NodeEvent}
 use Rattle.node_log.specs.declared.event.NodeEvent.TheVariants as event
@@ -30,6 +30,6 @@ level_with priority =
     else if priority == 6 then Some Info
     else None
 
--- a log says what is as urgent as its level, or more
+-- a log says what is at least as urgent as its level
 abbrev pub is_said_at : Level → Level → Bool
 is_said_at level least = nat_le (priority_of level) (priority_of least)

@@ -6,7 +6,7 @@ use Rattle.node_log.specs.declared.rate.LineRate.{LineRate}
 abbrev pub new_rate : LineRate
 new_rate = record { second = 0; said = 0; left_out = 0 }
 
--- the second in which an instant lies, in microseconds
+-- the second in which an instant, in microseconds, lies
 abbrev pub second_of : ℕ → ℕ
 second_of now = now / 1000000
 

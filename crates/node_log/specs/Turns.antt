@@ -23,7 +23,7 @@ by_act (act.Granted ticket) = Some (event.Granted ticket)
 by_act (act.Lost ticket) = Some (event.Lost ticket)
 by_act act.Quiet = None
 
--- a link that was up and is down, or the other way
+-- a link that was up and is down now, or the other way round
 abbrev pub changed : ℕ → Bool → Bool → Option NodeEvent
 changed id true false = Some (event.Up id)
 changed id false true = Some (event.Down id)
@@ -62,7 +62,7 @@ admitted None event now rate = None
 admitted (Some least) event now rate =
     if is_said_at (level_of event) least then answer_at now rate else None
 
--- what is not urgent enough counts for no line
+-- what is not urgent enough does not count as a line
 abbrev pub rate_then : Option Level → NodeEvent → ℕ → LineRate → LineRate
 rate_then None event now rate = rate
 rate_then (Some least) event now rate =

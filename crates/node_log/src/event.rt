@@ -1,4 +1,4 @@
-//! What is said.
+//! What a node says of itself, and how urgent it is.
 ghost use Rattle.std.specs.Prelude.{◌≡◌};
 ghost use Rattle.node_log.specs.Events.{level_of, level_with, priority_of, is_said_at};
 
@@ -19,21 +19,21 @@ pub enum NodeEvent {
     Lost(u16),
     /// The client with this ticket gave the lock back, or went away.
     GivenBack(u16),
-    /// As many clients wait as may, 64: further ones are refused.
+    /// 64 clients wait, the most that may: further ones are refused.
     Full,
-    /// At most half as many wait again.
+    /// At most half as many wait now: clients may wait again.
     Room,
-    /// As many clients are connected as may be, 128: a further one was closed.
+    /// 128 clients are connected, the most that may be: a further one was closed.
     Crowded,
-    /// At most half as many are connected again.
+    /// At most half as many are connected now: clients may connect again.
     Seats,
     /// Its distance or parent has not been that of the network for two seconds.
     Astray,
-    /// Both are again.
+    /// Both are those of the network again.
     InPlace,
 }
 
-/// How urgent it is.
+/// How urgent an event is.
 #[derive(Clone, Copy)]
 pub enum Level {
     /// Something is amiss.
@@ -45,7 +45,7 @@ pub enum Level {
 }
 
 impl NodeEvent {
-    /// How urgent it is.
+    /// How urgent the event is.
     pub fn level(self) -> Level
         ensures { result ≡ level_of self }
     {
@@ -63,7 +63,7 @@ impl NodeEvent {
 }
 
 impl Level {
-    /// The level of this priority, by the numbers of syslog; none has another.
+    /// The level of this priority, by the numbers of syslog; none if no level has it.
     pub fn of_priority(priority: u64) -> Option<Level>
         ensures { result ≡ level_with priority }
     {
@@ -75,7 +75,7 @@ impl Level {
         }
     }
 
-    /// Its priority, by the numbers of syslog: the less, the more urgent.
+    /// Its priority, by the numbers of syslog: the lower, the more urgent.
     pub fn priority(self) -> u8
         ensures { result ≡ priority_of self }
     {
@@ -86,7 +86,7 @@ impl Level {
         }
     }
 
-    /// Whether what is so urgent is said by a log that goes down to `least`.
+    /// Whether a log that goes down to `least` says events of this level.
     pub fn is_said_at(self, least: Level) -> bool
         ensures { result ≡ is_said_at self least }
     {

@@ -1,6 +1,6 @@
 //! What a node says of itself while it runs, for whoever keeps its lines: when a link comes and goes, who is
 //! granted the lock, loses it or gives it back, when so many wait that further clients are refused, or so many
-//! are connected that further ones are closed, and when it has been out of its place for long.
+//! are connected that further ones are closed, and when it has been out of its place for two seconds.
 //!
 //! ```
 //! let mut log = NodeLog::new(Some(Level::Info));       // None says nothing
@@ -11,8 +11,8 @@
 //! }
 //! ```
 //!
-//! The trap: of the links one is looked at in each turn, so a link that goes and comes again between two
-//! looks is not said; nor is a desk that is full within a turn, and not at its end.
+//! The trap: each turn looks at one link, so a link that goes and comes again between two looks is not
+//! reported; nor is a desk that is full within a turn, but not at its end.
 #![tactic(auto)]
 
 mod event;

@@ -1,4 +1,4 @@
-//! The line of what is said.
+//! A line of a node's log.
 ghost use Rattle.std.specs.Prelude.{Some};
 ghost use Rattle.node_log.specs.Line.{log_line, left_out_text, event_text};
 ghost use Rattle.node_log.specs.Line.{level_text, link_text, ticket_text};

@@ -10,16 +10,16 @@ use crate::place::PlaceSeen;
 use crate::rate::LineRate;
 use lock_desk::DeskAct;
 
-/// How many nodes a network has at most.
+/// The most nodes of a network.
 const NODES: usize = 64;
 
-/// How many clients wait at a node at most.
+/// The most clients that wait at a node.
 const PLACES: usize = 64;
 
-/// How many wait at most when a desk that was full has room again.
+/// The most clients that wait when a desk that was full has room again.
 const HALF: usize = 32;
 
-/// How many clients are connected at most when a node that was crowded has room again.
+/// The most clients that are connected when a node that was crowded has room again.
 const HALF_CONNECTED: usize = 64;
 
 /// What is seen of a node after a turn.
@@ -35,7 +35,7 @@ pub struct TurnSight {
     pub connected: usize,
     /// How many clients were closed as soon as they had come, since the turn before.
     pub closed: u64,
-    /// The node to which the link was looked at.
+    /// The node whose link was looked at.
     pub link: u16,
     /// Whether a connection to it stands.
     pub is_up: bool,
@@ -46,12 +46,12 @@ pub struct TurnSight {
 /// What a node says of itself, and what it has seen.
 #[derive(Drop)]
 pub struct NodeLog {
-    /// How urgent what is said is at least; nothing is said if it is none.
+    /// The least urgent level that is said; if it is none, nothing is said.
     least: Option<Level>,
     rate: LineRate,
     /// By id, whether a connection stood at the last look.
     up: [bool; NODES],
-    /// The node to which the link is looked at next.
+    /// The node whose link is looked at next.
     next: u16,
     /// The ticket that had the lock after the last turn.
     lent: Option<u16>,
@@ -66,7 +66,7 @@ impl NodeLog {
     ghost use Rattle.node_log.specs.Rate.{new_rate};
     ghost use Rattle.node_log.specs.declared.place.PlaceSeen.TheVariants.{Right};
 
-    /// A log which says what is so urgent; nothing if that is none.
+    /// A log which says what is at least this urgent; if `least` is none, it says nothing.
     pub fn new(least: Option<Level>) -> NodeLog
         ensures level { result.least ≡ least }
         ensures rest { (result.rate ≡ new_rate) × (result.up ≡ replicate 64 false) × (result.next ≡ 0)
@@ -92,7 +92,8 @@ impl NodeLog {
         self.least.is_some()
     }
 
-    /// The node to which the link is looked at after this turn, of so many; that to the next after the next.
+    /// The node whose link is looked at after this turn, in a network of `nodes` nodes. After the next turn
+    /// it is the next node.
     pub fn next_link(&mut self, nodes: u16) -> u16
         ensures next { result ≡ self.old.next }
         ensures after { self.new ≡ record self.old { next = next_of nodes self.old.next } }
@@ -106,8 +107,8 @@ impl NodeLog {
     /// What happened in a turn, by what is seen after it: who released the lock, and who was
     /// granted it or lost it, whether the link is up or down now, whether further clients are
     /// refused now or may wait again, whether they are closed now or may connect again, and whether
-    /// the node has been out of its place for long or is back. Of an id above 63 nothing is said.
-    /// `now` is when the turn ended, in microseconds.
+    /// the node has been out of its place for two seconds or is back. Nothing is said of an id
+    /// above 63. `now` is when the turn ended, in microseconds.
     pub fn turn_ended(&mut self, sight: TurnSight, now: u64) -> [Option<NodeEvent>; 6]
         ensures events { result ≡ gave_back self.old.lent sight.act sight.lent ∷ by_act sight.act
             ∷ by_link sight.link sight.is_up self.old.up
@@ -193,8 +194,8 @@ impl NodeLog {
         })
     }
 
-    /// Whether an event is said at this time, in microseconds: none if it is not, and else how many were left
-    /// out since the last that was said. Only what is urgent enough counts.
+    /// Whether an event is said at this time, in microseconds: none if it is not, and else how many lines
+    /// were left out since the last one that was said. Only an event that is urgent enough counts.
     pub fn admit(&mut self, event: NodeEvent, now: u64) -> Option<u64>
         ensures answer { result ≡ admitted self.old.least event now self.old.rate }
         ensures rate { self.new.rate ≡ rate_then self.old.least event now self.old.rate }
@@ -210,8 +211,8 @@ impl NodeLog {
     }
 }
 
-/// Which client released the lock, by what the tick did and who has it now. A tick that grants
-/// began with nobody who had it.
+/// Which client released the lock, by what the tick did and who has it now. When a tick that grants
+/// begins, nobody has the lock.
 fn gave_back(before: Option<u16>, act: DeskAct, now: Option<u16>) -> Option<NodeEvent>
     ensures { result ≡ gave_back before act now }
 {

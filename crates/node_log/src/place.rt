@@ -4,10 +4,10 @@ ghost use Rattle.node_log.specs.Places.{by_place, place_after};
 
 use crate::event::NodeEvent;
 
-/// After so many microseconds out of its place a node says so. Recovery mostly takes less.
+/// A node says so after this many microseconds out of its place. Recovery mostly takes less.
 const PATIENCE: u64 = 2_000_000;
 
-/// Whether a node's distance and parent are those of the network, as was seen so far.
+/// Whether a node's distance and parent are those of the network, by what was seen so far.
 #[derive(Clone, Copy, Drop)]
 pub enum PlaceSeen {
     /// They are.

@@ -11,11 +11,11 @@ const SECOND: u64 = 1_000_000;
 /// How many lines were said in a second.
 #[derive(Clone, Copy, Drop)]
 pub struct LineRate {
-    /// Which second it is, of the clock.
+    /// Which second of the clock it is.
     second: u64,
     /// How many lines were said in it.
     said: u32,
-    /// How many were left out since the last that was said.
+    /// How many lines were left out since the last one that was said.
     left_out: u64,
 }
 
@@ -31,8 +31,8 @@ impl LineRate {
         }
     }
 
-    /// Whether a line may be said at this time, in microseconds: none if 20 were said in its second already;
-    /// else how many were left out since the last that was said.
+    /// Whether a line may be said at this time, in microseconds: none if 20 lines were already said in its
+    /// second; else how many were left out since the last one that was said.
     pub fn admit(&mut self, now: u64) -> Option<u64>
         ensures answer { result ≡ answer_at now self.old }
         ensures after { self.new ≡ rate_after now self.old }

@@ -24,8 +24,8 @@ StaysAt old new w =
     (slice_get new.ports w ≡ slice_get old.ports w) × (port_of new.pace.ports w ≡ port_of old.pace.ports w)
 
 -- what is said to a neighbour; of that, these frames were accepted
-abbrev pub TellsAt : {P : Type 0} → (P → Option (List ℕ)) → (P → Option (List ℕ)) → (P → Counts) → List Bool → ℕ → Moment P → Moment P → List Frame → ℕ → Type 0
-TellsAt gave took counts offers now old new sent w =
+abbrev pub SpeaksAt : {P : Type 0} → (P → Option (List ℕ)) → (P → Option (List ℕ)) → (P → Counts) → List Bool → ℕ → Moment P → Moment P → List Frame → ℕ → Type 0
+SpeaksAt gave took counts offers now old new sent w =
     AtBoth (SpeaksTo gave took counts (frame_of ((state_of old.node).port w)) (slice_index_or offers w false) now (port_of old.pace.ports w) (port_of new.pace.ports w) sent)
     (slice_get old.ports w) (slice_get new.ports w)
 
@@ -54,7 +54,7 @@ pub record SpokenTo {P : Type 0} (gave took : P → Option (List ℕ)) (counts :
   pub kinds : All IsSend sends
   pub leads : Leads (site_in old.node) sends (state_of old.node) (state_of old.node)
   pub unsent : (w : ℕ) → i ≤ w → sent_to w sends ≡ []
-  pub below : (w : ℕ) → w < i → Contains (site_in old.node).neighbours w → TellsAt gave took counts offers now old new (sent_to w sends) w
+  pub below : (w : ℕ) → w < i → Contains (site_in old.node).neighbours w → SpeaksAt gave took counts offers now old new (sent_to w sends) w
   pub others : (w : ℕ) → w < i → ¬ Contains (site_in old.node).neighbours w → StaysAt old new w
   pub above : (w : ℕ) → i ≤ w → StaysAt old new w
   pub rest : (new.pace.node ≡ old.pace.node) × (new.pace.manner ≡ old.pace.manner)
@@ -75,15 +75,15 @@ module _ {P : Type 0} (gave took : P → Option (List ℕ)) (counts : P → Coun
   }
 
   -- the same is said if the port and what is kept of it stand as before the call, and as after it
-  pub reported-moves : (old mid new : Moment P) (sent : List Frame) (w : ℕ) → StaysAt mid new w → TellsAt gave took counts offers now old mid sent w → TellsAt gave took counts offers now old new sent w
+  pub reported-moves : (old mid new : Moment P) (sent : List Frame) (w : ℕ) → StaysAt mid new w → SpeaksAt gave took counts offers now old mid sent w → SpeaksAt gave took counts offers now old new sent w
   reported-moves old mid new sent w stays reported = rw (stays.0, stays.1) reported
 
-  pub reported-from : (old mid new : Moment P) (sent : List Frame) (w : ℕ) → mid.node ≡ old.node → StaysAt old mid w → TellsAt gave took counts offers now mid new sent w
-      → TellsAt gave took counts offers now old new sent w
+  pub reported-from : (old mid new : Moment P) (sent : List Frame) (w : ℕ) → mid.node ≡ old.node → StaysAt old mid w → SpeaksAt gave took counts offers now mid new sent w
+      → SpeaksAt gave took counts offers now old new sent w
   reported-from old mid new sent w node stays reported = rw (node, stays.0, stays.1) at reported
 
   abbrev pub spoken-next : (old mid new : Moment P) (i : ℕ) (is_taken : Bool) → SpokenTo gave took counts offers now old mid i → new.node ≡ mid.node → new.let_go ≡ mid.let_go
-      → (Contains (site_in mid.node).neighbours i → TellsAt gave took counts offers now mid new (sent_if is_taken (frame_of ((state_of mid.node).port i))) i)
+      → (Contains (site_in mid.node).neighbours i → SpeaksAt gave took counts offers now mid new (sent_if is_taken (frame_of ((state_of mid.node).port i))) i)
       → ((¬ Contains (site_in mid.node).neighbours i) → StaysAt mid new i) → (is_taken ≡ true → Contains (site_in mid.node).neighbours i)
       → ((w : ℕ) → w ≢ i → StaysAt mid new w) → (new.pace.node ≡ mid.pace.node) × (new.pace.manner ≡ mid.pace.manner)
       → SpokenTo gave took counts offers now old new (i + 1)
@@ -103,11 +103,11 @@ module _ {P : Type 0} (gave took : P → Option (List ℕ)) (counts : P → Coun
             elim (below-or-last w i below) [
               | inl less ↦ (let other : w ≢ i = λ same. elim (apart w i less same) [ ] in
                   rw (sent w, sent-other is_taken i w frame other, append-nil (sent_to w so.sends)) (reported-moves old mid new (sent_to w so.sends) w (others w other) (so.below w less has)))
-              | inr same ↦ (let there : TellsAt gave took counts offers now mid new (sent_if is_taken (frame_of ((state_of mid.node).port i))) i =
+              | inr same ↦ (let there : SpeaksAt gave took counts offers now mid new (sent_if is_taken (frame_of ((state_of mid.node).port i))) i =
                   reports (subst (λ x. Contains (site_in x).neighbours i) (sym so.node) (subst (λ x. Contains (site_in old.node).neighbours x) same has)) in
                   let all : sent_to i (so.sends ++ last) ≡ sent_if is_taken frame = sent i ∙ (ap (λ zs. zs ++ sent_to i last) (so.unsent i (omega arith)) ∙ sent-same is_taken i frame) in
                   rw (same, all) (reported-from old mid new (sent_if is_taken frame) i so.node (so.above i (omega arith))
-                  (subst (λ x. TellsAt gave took counts offers now mid new (sent_if is_taken (frame_of ((state_of x).port i))) i) so.node there)))
+                  (subst (λ x. SpeaksAt gave took counts offers now mid new (sent_if is_taken (frame_of ((state_of x).port i))) i) so.node there)))
             ];
         others = λ w below not.
             elim (below-or-last w i below) [

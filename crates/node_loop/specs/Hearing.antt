@@ -28,7 +28,7 @@ pub record Hears {P : Type 0} (gave took : P → Option (List ℕ)) (counts : P 
       (slice_get ports w) (slice_get pulled w)
 
 -- Connections came; then the node took the frames that came on them; then its clients asked and
--- left. What its ports were given is remembered meanwhile.
+-- left. Throughout, what its ports were given is remembered.
 pub record Listens {P : Type 0} (gave took : P → Option (List ℕ)) (counts : P → Counts)
     (old new : Moment P) : Type 0 where
   pub wired : List (NodePort P)

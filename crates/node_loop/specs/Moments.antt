@@ -1,4 +1,4 @@
--- How a node that runs stands at a moment.
+-- The state of a node that runs, at a moment.
 use Rattle.std.specs.Prelude.{Bool, List}
 use Rattle.node_core.specs.View.{NodeView}
 use Rattle.pace.specs.declared.pace.TurnPace.{TurnPace}

@@ -25,7 +25,7 @@ pub record DidHear {P : Type 0} (gave took : P → Option (List ℕ)) (counts : 
   pub hears : Hears gave took counts old new ports pulled
   pub noted : after ≡ after_all hears.takes.deeds before
 
--- The first part of a turn, of which just the deeds were noted.
+-- The first part of a turn, of which just its deeds were noted.
 pub record DidListen {P : Type 0} (gave took : P → Option (List ℕ)) (counts : P → Counts)
     (old new : Moment P) (before after : NotesView) : Type 0 where
   pub listens : Listens gave took counts old new
@@ -40,13 +40,13 @@ pub record DidSpeak {P : Type 0} (kind : Deed → Type 0) (gave took : P → Opt
   pub kinds : All kind leaves.deeds
   pub noted : after ≡ after_all (speaks.sends ++ leaves.deeds) before
 
--- A turn, of whose account all is noted, in its order, as far as there is room.
+-- A turn whose whole account is noted, in order, as far as there is room.
 pub record TurnIsNoted {P : Type 0} (gave took : P → Option (List ℕ)) (counts : P → Counts)
     (says : Ticked) (now : ℕ) (old new : Moment P) (before after : NotesView) : Type 0 where
   pub turns : Turns gave took counts says now old new
   pub noted : after ≡ after_all turns.account (emptied before)
 
--- The same of what is done between two turns.
+-- The same for what is done between two turns.
 pub record AttendIsNoted {P : Type 0} (gave took : P → Option (List ℕ)) (counts : P → Counts)
     (now : ℕ) (old new : Moment P) (before after : NotesView) : Type 0 where
   pub attends : Attends gave took counts now old new

@@ -4,13 +4,13 @@ use Rattle.pace.specs.Plans.{port_of}
 use Rattle.pace.specs.declared.pace.TurnPace.{TurnPace}
 use Rattle.pace.specs.declared.port.PortPace.{PortPace}
 
--- The frame that the port was given last, and when, is remembered still; or the port has a new
--- connection, on which nothing was given yet.
+-- The frame that the port was given last, and when, is still remembered; or the port has a new
+-- connection, on which nothing has been given yet.
 abbrev pub StillGiven : PortPace → PortPace → Type 0
 StillGiven old new =
     ((new.given ≡ old.given) × (new.given_at ≡ old.given_at)) ⊎ (new.given ≡ None)
 
--- So it is at each port, and the pace has the same manner.
+-- This holds at each port, and the pace has the same manner.
 pub record Remembers (old new : TurnPace) : Type 0 where
   pub manner : new.manner ≡ old.manner
   pub ports : (p : ℕ) → StillGiven (port_of old.ports p) (port_of new.ports p)

@@ -18,10 +18,11 @@ use Rattle.node_service.specs.Services.{AreGone, deeds_of_all, lines_of, Service
 use Rattle.node_connections.specs.Said.{IsHeard, IsSaid, WritesOut}
 
 module _ {P A : Type 0} (gave took : P → Option (List ℕ)) (counts : P → Counts) where
-  -- Clients came, or none did; and then each was read, and served by these deeds of the node: its lines are
-  -- those that the bytes from its pipe ended, and the answers to them, and nothing else, were said to it. One
-  -- that was closed has a cause: a read said that it is gone, or there was no room for an answer. Each gave at
-  -- most a piece, and some may have more if one gave a whole piece, and only then.
+  -- Clients came, or none did. Then each was read, and served by these deeds of the node: its lines
+  -- are those that the bytes from its pipe ended, and the answers to them, and nothing else, were
+  -- said to it. The closing of a client has a cause: a read said that it is gone, or there was no
+  -- room for an answer. Each gave at most a piece. Some may have more if one gave a whole piece,
+  -- and only then.
   pub record HasAnswered {before after : NodeView} (deeds : Became IsOfClient before after)
       (old new : Clients P A) : Type 0 where
     pub came : Clients P A
@@ -49,8 +50,9 @@ module _ {P A : Type 0} (gave took : P → Option (List ℕ)) (counts : P → Co
     pub answers : HasAnswered did.listens.serves before after
     pub more : answers.may_have_more ≡ true → has_more ≡ true
 
-  -- What is done between two turns: clients were answered, and then answers were written. Then only
-  -- tickets of clients left that are gone. If clients may have more, there is more to do at once.
+  -- What is done between two turns: clients were answered, and then answers were written. The only
+  -- tickets that left then are those of clients that are gone. If clients may have more, there is
+  -- more to do at once.
   pub record AttendSays (now : ℕ) (old new : Moment P) (noted notes : NotesView)
       (before after : Clients P A) (has_more : Bool) : Type 0 where
     pub did : AttendIsNoted gave took counts now old new noted notes
@@ -60,9 +62,9 @@ module _ {P A : Type 0} (gave took : P → Option (List ℕ)) (counts : P → Co
     pub gone : All (IsLeaveOfGone (is_connected after)) did.attends.leaves.deeds
     pub more : answers.may_have_more ≡ true → has_more ≡ true
 
-  -- A turn: clients were answered; then the client whose loan the tick began or ended heard of it; and then
-  -- answers were written. After the tick only tickets of clients left that are gone. If clients may have more,
-  -- there is more to do at once.
+  -- A turn: clients were answered; then the client whose loan the tick began or ended heard of it;
+  -- and then answers were written. The only tickets that left after the tick are those of clients
+  -- that are gone. If clients may have more, there is more to do at once.
   pub record TurnSays (says : Ticked) (now : ℕ) (old new : Moment P) (noted notes : NotesView)
       (before after : Clients P A) (has_more : Bool) : Type 0 where
     pub did : TurnIsNoted gave took counts says now old new noted notes

@@ -25,8 +25,8 @@ use Rattle.node_connections.specs.Speaking.{PortSpeaks, takes_frames}
 abbrev pub sent_if : Bool → Frame → List Frame
 sent_if is_taken frame = if is_taken then frame ∷ [] else []
 
--- The same of a frame, by its line. The pace notes a frame that was accepted, and nothing else. What
--- is sent is the frame if it was accepted, and else nothing.
+-- The port spoke with the line of this frame. The pace notes a frame that was accepted, and nothing
+-- else. What is sent is the frame if it was accepted, and else nothing.
 pub record SpeaksTo {P : Type 0} (gave took : P → Option (List ℕ)) (counts : P → Counts)
     (frame : Frame) (is_offered : Bool) (now : ℕ) (was is : PortPace) (sent : List Frame)
     (old new : NodePort P) : Type 0 where
@@ -62,7 +62,7 @@ sight_at node ports w = record {
   present = payload_for (site_in node) (state_of node) w;
 }
 
--- how the node's desk stands
+-- the state of the node's desk
 abbrev pub outlook_of : NodeView → Bool → Outlook
 outlook_of node let_go = record {
   waits = nat_lt 0 (length (state_of node).desk.waiting);
@@ -71,8 +71,8 @@ outlook_of node let_go = record {
   let_go = let_go;
 }
 
--- It is the plan that the pace makes at this moment: whether the node ticks, and on which of its
--- ports a frame is due.
+-- The plan is the one that the pace makes at this moment: whether the node ticks, and on which of
+-- its ports a frame is due.
 pub record IsPlanOf {P : Type 0} (now : ℕ) (m : Moment P) (plan : Plan) : Type 0 where
   pub ticks : plan.ticks ≡ may_tick (outlook_of m.node m.let_go) now m.pace.node
   pub offers : (w : ℕ) → w < 64 → Contains (site_in m.node).neighbours w

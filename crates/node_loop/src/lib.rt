@@ -1,7 +1,7 @@
 //! The loop of a node's process: what one turn does, over doors, connections and a store that may
 //! fail.
 //!
-//! A [`NodeRun`] has a node, its links to neighbours and its clients, which stand in the crate
+//! A [`NodeRun`] has a node, its links to neighbours and its clients, which are those of the crate
 //! `node_connections`. Its [`Doors`] bring connections, and its store keeps its state.
 //!
 //! ```
@@ -18,9 +18,9 @@
 //! ```
 //!
 //! A turn takes what came, in this order: connections, hellos, frames of neighbours, lines of
-//! clients. Clients that are gone leave. Then the node ticks once; frames go out on the ports of the
-//! plan, and answers to clients. Each 256th turn saves the state. If a door, a connection or the
-//! store fails, the turn goes on, and the next one tries again. It takes no memory.
+//! clients. Clients that are gone leave. Then the node ticks once; frames go out on the ports of
+//! the plan, and answers to clients. Each 256th turn saves the state. If a door, a connection or
+//! the store fails, the turn goes on, and the next one tries again. A turn takes no memory.
 //!
 //! The contract of a turn names its account: one list of all that the node did, in order. At each
 //! port it took exactly the frames that were pulled there, and it sent exactly the frames that the

@@ -28,7 +28,7 @@ use state_writing::Store;
 use std::alloc::{AllocError, Allocator, Global};
 use topology::Net;
 
-/// What was passed in for a node that could not be made, for lack of memory.
+/// What was passed in for a node that could not be made for lack of memory.
 #[derive(Drop)]
 pub struct Unmade<D: Doors, S: Store + Drop, A: Allocator + Copy = Global> {
     pub net: Net,
@@ -45,7 +45,7 @@ pub struct NodeRun<D: Doors, S: Store + Drop, A: Allocator + Copy = Global> {
     net: Net,
     node: Node<A>,
     pace: TurnPace,
-    /// One for each node, by its id. Only those of neighbours have connections.
+    /// One port for each node, by its id. Only those of neighbours have connections.
     ports: Vec<NodePort<D::P>, A>,
     lobby: Lobby<D::P, A>,
     clients: Clients<D::P, A>,
@@ -73,7 +73,8 @@ impl<D: Doors, S: Store + Drop, A: Allocator + Copy> NodeRun<D, S, A> {
     ghost use Rattle.node_loop.specs.Moments.{moment_of};
 
     /// A node of this network that runs over these doors. All memory that turns ever need is
-    /// reserved here. Only if that is refused do all four come back.
+    /// reserved here. Only if that is refused are the network, the node, the doors and the store
+    /// given back.
     pub fn new(
         alloc: A,
         net: Net,
@@ -86,7 +87,7 @@ impl<D: Doors, S: Store + Drop, A: Allocator + Copy> NodeRun<D, S, A> {
         ensures made { IfOk result (λ run. (run.net ≡ net) × (run.node ≡ node) × (run.turns ≡ 0)
             × (run.doors ≡ doors) × (run.store ≡ store) × (run.let_go ≡ false)
             × (run.pace.manner ≡ manner)) }
-        // No port has a connection, and no client is there.
+        // No port has a connection, and no client is connected.
         ensures alone { IfOk result (λ run. AreLoose [] run.ports.items
             × ((t : ℕ) → is_connected run.clients t ≡ false)) }
         ensures unmade { IfErr result (λ back. (back.net ≡ net) × (back.node ≡ node)
@@ -117,13 +118,14 @@ impl<D: Doors, S: Store + Drop, A: Allocator + Copy> NodeRun<D, S, A> {
     }
 
     /// One turn: the node takes all that came, ticks once, and speaks by the plan that the pace
-    /// makes then. `now` is microseconds of a clock that never goes back. All that it did is noted.
+    /// then makes. `now` is microseconds of a clock that never goes back. All that it did is noted,
+    /// as far as there is room.
     pub fn turn(&mut self, now: u64, notes: &mut Notes<A>) -> Turned
         // All that it did is one list of deeds, which are the node's own steps.
         ensures turns { Turns D.P.gave D.P.took D.P.counts result.ticked now
             (moment_of self.old.node self.old.ports.items self.old.pace self.old.let_go)
             (moment_of self.new.node self.new.ports.items self.new.pace self.new.let_go) }
-        // Just that list is noted, as far as there is room, and nothing that was noted before.
+        // Just that list is noted, as far as there is room; what was noted before is gone.
         ensures noted { TurnIsNoted D.P.gave D.P.took D.P.counts result.ticked now
             (moment_of self.old.node self.old.ports.items self.old.pace self.old.let_go)
             (moment_of self.new.node self.new.ports.items self.new.pace self.new.let_go)
@@ -133,13 +135,13 @@ impl<D: Doors, S: Store + Drop, A: Allocator + Copy> NodeRun<D, S, A> {
         // A client that was connected and still is lives on: no read and no write said that its pipe
         // closed or failed.
         ensures lives { StillLive D.P.gave D.P.took D.P.counts self.old.clients self.new.clients }
-        // A client that stays connected was read, and sent the answers to the lines that ended in the bytes
-        // that its pipe gave, and then `granted` or `lost` if the tick began or ended its loan. Nothing
-        // else was sent, and no byte is lost: its pipe took it, or it waits. None waits at the end without
-        // a write: its pipe took some, or takes none now.
-        // Only tickets of clients that are gone leave without a line. A client that is no longer connected
-        // closed, or failed a read or a write, or had no room for an answer. At most a piece of each client
-        // was read; if one gave a whole piece, the next turn does not wait.
+        // A client that stays connected was read, and sent the answers to the lines that ended in
+        // the bytes that its pipe gave, and then `granted` or `lost` if the tick began or ended its
+        // loan. Nothing else was sent, and no byte is lost: its pipe took it, or it waits. No
+        // answer waits at the end without a write: the client's pipe took some, or takes none now.
+        // Only tickets of clients that are gone leave without a line. A client that is no longer
+        // connected closed, or failed a read or a write, or had no room for an answer. At most a
+        // piece of each client was read; if one gave a whole piece, the next turn does not wait.
         ensures says { TurnSays D.P.gave D.P.took D.P.counts result.ticked now
             (moment_of self.old.node self.old.ports.items self.old.pace self.old.let_go)
             (moment_of self.new.node self.new.ports.items self.new.pace self.new.let_go)
@@ -160,7 +162,7 @@ impl<D: Doors, S: Store + Drop, A: Allocator + Copy> NodeRun<D, S, A> {
         }
     }
 
-    /// A turn but for its save.
+    /// Does all of a turn except its save.
     fn act(&mut self, now: u64, notes: &mut Notes<A>) -> Ticked
         ensures noted { TurnIsNoted D.P.gave D.P.took D.P.counts result now
             (moment_of self.old.node self.old.ports.items self.old.pace self.old.let_go)
@@ -182,16 +184,16 @@ impl<D: Doors, S: Store + Drop, A: Allocator + Copy> NodeRun<D, S, A> {
         ticked
     }
 
-    /// What is done between two turns, while a loan with a lease runs and no tick is due: the node
-    /// takes all that came, and speaks by the plan that the pace makes then. It does not tick, and
-    /// this counts as no turn. `now` and `notes` are as for [`NodeRun::turn`].
+    /// Does what is done between two turns, while a loan with a lease runs and no tick is due: the
+    /// node takes all that came, and speaks by the plan that the pace then makes. It does not tick,
+    /// and this does not count as a turn. `now` and `notes` are as for [`NodeRun::turn`].
     pub fn attend(&mut self, now: u64, notes: &mut Notes<A>)
         // All that it did is one list of deeds, which are the node's own steps; no tick is among
         // them.
         ensures attends { Attends D.P.gave D.P.took D.P.counts now
             (moment_of self.old.node self.old.ports.items self.old.pace self.old.let_go)
             (moment_of self.new.node self.new.ports.items self.new.pace self.new.let_go) }
-        // Just that list is noted, as far as there is room, and nothing that was noted before.
+        // Just that list is noted, as far as there is room; what was noted before is gone.
         ensures noted { AttendIsNoted D.P.gave D.P.took D.P.counts now
             (moment_of self.old.node self.old.ports.items self.old.pace self.old.let_go)
             (moment_of self.new.node self.new.ports.items self.new.pace self.new.let_go)
@@ -210,7 +212,7 @@ impl<D: Doors, S: Store + Drop, A: Allocator + Copy> NodeRun<D, S, A> {
             (moment_of self.old.node self.old.ports.items self.old.pace self.old.let_go)
             (moment_of self.new.node self.new.ports.items self.new.pace self.new.let_go)
             notes.old notes.new self.old.clients self.new.clients self.new.has_more }
-        // Its network stays, and it stores nothing.
+        // The network stays, and nothing is stored.
         ensures rest { (self.new.net ≡ self.old.net) × (self.new.turns ≡ self.old.turns)
             × (self.new.store ≡ self.old.store) }
     {

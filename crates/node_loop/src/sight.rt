@@ -1,4 +1,4 @@
-//! What the pace of a node sees: how its desk stands, and what there is to say at its ports.
+//! What the pace of a node sees: the state of its desk, and what there is to say at its ports.
 ghost use Rattle.std.specs.Prelude.{◌≡◌, ◌<◌, ◌≤◌, ℕ, IsTrue, Contains, length, slice_index_or};
 ghost use Rattle.euler_ring.specs.Cycle.{is_on};
 ghost use Rattle.node_core.specs.Machines.{tree_of};
@@ -18,7 +18,7 @@ use topology::{Frame, Net, Payload, laws as topology_laws};
 /// The most nodes of a network.
 pub(crate) const NODES: usize = 64;
 
-/// How the node's desk stands.
+/// The state of the node's desk.
 pub(crate) fn outlook<A: Allocator>(node: &Node<A>, let_go: bool) -> Outlook
     ensures { result ≡ outlook_of node.now let_go }
 {
@@ -62,7 +62,7 @@ fn neighbours<'a, A: Allocator>(node: &'a Node<A>, net: &Net) -> &'a [u16]
     node.neighbours()
 }
 
-/// By id, whether that node is a tree neighbour.
+/// Whether each node is a tree neighbour, by id.
 pub(crate) fn trees<A: Allocator>(node: &Node<A>, net: &Net) -> [bool; NODES]
     requires id { (site_in node.now).id < net.now.nodes }
     requires site { site_in node.now ≡ site_of net.now (site_in node.now).id }
@@ -77,7 +77,7 @@ pub(crate) fn trees<A: Allocator>(node: &Node<A>, net: &Net) -> [bool; NODES]
     trees
 }
 
-/// By id, the values of the machines that come in from the neighbours; 0 for all others.
+/// The values of the machines that come in from the neighbours, by id; 0 for all other nodes.
 pub(crate) fn values<A: Allocator>(node: &Node<A>, net: &Net) -> [u16; NODES]
     requires id { (site_in node.now).id < net.now.nodes }
     requires site { site_in node.now ≡ site_of net.now (site_in node.now).id }
@@ -93,7 +93,7 @@ pub(crate) fn values<A: Allocator>(node: &Node<A>, net: &Net) -> [u16; NODES]
     values
 }
 
-/// By id, what there is to say to the neighbours.
+/// What there is to say to the neighbours, by id.
 pub(crate) fn sights<P: Pipe, A: Allocator>(
     node: &Node<A>,
     net: &Net,

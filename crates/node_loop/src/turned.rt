@@ -1,4 +1,4 @@
-//! What a turn answers.
+//! What a turn returns.
 ghost use Rattle.std.specs.Prelude.{◌≡◌, is_some};
 ghost use Rattle.node_service.specs.Answers.{grants};
 
@@ -11,7 +11,7 @@ use state_writing::StoreFault;
 pub struct Turned {
     /// What the tick did.
     pub ticked: Ticked,
-    /// What the store answered: some answer in each 256th turn, and none in all others.
+    /// What the store answered: an answer in each 256th turn, and none in any other.
     pub saved: Option<Result<(), StoreFault>>,
 }
 
@@ -23,7 +23,7 @@ impl Turned {
         matches!(self.ticked.act, DeskAct::Granted(_))
     }
 
-    /// Whether the node's files are looked at after the turn, and the network's read again: after
+    /// Whether to look at the node's files after the turn, and to read the network's again: after
     /// each turn that saved, whatever the store answered.
     pub fn is_to_look(&self) -> bool
         ensures { result ≡ is_some self.now.saved }

@@ -12,7 +12,7 @@ end_fault save.Displaced = Some Displaced
 end_fault save.StopStays = Some StopStays
 end_fault _ = None
 
--- a node goes on only if it was decided so
+-- a node ends unless the decision is that it goes on
 abbrev pub ends_by : AfterSave → Bool
 ends_by (save.GoOn lost) = false
 ends_by _ = true

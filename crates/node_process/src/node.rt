@@ -22,17 +22,16 @@ use std::net::Net as Sockets;
 use std::rt::{Clock, Env, Files};
 use topology::Net;
 
-/// Runs node ID of the network of FILE in DIR, until its stop file is there.
+/// Runs node ID of the network of FILE in DIR, until its stop file exists.
 ///
-/// It prints `start loaded` or `start default NAME`, then `ready` once its sockets listen. It
-/// shows how it stands to whoever connects to its socket for lookers. After each 256th turn its
-/// state is saved; then it checks that its names in DIR still lead to its own files, looks for the
-/// stop file, and reads FILE again.
+/// It prints `start loaded` or `start default NAME`, then `ready` once its sockets listen. Whoever
+/// connects to its socket for lookers is shown how it stands. After each 256th turn its state is
+/// saved; then it checks that its names in DIR still lead to its own files, looks for the stop
+/// file, and reads FILE again.
 ///
 /// # Errors
-/// Why it does not run; nothing is made before the network, the id and the folder's name are
-/// right. Or why it ends: its stop file cannot be removed, or its place in DIR is no longer its
-/// own.
+/// Why it does not run; nothing is made before the network, the id and the folder's name are found
+/// valid. Or why it ends: its stop file cannot be removed, or its place in DIR is no longer its own.
 pub fn run<R>(rt: &R, words: &NodeWords<'_>) -> Result<(), NodeFault>
 where
     R: Files<File = File> + Sockets + Clock + Env + Input + Print + Eprint + AllocGlobal,
@@ -131,7 +130,7 @@ where
 /// What watches a node that starts now with these words.
 ///
 /// # Errors
-/// If the system gives no clock, or it keeps a record and memory runs out.
+/// If the system gives no clock, or the node keeps a record and memory runs out.
 fn watched<'a, 'w, R, D: Doors, S: Store + Drop>(
     rt: &'a R,
     words: &NodeWords<'w>,
@@ -186,10 +185,9 @@ where
     AfterSave::Stop
 }
 
-/// Takes a turn, notes and records it, says what happened in it, and shows lookers how the node
-/// stands then.
-/// Returns whether to look at the node's files now: after each 256th turn, whatever the store
-/// answered.
+/// Takes a turn, notes and records it, says what happened in it, and then shows lookers how the
+/// node stands. Returns whether to look at the node's files now: after each 256th turn, whatever
+/// the store answered.
 fn take_turn<R, D: ProcessDoors, S: Store + Drop>(
     alloc: Global,
     observer: &mut Observer<'_, '_, R>,
@@ -235,7 +233,7 @@ fn show_line<D: ProcessDoors>(doors: &mut D, line: &[u8])
     }
 }
 
-/// Whether a node ends with this.
+/// Whether a node ends by this decision.
 fn ends(next: AfterSave) -> bool
     ensures { result ≡ ends_by next }
 {
@@ -272,7 +270,7 @@ fn rewire_by_file<R: Files + Eprint + AllocGlobal, D: Doors, S: Store + Drop>(
     news: &mut FileNews,
     run: &mut NodeRun<D, S>,
 )
-    // Nothing but its edges ever changes.
+    // Of the network, only the edges ever change.
     ensures { IsTrue (is_same_frame run.old.net run.new.net) }
 {
     let read = read_network(rt, words.file);

@@ -28,9 +28,9 @@ use std::rt::{Clock, Env, Files};
 pub struct Observer<'a, 'w, R> {
     /// Its clock.
     pub watch: Stopwatch<'a, R>,
-    /// What it notes of itself for lookers.
+    /// What it notes about itself for lookers.
     pub window: LookNotes<'w>,
-    /// What it says of itself.
+    /// What it says about itself.
     pub journal: NodeJournal<'a, R>,
     /// Its deeds in the last turn, if it keeps a record.
     pub notes: Notes,
@@ -68,13 +68,13 @@ impl<'a, 'w, R: Files<File = File> + Clock + Eprint + AllocGlobal> Observer<'a, 
         })
     }
 
-    /// Waits until something may have come to the node. If its next turn is due then, answers when that
-    /// begins; else the node does what it must between turns.
+    /// Waits until something may have come to the node. If its next turn is then due, returns the time
+    /// at which the turn begins; else the node does what it must between turns.
     pub fn awaits_turn<D: Doors, S: Store + Drop>(&mut self, run: &mut NodeRun<D, S>) -> Option<u64>
         // A record neither begins nor ends.
         ensures keeps { is_some self.new.tape ≡ is_some self.old.tape }
         ensures journal { self.new.journal ≡ self.old.journal }
-        // Until a turn begins nothing is noted.
+        // If a turn is due, this notes nothing.
         ensures due { IsSome result → (self.new.tape ≡ self.old.tape) × (self.new.window ≡ self.old.window)
             × (self.new.notes ≡ self.old.notes) }
     {
@@ -88,15 +88,15 @@ impl<'a, 'w, R: Files<File = File> + Clock + Eprint + AllocGlobal> Observer<'a, 
         None
     }
 
-    /// The node takes a turn that begins at this time. Its deeds are noted, and what lookers are shown.
+    /// The node takes a turn that begins at this time. Notes its deeds, and what lookers are shown.
     pub fn take_turn<D: Doors, S: Store + Drop>(
         &mut self,
         run: &mut NodeRun<D, S>,
         now: u64,
     ) -> Turned
         ensures looks { IsSome result.saved ↔ (run.old.turns ≡ 255) }
-        // What lookers are shown has the turn, and the loan that stands after it, and a round of the token if
-        // the node's machine moved.
+        // What lookers are shown has the turn, the loan there is after it, and a round of the token if the
+        // node's machine moved.
         ensures turns { self.new.window.notes.turns ≡ turn_ended self.old.window.notes.limit
             self.new.watch.last self.old.window.notes.turns }
         ensures loans { self.new.window.notes.loans ≡ desk_seen self.new.watch.last (record {
@@ -106,7 +106,7 @@ impl<'a, 'w, R: Files<File = File> + Clock + Eprint + AllocGlobal> Observer<'a, 
         ensures rounds { self.new.window.notes.rounds
             ≡ machine_seen (counted_machine (site_in run.new.node) (state_of run.new.node))
             self.old.window.notes.rounds }
-        // It has the link that was next, as it stands after the turn, and the others as they were.
+        // It has the link that was next, as it is after the turn, and the other links as they were.
         ensures link { (sight : LinkSight) → self.old.window.notes.next < 64
             → link_at (slice_get run.new.ports.items self.old.window.notes.next) ≡ Some sight
             → link_of self.new.window.notes.links self.old.window.notes.next
@@ -133,8 +133,8 @@ impl<'a, 'w, R: Files<File = File> + Clock + Eprint + AllocGlobal> Observer<'a, 
         turned
     }
 
-    /// What happened in a turn, and with the clients that came until its end, is said, and the turn, which
-    /// began at this time, is recorded.
+    /// Says what happened in a turn, and with the clients that came until its end. Records the turn, which
+    /// began at this time.
     pub fn turn_ended<D: Doors, S: Store + Drop>(
         &mut self,
         run: &NodeRun<D, S>,
@@ -143,7 +143,7 @@ impl<'a, 'w, R: Files<File = File> + Clock + Eprint + AllocGlobal> Observer<'a, 
         now: u64,
     )
         ensures keeps { is_some self.new.tape ≡ is_some self.old.tape }
-        // A log that is on logs the turn, which ended when the clock was looked at last.
+        // A log that is on logs the turn, which ended when the clock was last read.
         ensures logged { IsTrue (is_some self.old.journal.log.least)
             → LogsTurn run.now.net run.now.node run.now.ports.items turned.now.ticked.act clients
             self.old.watch.last self.old.journal.log self.new.journal.log }
@@ -160,7 +160,7 @@ impl<'a, 'w, R: Files<File = File> + Clock + Eprint + AllocGlobal> Observer<'a, 
         self.record(run, turned.is_to_look(), now);
     }
 
-    /// The node did something that is no turn, and began it at this time.
+    /// The node did something other than a turn, and began it at this time.
     pub fn attended<D: Doors, S: Store + Drop>(&mut self, run: &NodeRun<D, S>, now: u64)
         ensures journal { self.new.journal ≡ self.old.journal }
         ensures keeps { is_some self.new.tape ≡ is_some self.old.tape }
@@ -220,10 +220,10 @@ impl<'a, 'w, R: Files<File = File> + Clock + Eprint + AllocGlobal> Observer<'a, 
     }
 }
 
-/// Where a node that starts with these words notes its deeds, and its record, if it keeps one.
+/// The notes for the deeds of a node that starts with these words, and its record, if it keeps one.
 ///
 /// # Errors
-/// If it keeps one, and memory runs out.
+/// If it keeps a record, and memory runs out.
 fn recording<'a, R: Files<File = File> + Clock + Eprint + AllocGlobal, D: Doors, S: Store + Drop>(
     rt: &'a R,
     words: &NodeWords<'_>,

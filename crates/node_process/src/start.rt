@@ -13,7 +13,7 @@ use std::alloc::Global;
 use std::rt::Env;
 use topology::Net;
 
-/// Loads the state, opens the doors, and says both.
+/// Loads the state, opens the doors, and reports both.
 pub fn start_node<'a, R, O: Opener, S: Store + Drop>(
     rt: &R,
     seat: &Seat<'a, '_>,
@@ -39,7 +39,7 @@ where
     }
 }
 
-/// Opens the doors of a node that starts so, and says both.
+/// Opens the doors of a node that starts with this state, and reports both.
 fn open_node<'a, R, O: Opener, S: Store + Drop>(
     rt: &R,
     seat: &Seat<'a, '_>,

@@ -1,4 +1,4 @@
-//! A node as what a command line runs.
+//! A node, as a command line runs it.
 use crate::node;
 use record_files::process_parts::{NodeFault, NodeWords, NodeWork};
 use std::fs::File;

@@ -15,7 +15,7 @@ nothing = record { deeds = []; instants = [] }
 abbrev pub with_turn : ℕ → List Deed → BacklogView → BacklogView
 with_turn now ds b = record { deeds = b.deeds ++ ds; instants = b.instants ++ replicate (length ds) now }
 
--- there is room for so many more, in all for 1536
+-- there is room for this many more, and for 1536 in all
 abbrev pub has_room : ℕ → BacklogView → Bool
 has_room count b = nat_le (length b.deeds + count) 1536
 

@@ -27,7 +27,8 @@ network_mark net = mixed (mixed (mixed (mixed 0 net.nodes) net.root) net.capacit
 abbrev pub after_deeds : ℕ → List Deed → RecorderView → RecorderView
 after_deeds now ds r = fold (λ x d. after_note now (noted.Deed d) x) r ds
 
--- the parts of a state were; the ports to these neighbours; these tickets that wait
+-- the parts of a state were noted; so were the ports to these neighbours, and these tickets that
+-- wait
 abbrev pub after_parts : ℕ → List StatePart → RecorderView → RecorderView
 after_parts now ps r = fold (λ x p. after_note now (noted.State p) x) r ps
 
@@ -47,12 +48,12 @@ after_state now network site s r =
     (after_note now (noted.State (own_part s))
     (after_note now (noted.State (Start network site.id)) r)))))
 
--- the whole state of a node must be noted before its next deeds: a file begins, or the node has other
+-- the whole state of a node must be noted before its next deeds: a file begins, or the node has new
 -- neighbours
 abbrev pub is_to_begin : {A : Type 0} → NodeRecorder A → Bool
 is_to_begin r = r.is_rewired || is_at_start r.pages
 
--- then it is: the state in which the second node stands
+-- if so, it is noted: the state in which the second node is
 abbrev pub with_beginning : {A : Type 0} → ℕ → NodeRecorder A → RecorderView
 with_beginning now r =
     if is_to_begin r then after_parts now (state_parts r.network (site_in r.follower) (state_of r.follower)) r.pages
@@ -62,20 +63,21 @@ with_beginning now r =
 abbrev pub with_backlog : {A : Type 0} → ℕ → NodeRecorder A → RecorderView
 with_backlog now r = after_all r.backlog (with_beginning (first_instant now r.backlog) r)
 
--- unless the recorder is lost, its second node stands as a node does
+-- unless the recorder is lost, its second node is in the state of this node
 abbrev pub Stands : {A : Type 0} → NodeRecorder A → NodeView → Type 0
 Stands r node =
     r.is_lost ≡ false → AreSame (site_in r.follower).neighbours (state_of r.follower) (state_of node)
 
 module _ {A : Type 0} (now : ℕ) (node : NodeView) (old new : NodeRecorder A) where
-  -- A node's whole state is noted, and unless the recorder is lost, the second node stands there. No deed
-  -- waits any more.
+  -- A node's whole state is noted, and unless the recorder is lost, the second node is in that
+  -- state. No deed waits any more.
   pub record TakesOver : Type 0 where
     pub pages : new.pages ≡ after_parts now (state_parts old.network (site_in node) (state_of node)) old.pages
     pub stands : Stands new node
     pub rest : new ≡ record old { pages = new.pages; follower = new.follower; is_lost = new.is_lost; backlog = nothing }
 
-  -- The deeds that wait are noted. They lead the second node, by its own steps, to where the node stands.
+  -- The deeds that wait are noted. They lead the second node, by its own steps, to the node's
+  -- state.
   pub record NotesDeeds : Type 0 where
     pub pages : new.pages ≡ with_backlog now old
     pub leads : Leads (site_in old.follower) (account_of old.backlog.deeds) (state_of old.follower)
@@ -83,7 +85,8 @@ module _ {A : Type 0} (now : ℕ) (node : NodeView) (old new : NodeRecorder A) w
     pub stands : AreSame (site_in new.follower).neighbours (state_of new.follower) (state_of node)
     pub rest : new ≡ record old { pages = new.pages; follower = new.follower; is_rewired = false; backlog = nothing }
 
-  -- They lead elsewhere, or the node has other neighbours: after them its whole state is noted, too.
+  -- The deeds that wait are noted, but lead elsewhere, or the node has different neighbours: after
+  -- them its whole state is noted, too.
   pub record NotesBoth : Type 0 where
     pub needed : (site_in old.follower).neighbours ≡ (site_in node).neighbours
         → LeadElsewhere (site_in old.follower) old.backlog.deeds (state_of old.follower) (state_of node)
@@ -100,7 +103,7 @@ module _ {A : Type 0} (now : ℕ) (deeds : List Deed) (has_all may_wait : Bool) 
   abbrev pub Rests : Type 0
   Rests = (old.pages.is_stopped ≡ true) × (new ≡ old)
 
-  -- It was lost: the node's whole state is noted.
+  -- The recorder was lost: the node's whole state is noted.
   pub record NotesState : Type 0 where
     pub lost : old.is_lost ≡ true
     pub state : TakesOver now node old new
@@ -117,7 +120,7 @@ module _ {A : Type 0} (now : ℕ) (deeds : List Deed) (has_all may_wait : Bool) 
   abbrev pub waiting : NodeRecorder A
   waiting = record old { backlog = with_turn now deeds old.backlog }
 
-  -- They wait, and nothing is noted.
+  -- These deeds wait, and nothing is noted.
   pub record KeepsDeeds : Type 0 where
     pub known : old.is_lost ≡ false
     pub all : has_all ≡ true
@@ -125,7 +128,7 @@ module _ {A : Type 0} (now : ℕ) (deeds : List Deed) (has_all may_wait : Bool) 
     pub few : is_long waiting.backlog ≡ false
     pub rest : new ≡ waiting
 
-  -- They and all that wait are noted, since they may not wait, or too many would.
+  -- These deeds and all that wait are noted, since they may not wait, or too many would.
   pub record NotesNow : Type 0 where
     pub known : old.is_lost ≡ false
     pub all : has_all ≡ true

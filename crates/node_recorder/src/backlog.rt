@@ -6,7 +6,7 @@ use flight_recorder::{Deed, Noted, Recorder};
 use std::alloc::{AllocError, Allocator, Global};
 use std::marker::Model;
 
-/// From so many deeds on, none waits any longer.
+/// From this many deeds on, none waits any longer.
 const MANY: usize = 512;
 
 /// The most deeds: fewer than [`MANY`], and then those of one more turn.
@@ -32,7 +32,8 @@ impl<A: Allocator> Model for Backlog<A> {
 }
 
 impl<A: Allocator + Copy> Backlog<A> {
-    /// No deeds. All memory is reserved here; `AllocError` comes only if that is refused.
+    /// A backlog without deeds. All memory is reserved here; `AllocError` comes only if that is
+    /// refused.
     pub fn new(alloc: A) -> Result<Backlog<A>, AllocError>
         ensures { IfOk result (λ b. b ≡ nothing) }
     {
@@ -44,7 +45,7 @@ impl<A: Allocator + Copy> Backlog<A> {
 }
 
 impl<A: Allocator> Backlog<A> {
-    /// Whether there is room for so many deeds more.
+    /// Whether there is room for this many more deeds.
     pub fn has_room(&self, count: usize) -> bool
         ensures { result ≡ has_room count self.now }
     {
@@ -58,7 +59,7 @@ impl<A: Allocator> Backlog<A> {
         self.deeds.is_empty()
     }
 
-    /// Whether these are so many that none waits any longer.
+    /// Whether there are so many deeds that none waits any longer.
     pub fn is_long(&self) -> bool
         ensures { result ≡ is_long self.now }
     {
@@ -82,7 +83,7 @@ impl<A: Allocator> Backlog<A> {
         }
     }
 
-    /// The deeds of one more turn wait.
+    /// Adds the deeds of one more turn, which then wait too.
     pub fn add(&mut self, deeds: &[Deed], now: u64)
         requires { IsTrue (has_room (length deeds.now) self.old) }
         ensures { self.new ≡ with_turn now deeds.now self.old }
@@ -102,7 +103,7 @@ impl<A: Allocator> Backlog<A> {
         }
     }
 
-    /// None waits any more.
+    /// Removes all deeds: none waits any more.
     pub fn clear(&mut self)
         ensures { self.new ≡ nothing }
     {

@@ -21,19 +21,19 @@ use topology::Net;
 #[derive(Drop)]
 pub struct NodeRecorder<A: Allocator + Copy = Global> {
     pages: Recorder<A>,
-    /// The second node. It stands where the node stood before the deeds that wait.
+    /// The second node. It is in the state in which the node was before the deeds that wait.
     follower: Follower<A>,
     backlog: Backlog<A>,
     /// The checksum of the network.
     network: u32,
-    /// The second node has other neighbours since its whole state was noted last.
+    /// The second node was given new neighbours since its whole state was last noted.
     is_rewired: bool,
-    /// The second node may not stand as the node did before the deeds that wait.
+    /// The second node may not be in the state in which the node was before the deeds that wait.
     is_lost: bool,
 }
 
 impl<A: Allocator + Copy> NodeRecorder<A> {
-    /// The recorder of this node of the network, as the node stands now. What is noted goes to these
+    /// The recorder of this node of the network, as the node is now. What is noted goes to these
     /// pages. All memory is reserved here; `AllocError` comes only if that is refused.
     pub fn new<B: Allocator>(
         alloc: A,
@@ -59,9 +59,9 @@ impl<A: Allocator + Copy> NodeRecorder<A> {
         })
     }
 
-    /// A turn of the node has ended, or what it does between two turns: it did these deeds, of which
-    /// some may be missing if `has_all` is no. They may wait if `may_wait` is yes, until others do not,
-    /// or 512 wait. `now` is the instant at which the turn began.
+    /// Takes note that a turn of the node has ended, or what it does between two turns. The node
+    /// did these deeds; some may be missing if `has_all` is no. They may wait if `may_wait` is yes,
+    /// until later ones may not, or 512 wait. `now` is the instant at which the turn began.
     pub fn turn_ended<B: Allocator>(
         &mut self,
         node: &Node<B>,
@@ -84,7 +84,7 @@ impl<A: Allocator + Copy> NodeRecorder<A> {
         }
     }
 
-    /// These deeds wait, too, if they may and few do; else they and all that wait are noted.
+    /// Has these deeds wait, too, if they may and few do; otherwise notes them and all that wait.
     fn take_up<B: Allocator>(&mut self, node: &Node<B>, deeds: &[Deed], may_wait: bool, now: u64)
         requires known { self.old.is_lost ≡ false }
         requires room { IsTrue (has_room (length deeds.now) self.old.backlog) }
@@ -131,7 +131,7 @@ impl<A: Allocator + Copy> NodeRecorder<A> {
         self.backlog.note_in(&mut self.pages);
     }
 
-    /// Notes the whole state in which the second node stands, if a file begins, or the node has other
+    /// Notes the whole state in which the second node is, if a file begins or the node has new
     /// neighbours.
     fn begin(&mut self, now: u64)
         ensures { self.new
@@ -143,7 +143,8 @@ impl<A: Allocator + Copy> NodeRecorder<A> {
         self.is_rewired = false;
     }
 
-    /// Notes the whole state of a node, and has the second node stand there. No deed waits any more.
+    /// Notes the whole state of a node, and has the second node take it over. No deed waits any
+    /// more.
     fn take_over<B: Allocator>(&mut self, node: &Node<B>, now: u64)
         ensures { TakesOver now node.now self.old self.new }
     {
@@ -152,7 +153,8 @@ impl<A: Allocator + Copy> NodeRecorder<A> {
         self.backlog.clear();
     }
 
-    /// Whether the deeds that wait lead the second node to where the node stands.
+    /// Has the second node do the deeds that wait. Returns whether they lead it to the node's
+    /// state.
     fn comes_to<B: Allocator>(&mut self, node: &Node<B>) -> bool
         ensures leads { IsTrue result → Leads (site_in self.old.follower)
             (account_of self.old.backlog.deeds) (state_of self.old.follower)
@@ -169,10 +171,10 @@ impl<A: Allocator + Copy> NodeRecorder<A> {
         self.follower.follow(self.backlog.deeds()) && self.follower.stands_as(node)
     }
 
-    /// The node has the neighbours that it has in this network from now on, and stands as it does: its
-    /// whole state is noted before its next deeds. If deeds still wait, nothing changes, and neither if the
-    /// network has more or fewer nodes, another capacity or lease, or if the node would become its root or
-    /// cease to be it.
+    /// From now on the node has the neighbours that it has in this network, and its present state:
+    /// its whole state is noted before its next deeds. Nothing changes if deeds still wait, if the
+    /// network has more or fewer nodes or a different capacity or lease, or if the node would
+    /// become its root or cease to be it.
     pub fn rewire<B: Allocator>(&mut self, net: &Net, node: &Node<B>)
         ensures pages { (self.new.pages ≡ self.old.pages) × (self.new.network ≡ self.old.network) }
         ensures backlog { self.new.backlog ≡ self.old.backlog }
@@ -208,7 +210,8 @@ impl<A: Allocator + Copy> NodeRecorder<A> {
         &self.pages
     }
 
-    /// The page was written, all of it. Whether the file is full with it, and the other one begins.
+    /// Takes note that the whole page was written. Returns whether the file is full with it, and
+    /// the other one begins.
     pub fn wrote(&mut self) -> bool
         ensures full { result ≡ fills self.old.pages }
         ensures after { self.new ≡ record self.old { pages = after_write self.old.pages } }
@@ -216,7 +219,7 @@ impl<A: Allocator + Copy> NodeRecorder<A> {
         self.pages.wrote()
     }
 
-    /// The page was not written: the record stops.
+    /// Takes note that the page was not written: the record stops.
     pub fn failed(&mut self)
         ensures { self.new ≡ record self.old { pages = after_failure self.old.pages } }
     {
@@ -282,8 +285,8 @@ fn note_queue<A: Allocator, B: Allocator>(pages: &mut Recorder<A>, node: &Node<B
     }
 }
 
-/// A number of a network: networks of other nodes, root, capacity or lease have other numbers, but for
-/// chance.
+/// The number of a network: networks with different nodes, root, capacity or lease have different
+/// numbers, except by chance.
 pub fn network_mark(net: &Net) -> u32
     ensures { result ≡ network_mark net.now }
 {
@@ -291,7 +294,7 @@ pub fn network_mark(net: &Net) -> u32
     mixed(mixed(first, net.capacity()), net.lease())
 }
 
-/// A number that depends on another one and on one more.
+/// A number that depends on both of these.
 fn mixed(mark: u32, number: u16) -> u32
     ensures { result ≡ mixed mark number }
 {

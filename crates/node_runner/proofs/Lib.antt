@@ -1,5 +1,6 @@
 pub use Rattle.run_model.proofs.RowsTwo
 pub use Rattle.weaving.proofs.RowsRun
+pub use Rattle.weaving.proofs.RowsBoth
 pub mod Stamps
 pub mod Receiving
 pub mod Spends

@@ -17,12 +17,12 @@ stamped t i = record { stamp = t; item = i }
 abbrev pub opening : List Item → List Stamped
 opening old = map (stamped 0) old
 
--- one more send, if there was one
+-- these sends, and one more if there was one
 abbrev pub with_sent : List Stamped → Item → Option ℕ → List Stamped
 with_sent sends i (Some t) = sends ++ stamped t i ∷ []
 with_sent sends i None = sends
 
--- one more take, if there was one
+-- these takes, and one more if there was one
 abbrev pub with_taken : List Stamped → Option Stamped → List Stamped
 with_taken takes (Some t) = takes ++ t ∷ []
 with_taken takes None = takes

@@ -48,7 +48,7 @@ pub record IsReady {A : Type 0} (r : Runner A) : Type 0 where
 abbrev pub IsSamePort : {A : Type 0} → RunnerPort A → RunnerPort A → Type 0
 IsSamePort a b = (b.neighbour ≡ a.neighbour) × SameOutgoing a.outgoing b.outgoing × SameIncoming a.incoming b.incoming
 
--- each is the same port
+-- each of these ports is the same as the one at its place in the other list
 abbrev pub AreSamePorts : {A : Type 0} → List (RunnerPort A) → List (RunnerPort A) → Type 0
 AreSamePorts {A} ps qs = (length qs ≡ length ps) × ((k : ℕ) (d : RunnerPort A) → k < length ps → IsSamePort (slice_index_or ps k d) (slice_index_or qs k d))
 

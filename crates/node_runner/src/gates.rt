@@ -4,9 +4,9 @@ ghost use Rattle.std.specs.Prelude.{◌≡◌};
 use std::sync::atomic::{AtomicBool, AtomicU64, Ordering};
 use std::thread;
 
-/// Holds each node back before and after each of its turns, as long as it likes. A gate promises
-/// only that its calls return. Whatever it does, what the nodes do is a run; a gate only decides
-/// how far one thread may be ahead of another.
+/// Holds each node back before and after each of its turns, for as long as it likes. A gate
+/// promises only that its calls return. Whatever it does, what the nodes do is a run; a gate only
+/// decides how far one thread may be ahead of another.
 pub trait Gate: Sync {
     /// Called by the node's own thread before a turn; turns count from 0.
     fn before(&self, node: u16, turn: u32);
@@ -31,8 +31,8 @@ const POLLS: u32 = 100_000_000;
 /// After how many looks a waiting thread lets others run.
 const POLLS_A_YIELD: u32 = 16;
 
-/// A count that threads raise and wait for. The wait is bounded: a wait in vain is noted, and then
-/// nobody is held back any more.
+/// A count that threads raise and wait for. The wait is bounded: a wait that gives up is noted, and
+/// then nobody is held back any more.
 #[derive(Drop)]
 struct Rally {
     count: AtomicU64,
@@ -52,7 +52,7 @@ impl Rally {
         }
     }
 
-    /// One more is counted.
+    /// Raises the count by one.
     fn arrive(&self) {
         self.count.fetch_add(1, Ordering::SeqCst);
     }
@@ -61,7 +61,7 @@ impl Rally {
         self.gave_up.load(Ordering::SeqCst)
     }
 
-    /// Whether the count is reached, or a wait was in vain.
+    /// Whether the count is reached, or a wait gave up.
     fn is_over(&self, wanted: u64) -> bool {
         self.count.load(Ordering::SeqCst) >= wanted || self.gave_up()
     }
@@ -81,7 +81,7 @@ impl Rally {
 }
 
 /// Holds each node before its first turn until every node is there, so that all run at the same
-/// time. It gives up after 100,000,000 looks, or as many as it is given.
+/// time. It gives up after 100,000,000 looks, or after as many as it is given.
 #[derive(Drop)]
 pub struct Meet {
     nodes: u16,
@@ -106,7 +106,7 @@ impl Meet {
         }
     }
 
-    /// Whether a node waited in vain; since then nobody is held back.
+    /// Whether a node gave up waiting; since then nobody is held back.
     pub fn gave_up(&self) -> bool {
         self.here.gave_up()
     }
@@ -124,7 +124,8 @@ impl Gate for Meet {
 }
 
 /// Holds each node before a turn until every node has done the turn before, so that no node is more
-/// than one turn ahead of another. It gives up after 100,000,000 looks, or as many as it is given.
+/// than one turn ahead of another. It gives up after 100,000,000 looks, or after as many as it is
+/// given.
 #[derive(Drop)]
 pub struct Pace {
     nodes: u16,
@@ -149,7 +150,7 @@ impl Pace {
         }
     }
 
-    /// Whether a node waited in vain; since then nobody is held back.
+    /// Whether a node gave up waiting; since then nobody is held back.
     pub fn gave_up(&self) -> bool {
         self.done.gave_up()
     }

@@ -13,8 +13,8 @@
 //!
 //! Stamps are the logical clocks of Lamport (1978).
 //!
-//! The trap: no gate makes a promise. A node that waits in vain goes on, and the gate says so
-//! (`gave_up`).
+//! The trap: a gate promises only that its calls return. A node that gives up waiting goes on, and
+//! the gate says so (`gave_up`).
 #![tactic(auto)]
 
 mod gates;

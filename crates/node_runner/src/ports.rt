@@ -37,7 +37,7 @@ impl Protocol<u64> for StampBound {
     ghost allows = { λ before x. x ≤ last_place };
 }
 
-/// The stamp of an event after two others; none if that were above 2^62.
+/// The stamp of an event after two others; none if that would be above 2^62.
 fn stamp_after(one: u64, other: u64) -> Option<u64>
     ensures { result ≡ stamp_after one other }
 {
@@ -70,7 +70,7 @@ pub struct Incoming<A: Allocator = Global> {
 }
 
 impl<A: Allocator> Outgoing<A> {
-    /// The stamp of a send that spends the next place, if there is one. The place is spent.
+    /// Spends the next place, if there is one, and returns the stamp of the send that spends it.
     fn spend(&mut self, clock: u64) -> Option<u64>
         ensures frames { self.new.frames ≡ self.old.frames }
         ensures ring { SameConsumer self.old.places self.new.places }

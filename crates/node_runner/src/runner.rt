@@ -133,7 +133,7 @@ impl<A: Allocator> Runner<A> {
         }
     }
 
-    /// To each neighbour the node sends its frame, if a place is free for it.
+    /// The node sends its frame to each neighbour, if a place is free for it.
     fn send_all(&mut self)
         requires ready { IsReady self.old }
         requires room { length self.old.journal.entries.items + length self.old.ports.items
@@ -148,7 +148,7 @@ impl<A: Allocator> Runner<A> {
         }
     }
 
-    /// From each neighbour the node takes up to two items.
+    /// The node takes up to two items from each neighbour.
     fn take_all(&mut self)
         requires ready { IsReady self.old }
         requires room { length self.old.journal.entries.items + 2 * length self.old.ports.items
@@ -180,7 +180,8 @@ impl<A: Allocator> Runner<A> {
     }
 
     /// Does the turns of a node, each between the gate's two calls. What it did is in its journal,
-    /// which must have room: one entry a turn, and three more for each port. Takes no memory.
+    /// which must have room: for each turn one entry, and three more for each port. Takes no
+    /// memory.
     pub fn run<G: Gate>(&mut self, gate: &G, turns: u32)
         requires ready { IsReady self.old }
         requires room { length self.old.journal.entries.items + turns * round_room self.old

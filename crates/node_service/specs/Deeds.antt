@@ -62,8 +62,8 @@ pub record Became (kind : Deed → Type 0) (old new : NodeView) : Type 0 where
   pub kinds : All kind deeds
   pub leads : Leads (site_in old) deeds (state_of old) (state_of new)
 
--- The node ticked once, which says what became of the loan and whether the tick was a full one; and
--- then some tickets left.
+-- The node ticked once: `says` is what became of the loan and whether the tick was a full one. Then
+-- some tickets left.
 pub record Acts (says : Ticked) (old new : NodeView) : Type 0 where
   pub acted : NodeView
   pub act : says.act ≡ desk_act (state_of old).desk (state_of acted).desk

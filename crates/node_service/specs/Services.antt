@@ -12,7 +12,7 @@ pub data Service : Type 0 where
   Line : (t : ℕ) (line : ClientLine) → Service
   Goes : (t : ℕ) → Service
 
--- the deeds that services are
+-- the deeds of which services consist
 abbrev pub deeds_of_all : List Service → List Deed
 deeds_of_all [] = []
 deeds_of_all (Line t line ∷ rest) = deeds_of_line t line ++ deeds_of_all rest
@@ -26,7 +26,7 @@ lines_of t (Line u line ∷ rest) s =
     (if u == t then (line, s) ∷ [] else []) ++ lines_of t rest (after_line u line s)
 lines_of t (Goes u ∷ rest) s = lines_of t rest (record s { desk = after_leave u s.desk })
 
--- only tickets leave that no connected client has
+-- the only tickets that leave are those that no connected client has
 abbrev pub AreGone : (ℕ → Bool) → List Service → Type 0
 AreGone connected [] = ⊤
 AreGone connected (Line t line ∷ rest) = AreGone connected rest

@@ -13,15 +13,16 @@ use Rattle.node_service.specs.NotesView.{NotesView}
 use Rattle.node_service.specs.Services.{AreGone, deeds_of_all, lines_of, Service}
 use Rattle.node_connections.specs.Said.{IsSaid}
 
--- the answers to these lines of the client with ticket t, one after the other; each with the state in
--- which the node was
+-- the answers to these lines of the client with ticket t, one after the other; each line comes with
+-- the state in which the node was
 abbrev pub answers_to : Site → ℕ → List (ClientLine × LocalState) → List ℕ
 answers_to site t [] = []
 answers_to site t (asked ∷ rest) = answer_text site t asked.0 asked.1 ++ answers_to site t rest
 
 module _ {P A : Type 0} (took : P → Option (List ℕ)) where
-  -- By some services a node became what it is; just their deeds were noted, and only tickets of clients that
-  -- are gone left. Each client had such lines and answers, and those answers, and nothing else, were said to it.
+  -- A node became what it is by some services. Just their deeds were noted, and the only tickets
+  -- that left are those of clients that are gone. Each client had such lines and answers; those
+  -- answers, and nothing else, were said to it.
   pub record Serves (served : ℕ → List ClientLine → List ℕ → Type 0) (before after : NodeView)
       (noted notes : NotesView) (old new : Clients P A) : Type 0 where
     pub services : List Service

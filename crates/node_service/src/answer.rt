@@ -10,8 +10,8 @@ use std::alloc::Allocator;
 /// The most bytes of an answer.
 pub(crate) const ANSWER: usize = 96;
 
-/// Does what the line of the client with this ticket asks for. The answer goes to the front of
-/// `text`, with its newline. Its length is returned: 0 if there is none.
+/// Does what the line of the client with this ticket asks for. Writes the answer to the front of
+/// `text`, with its newline, and returns its length: 0 if there is none.
 pub(crate) fn answer<A: Allocator>(
     node: &mut Node<A>,
     ticket: u16,

@@ -10,7 +10,7 @@ use std::alloc::{AllocError, Allocator, Global};
 use std::marker::Model;
 use topology::Frame;
 
-/// How many deeds are noted at most: far more than a usual turn has, and so many fit into the page
+/// The most deeds that are noted: far more than a usual turn has, and this many fit into the page
 /// of a record.
 const ROOM: usize = 1024;
 
@@ -19,7 +19,7 @@ const ROOM: usize = 1024;
 #[derive(Drop)]
 pub struct Notes<A: Allocator = Global> {
     deeds: Option<Vec<Deed, A>>,
-    /// There was no room for one of them.
+    /// There was no room for one of the deeds.
     is_torn: bool,
 }
 
@@ -34,7 +34,7 @@ impl<A: Allocator> Model for Notes<A> {
 }
 
 impl<A: Allocator> Notes<A> {
-    /// No room for any deed.
+    /// Notes without room for any deed.
     pub fn none() -> Notes<A>
         ensures { (result.deeds ≡ []) × (result.room ≡ 0) × (result.is_torn ≡ false) }
     {
@@ -44,7 +44,7 @@ impl<A: Allocator> Notes<A> {
         }
     }
 
-    /// Room for the deeds of a turn. `AllocError` comes only if memory is refused.
+    /// Notes with room for the deeds of a turn. `AllocError` comes only if memory is refused.
     pub fn with_room(alloc: A) -> Result<Notes<A>, AllocError>
         ensures { IfOk result (λ notes. (notes.deeds ≡ []) × (notes.room ≡ 1024)
             × (notes.is_torn ≡ false)) }
@@ -65,14 +65,14 @@ impl<A: Allocator> Notes<A> {
         }
     }
 
-    /// Whether these are all.
+    /// Whether no deed is missing.
     pub fn has_all(&self) -> bool
         ensures { result ≡ not self.now.is_torn }
     {
         !self.is_torn
     }
 
-    /// Nothing is noted any more.
+    /// Forgets all that was noted, as at the start of a turn.
     pub fn begin(&mut self)
         ensures { self.new ≡ emptied self.old }
     {

@@ -24,7 +24,7 @@ use node_connections::{Pipe, ReadAnswer};
 use node_core::{Node, Ticked};
 use std::alloc::Allocator;
 
-/// A ticket leaves, if it waits or borrows.
+/// Has a ticket leave, if it waits or borrows.
 fn leave<A: Allocator>(node: &mut Node<A>, notes: &mut Notes<A>, ticket: u16)
     ensures state { state_of node.new ≡ record (state_of node.old) {
       desk = after_leave ticket (state_of node.old).desk;
@@ -51,7 +51,7 @@ fn dismiss<P: Pipe, A: Allocator + Copy>(
     ensures others { OthersStay ticket clients.old clients.new }
     ensures answers { clients.new.answers ≡ clients.old.answers }
 {
-    // The desk is in range, which the prover needs: a borrower does not wait.
+    // The prover needs to know that the desk is in range: a borrower does not wait.
     let _known_ranges = node.ranges();
     clients.close(ticket);
     leave(node, notes, ticket);
@@ -86,7 +86,7 @@ pub fn serve_all<P: Pipe, A: Allocator + Copy>(
 ) -> bool
     // A client whose read says that it is gone is no longer connected.
     ensures lives { LiveOn P.gave P.took P.counts clients.old clients.new }
-    // A client that is no longer connected is gone by what a read said, or had no room for an answer.
+    // A client that is no longer connected was gone, as a read said, or had no room for an answer.
     ensures serves { Serves P.took (IsServed P.gave P.took P.counts clients.old clients.new)
         node.old node.new notes.old notes.new clients.old clients.new }
     // Each client that is still there was read.
@@ -191,7 +191,7 @@ fn serve_line<P: Pipe, A: Allocator + Copy>(
     }
 }
 
-/// Each ticket that waits or borrows and is no connected client's leaves.
+/// Has each ticket leave that waits or borrows and is no connected client's.
 pub fn leave_absent<P: Pipe, A: Allocator + Copy>(
     node: &mut Node<A>,
     notes: &mut Notes<A>,
@@ -205,7 +205,7 @@ pub fn leave_absent<P: Pipe, A: Allocator + Copy>(
     leave_waiting(node, notes, clients);
 }
 
-/// The borrower leaves, if it is no connected client.
+/// Has the borrower leave, if it is no connected client.
 fn leave_lent<P: Pipe, A: Allocator + Copy>(
     node: &mut Node<A>,
     notes: &mut Notes<A>,
@@ -216,7 +216,7 @@ fn leave_lent<P: Pipe, A: Allocator + Copy>(
     ensures connected { (t : ℕ) → is_ticket (state_of node.new).desk.lent t ≡ true
         → is_connected clients.now t ≡ true }
 {
-    // The desk is in range, which the prover needs: a borrower does not wait.
+    // The prover needs to know that the desk is in range: a borrower does not wait.
     let _known_ranges = node.ranges();
     let Some(ticket) = node.lent() else {
         return;
@@ -226,7 +226,7 @@ fn leave_lent<P: Pipe, A: Allocator + Copy>(
     }
 }
 
-/// Each ticket that waits and is no connected client's leaves.
+/// Has each ticket leave that waits and is no connected client's.
 fn leave_waiting<P: Pipe, A: Allocator + Copy>(
     node: &mut Node<A>,
     notes: &mut Notes<A>,
@@ -249,7 +249,7 @@ fn leave_waiting<P: Pipe, A: Allocator + Copy>(
     }
 }
 
-/// One tick of the node. The client whose loan it began or ended hears of it.
+/// Ticks the node once. The client whose loan the tick began or ended hears of it.
 pub fn tick<P: Pipe, A: Allocator + Copy>(
     node: &mut Node<A>,
     notes: &mut Notes<A>,
@@ -272,7 +272,7 @@ pub fn tick<P: Pipe, A: Allocator + Copy>(
     ticked
 }
 
-/// Writes once to each client for whom answers wait, and closes each to which that fails.
+/// Writes once to each client for which answers wait, and closes each for which the write fails.
 pub fn write_all<P: Pipe, A: Allocator + Copy>(
     node: &mut Node<A>,
     notes: &mut Notes<A>,

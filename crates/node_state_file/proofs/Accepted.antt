@@ -14,8 +14,8 @@ use Rattle.state_writing.specs.node_core.lock_desk.Desk.{no_desk}
 use Rattle.state_writing.specs.node_core.registers.Rewire.{is_among, rewired_ports, rewired_values}
 use Rattle.state_writing.specs.node_core.State.{LocalState}
 use Rattle.state_writing.specs.node_core.Rewire.{rewired}
-use Rattle.state_writing.specs.declared.layout.Layout.{Layout}
-use Rattle.state_writing.specs.declared.layout.Layout.TheVariants.{Tkt1, Tkt2}
+use Rattle.state_writing.specs.declared.layout.FileLayout.{FileLayout}
+use Rattle.state_writing.specs.declared.layout.FileLayout.TheVariants.{Tkt1, Tkt2}
 use Rattle.node_state_file.specs.declared.saved.Header.{Header}
 use Rattle.node_state_file.specs.declared.saved.SavedPort.{SavedPort}
 use Rattle.state_writing.specs.Spelling.{header_numbers, parent_number, port_numbers, spelling}
@@ -23,12 +23,12 @@ use Rattle.node_state_file.specs.Reading.{are_ascending, are_others, decoded, fi
 use Rattle.node_state_file.specs.Laws.{IsSavable, MayBeNeighbours}
 use Rattle.node_state_file.proofs.ReadAgain.{IsSmall, bytes_of, parent_again, parent_small, plain, ports_long, ports_read, read_at, saved}
 
-abbrev capacity_of : Layout → ℕ → Option ℕ
+abbrev capacity_of : FileLayout → ℕ → Option ℕ
 capacity_of Tkt1 capacity = None
 capacity_of Tkt2 capacity = Some capacity
 
 -- the header that a state is spelled with
-abbrev header : Layout → Network → ℕ → ℕ → LocalState → Header
+abbrev header : FileLayout → Network → ℕ → ℕ → LocalState → Header
 header l net id degree s = record {
   nodes = net.nodes;
   id = id;
@@ -38,16 +38,16 @@ header l net id degree s = record {
   parent = s.parent;
 }
 
-layout_read : (l : Layout) (net : Network) (id : ℕ) (ids : List ℕ) (s : LocalState) → layout_of (spelling l net id ids s) ≡ Some l
+layout_read : (l : FileLayout) (net : Network) (id : ℕ) (ids : List ℕ) (s : LocalState) → layout_of (spelling l net id ids s) ≡ Some l
 layout_read Tkt1 net id ids s = refl
 layout_read Tkt2 net id ids s = refl
 
-ports_after : (l : Layout) (net : Network) (id : ℕ) (ids : List ℕ) (s : LocalState)
+ports_after : (l : FileLayout) (net : Network) (id : ℕ) (ids : List ℕ) (s : LocalState)
     → drop (header_length l) (spelling l net id ids s) ≡ bytes_of (flat_map (port_numbers s) ids)
 ports_after Tkt1 net id ids s = refl
 ports_after Tkt2 net id ids s = refl
 
-header_there : (l : Layout) (net : Network) (id : ℕ) (ids : List ℕ) (s : LocalState) → header_length l ≤ length (spelling l net id ids s)
+header_there : (l : FileLayout) (net : Network) (id : ℕ) (ids : List ℕ) (s : LocalState) → header_length l ≤ length (spelling l net id ids s)
 header_there Tkt1 net id ids s = omega arith
 header_there Tkt2 net id ids s = omega arith
 
@@ -55,7 +55,7 @@ same_header : (a b : Header) → a.nodes ≡ b.nodes → a.id ≡ b.id → a.cap
 same_header a b nodes id capacity degree distance parent i =
     record { nodes = nodes i; id = id i; capacity = capacity i; degree = degree i; distance = distance i; parent = parent i }
 
-header_read : (l : Layout) (net : Network) (id : ℕ) (ids : List ℕ) (s : LocalState) → AllByRecursion IsSmall (header_numbers l net id (length ids) s)
+header_read : (l : FileLayout) (net : Network) (id : ℕ) (ids : List ℕ) (s : LocalState) → AllByRecursion IsSmall (header_numbers l net id (length ids) s)
     → parent_of (parent_number s.parent) ≡ s.parent → header_of l (spelling l net id ids s) ≡ header l net id (length ids) s
 header_read Tkt1 net id ids s small again =
     let xs = header_numbers Tkt1 net id (length ids) s in
@@ -68,14 +68,14 @@ header_read Tkt2 net id ids s small again =
     same_header _ _ (read_at xs rest 0 (omega arith) small) (read_at xs rest 1 (omega arith) small) (ap Some (read_at xs rest 2 (omega arith) small))
     (read_at xs rest 3 (omega arith) small) (read_at xs rest 4 (omega arith) small) (ap parent_of (read_at xs rest 5 (omega arith) small) ∙ again)
 
-header_small : (l : Layout) (net : Network) (id degree : ℕ) (s : LocalState) → net.nodes ≤ 64 → net.capacity ≤ 4096 → id < net.nodes → degree < net.nodes → s.distance ≤ net.nodes
+header_small : (l : FileLayout) (net : Network) (id degree : ℕ) (s : LocalState) → net.nodes ≤ 64 → net.capacity ≤ 4096 → id < net.nodes → degree < net.nodes → s.distance ≤ net.nodes
     → parent_number s.parent < 65536 → AllByRecursion IsSmall (header_numbers l net id degree s)
 header_small Tkt1 net id degree s most capacity inside few near parent =
     (omega arith, (omega arith, (omega arith, (omega arith, (parent, tt)))))
 header_small Tkt2 net id degree s most capacity inside few near parent =
     (omega arith, (omega arith, (omega arith, (omega arith, (omega arith, (parent, tt))))))
 
-header_fits : (l : Layout) (net : Network) (id degree : ℕ) (s : LocalState) → 1 ≤ degree → degree < net.nodes → is_header_of net id (header l net id degree s) ≡ true
+header_fits : (l : FileLayout) (net : Network) (id degree : ℕ) (s : LocalState) → 1 ≤ degree → degree < net.nodes → is_header_of net id (header l net id degree s) ≡ true
 header_fits Tkt1 net id degree s some few = grind (arith, nat_tests, some, few)
 header_fits Tkt2 net id degree s some few = grind (arith, nat_tests, some, few)
 
@@ -123,7 +123,7 @@ abbrev with_ports : LocalState → (ℕ → PortState) → (ℕ → ℕ) → Loc
 with_ports s p v = record { distance = s.distance; parent = s.parent; port = p; value = v; desk = no_desk }
 
 -- the ports that were spelled give the state, re-matched
-matched_again : (l : Layout) (net : Network) (id degree : ℕ) (ids : List ℕ) (s : LocalState)
+matched_again : (l : FileLayout) (net : Network) (id degree : ℕ) (ids : List ℕ) (s : LocalState)
     → matched net id (header l net id degree s) (map (saved s) ids) ≡ record (rewired (ranges_of net) ids (neighbours_of net id) s) { desk = no_desk }
 matched_again l net id degree ids s =
     let r = ranges_of net in
@@ -135,7 +135,7 @@ matched_again l net id degree ids s =
     ∙ ap (λ (v : ℕ → ℕ). with_ports s (rewired_ports r ids new s.port) v) (fun_ext (value_again s ids new))
 
 -- if all tests hold there is no fault
-no_fault : (net : Network) (id : ℕ) (l : Layout) (bytes : List ℕ) (h : Header) (rest : List ℕ) (ports : List SavedPort) → header_length l ≤ length bytes
+no_fault : (net : Network) (id : ℕ) (l : FileLayout) (bytes : List ℕ) (h : Header) (rest : List ℕ) (ports : List SavedPort) → header_length l ≤ length bytes
     → header_of l bytes ≡ h → drop (header_length l) bytes ≡ rest → ports_in h.degree rest ≡ ports → is_header_of net id h ≡ true → length rest ≡ 20 * h.degree
     → are_others net.nodes id ports ≡ true → fields_fit (ranges_of net) h ports ≡ true → first_fault net id l bytes ≡ None
 no_fault net id l bytes h rest ports there h_is rest_is ports_are header long others fields =
@@ -144,7 +144,7 @@ no_fault net id l bytes h rest ports there h_is rest_is ports_are header long ot
     let c : nat_lt (20 * h.degree) (length rest) ≡ false = grind (arith, nat_tests, long) in
     rw (h_is, rest_is, ports_are, a, header, b, others, fields, c) refl
 
-pub accepted : Limits → (net : Network) (id : ℕ) (l : Layout) (ids : List ℕ) (s : LocalState) → IsAcceptedNetwork net → id < net.nodes
+pub accepted : Limits → (net : Network) (id : ℕ) (l : FileLayout) (ids : List ℕ) (s : LocalState) → IsAcceptedNetwork net → id < net.nodes
     → MayBeNeighbours net.nodes id ids → IsSavable net ids s
     → decoded net id (spelling l net id ids s) ≡ Ok (record (rewired (ranges_of net) ids (neighbours_of net id) s) { desk = no_desk })
 accepted limits net id l ids s good inside may fits =

@@ -5,7 +5,7 @@ use Rattle.std.proofs.lemmas.List.{length-drop, take_all}
 use Rattle.topology.specs.Network.{Network}
 use Rattle.topology.specs.Ranges.{ranges_of}
 use Rattle.topology.specs.declared.frame.Ranges.{Ranges}
-use Rattle.state_writing.specs.declared.layout.Layout.{Layout}
+use Rattle.state_writing.specs.declared.layout.FileLayout.{FileLayout}
 use Rattle.node_state_file.specs.declared.fault.FileFault.{FileFault}
 use Rattle.node_state_file.specs.declared.fault.FileFault.TheVariants.{Short, Shape, Range, Long}
 use Rattle.node_state_file.specs.declared.saved.Header.{Header}
@@ -50,10 +50,10 @@ not_below : (a b x y : ℕ) → x ≡ a → y ≡ b → y ≤ x → nat_lt a b �
 not_below a b x y p q most = grind (arith, nat_tests)
 
 -- a slice to the end is what is left
-pub rest_is : (n : ℕ) (l : Layout) (bytes : List ℕ) → n ≡ header_length l → take (length bytes - n) (drop n bytes) ≡ drop (header_length l) bytes
+pub rest_is : (n : ℕ) (l : FileLayout) (bytes : List ℕ) → n ≡ header_length l → take (length bytes - n) (drop n bytes) ≡ drop (header_length l) bytes
 rest_is n l bytes is = take_all (length bytes - n) (drop n bytes) (omega (arith, length-drop n bytes)) ∙ ap (λ k. drop k bytes) is
 
-module _ (net : Network) (id : ℕ) (l : Layout) (bytes : List ℕ) where
+module _ (net : Network) (id : ℕ) (l : FileLayout) (bytes : List ℕ) where
   abbrev fault : Option FileFault
   fault = first_fault net id l bytes
 

@@ -6,7 +6,7 @@ use Rattle.topology.specs.Ranges.{ranges_of}
 use Rattle.state_writing.specs.node_core.State.{LocalState, default_node}
 use Rattle.node_state_file.specs.declared.fault.FileFault.{FileFault}
 use Rattle.node_state_file.specs.declared.fault.FileFault.TheVariants.{Short, Magic, Shape, Range, Long}
-use Rattle.state_writing.specs.declared.layout.Layout.TheVariants.{Tkt1, Tkt2}
+use Rattle.state_writing.specs.declared.layout.FileLayout.TheVariants.{Tkt1, Tkt2}
 use Rattle.state_writing.specs.Spelling.{spelling}
 use Rattle.node_state_file.specs.Reading.{decoded, first_fault, header_of, matched, ports_in}
 

@@ -4,7 +4,7 @@ use Rattle.topology.specs.Ranges.{ranges_of}
 use Rattle.topology.specs.declared.frame.Payload.{Payload}
 use Rattle.state_writing.specs.node_core.data_link.Port.{default_port}
 use Rattle.node_state_file.specs.declared.fault.FileFault.TheVariants.{Short, Magic, Range}
-use Rattle.state_writing.specs.declared.layout.Layout.TheVariants.{Tkt1, Tkt2}
+use Rattle.state_writing.specs.declared.layout.FileLayout.TheVariants.{Tkt1, Tkt2}
 use Rattle.node_state_file.specs.declared.saved.Header.{Header}
 use Rattle.node_state_file.specs.declared.saved.SavedPort.{SavedPort}
 use Rattle.node_state_file.specs.Reading.{layout_of, header_length, number_at, parent_of, payload_at, port_in, ids_of, is_capacity, is_header_of, are_ascending, are_others, saved_port_fits, fields_fit, found, port_or_new, value_or_new, state_saved, decoded_as, decoded_by}

@@ -7,8 +7,8 @@ use Rattle.state_writing.specs.node_core.lock_desk.Desk.{no_desk}
 use Rattle.state_writing.specs.node_core.Rewire.{rewired}
 use Rattle.state_writing.specs.node_core.State.{LocalState, default_node}
 use Rattle.node_state_file.specs.declared.fault.FileFault.TheVariants.{Long, Short}
-use Rattle.state_writing.specs.declared.layout.Layout.TheVariants.{Tkt1, Tkt2}
-use Rattle.state_writing.specs.declared.layout.Layout.{Layout}
+use Rattle.state_writing.specs.declared.layout.FileLayout.TheVariants.{Tkt1, Tkt2}
+use Rattle.state_writing.specs.declared.layout.FileLayout.{FileLayout}
 use Rattle.node_state_file.specs.declared.starting.StartFault.TheVariants as start
 use Rattle.node_state_file.specs.Laws.{MayBeNeighbours, IsSavable, IsSpelled}
 use Rattle.node_state_file.specs.Reading.{decoded}
@@ -87,7 +87,7 @@ spelled = record {
 }
 
 -- no bytes are the spelling of no state
-none-spelled : (layout : Layout) (rest : List ℕ) → [] ≡ magic layout ++ rest → ⊥
+none-spelled : (layout : FileLayout) (rest : List ℕ) → [] ≡ magic layout ++ rest → ⊥
 none-spelled Tkt1 rest e = grind (arith, e)
 none-spelled Tkt2 rest e = grind (arith, e)
 

@@ -18,8 +18,8 @@ use Rattle.state_writing.specs.node_core.State.{LocalState}
 use Rattle.state_writing.specs.node_core.Rewire.{rewired}
 use Rattle.node_state_file.specs.declared.fault.FileFault.{FileFault}
 use Rattle.node_state_file.specs.declared.fault.FileFault.TheVariants.{Short, Shape, Range, Long}
-use Rattle.state_writing.specs.declared.layout.Layout.{Layout}
-use Rattle.state_writing.specs.declared.layout.Layout.TheVariants.{Tkt1, Tkt2}
+use Rattle.state_writing.specs.declared.layout.FileLayout.{FileLayout}
+use Rattle.state_writing.specs.declared.layout.FileLayout.TheVariants.{Tkt1, Tkt2}
 use Rattle.node_state_file.specs.declared.saved.Header.{Header}
 use Rattle.node_state_file.specs.declared.saved.SavedPort.{SavedPort}
 use Rattle.state_writing.specs.Spelling.{header_numbers, magic, parent_number, payload_numbers, port_numbers, spelling}
@@ -160,7 +160,7 @@ ids-many zero bytes = refl
 ids-many (suc count) bytes = ap suc (ids-many count (drop 20 bytes))
 
 -- All that was looked at was as it should be.
-record Passed (net : Network) (id : ℕ) (l : Layout) (bytes : List ℕ) : Type 0 where
+record Passed (net : Network) (id : ℕ) (l : FileLayout) (bytes : List ℕ) : Type 0 where
   pub there : header_length l ≤ length bytes
   pub header : is_header_of net id (header_of l bytes) ≡ true
   pub long : length (drop (header_length l) bytes) ≡ 20 * (header_of l bytes).degree
@@ -178,7 +178,7 @@ no-test false true false true false f none = absurd (grind (arith, none))
 no-test false true false true true true none = absurd (grind (arith, none))
 no-test false true false true true false none = (refl, refl, refl, refl, refl, refl)
 
-passed : (net : Network) (id : ℕ) (l : Layout) (bytes : List ℕ) → first_fault net id l bytes ≡ None → Passed net id l bytes
+passed : (net : Network) (id : ℕ) (l : FileLayout) (bytes : List ℕ) → first_fault net id l bytes ≡ None → Passed net id l bytes
 passed net id l bytes none =
     let h = header_of l bytes in
     let rest = drop (header_length l) bytes in
@@ -193,17 +193,17 @@ passed net id l bytes none =
       fields = e;
     }
 
-read-as : (net : Network) (id : ℕ) (bytes : List ℕ) (l : Layout) (fault : Option FileFault) (s : LocalState) → decoded_as net id bytes l fault ≡ Ok s
+read-as : (net : Network) (id : ℕ) (bytes : List ℕ) (l : FileLayout) (fault : Option FileFault) (s : LocalState) → decoded_as net id bytes l fault ≡ Ok s
     → (fault ≡ None) × (matched net id (header_of l bytes) (ports_in (header_of l bytes).degree (drop (header_length l) bytes)) ≡ s)
 read-as net id bytes l (Some fault) s e = absurd (grind (arith, e))
 read-as net id bytes l None s e = (refl, grind (arith, e))
 
-read-by : (net : Network) (id : ℕ) (bytes : List ℕ) (named : Option Layout) (s : LocalState) → decoded_by net id bytes named ≡ Ok s
-    → (l : Layout) × (named ≡ Some l) × (first_fault net id l bytes ≡ None) × (matched net id (header_of l bytes) (ports_in (header_of l bytes).degree (drop (header_length l) bytes)) ≡ s)
+read-by : (net : Network) (id : ℕ) (bytes : List ℕ) (named : Option FileLayout) (s : LocalState) → decoded_by net id bytes named ≡ Ok s
+    → (l : FileLayout) × (named ≡ Some l) × (first_fault net id l bytes ≡ None) × (matched net id (header_of l bytes) (ports_in (header_of l bytes).degree (drop (header_length l) bytes)) ≡ s)
 read-by net id bytes None s e = absurd (grind (arith, e))
 read-by net id bytes (Some l) s e = let (none, is) = read-as net id bytes l (first_fault net id l bytes) s e in (l, refl, none, is)
 
-word-is : (l : Layout) (word : List ℕ) (a b : Bool) → bytes_eq word (magic Tkt1) ≡ a → bytes_eq word (magic Tkt2) ≡ b
+word-is : (l : FileLayout) (word : List ℕ) (a b : Bool) → bytes_eq word (magic Tkt1) ≡ a → bytes_eq word (magic Tkt2) ≡ b
     → (if a then Some Tkt1 else if b then Some Tkt2 else None) ≡ Some l → word ≡ magic l
 word-is Tkt1 word true b first second named = (bytes_eq-Decides word (magic Tkt1)).0 first
 word-is Tkt2 word true b first second named = absurd (grind (arith, named))
@@ -219,11 +219,11 @@ whole k bytes word numbers ports long small front middle back =
     ∙ ap (λ xs. xs ++ drop 4 bytes) (sym front)
     ∙ take-append-drop 4 bytes
 
-abbrev HeaderNumbers : Layout → Network → ℕ → List ℕ → ℕ → LocalState → Type 0
+abbrev HeaderNumbers : FileLayout → Network → ℕ → List ℕ → ℕ → LocalState → Type 0
 HeaderNumbers Tkt1 net id bytes degree s = header_numbers Tkt1 net id degree s ≡ numbers_from 5 4 bytes
 HeaderNumbers Tkt2 net id bytes degree s = header_numbers Tkt2 net id degree s ≡ numbers_from 6 4 bytes
 
-header-back : (l : Layout) (net : Network) (id : ℕ) (bytes : List ℕ) (s : LocalState) → is_header_of net id (header_of l bytes) ≡ true
+header-back : (l : FileLayout) (net : Network) (id : ℕ) (bytes : List ℕ) (s : LocalState) → is_header_of net id (header_of l bytes) ≡ true
     → s.distance ≡ (header_of l bytes).distance → s.parent ≡ (header_of l bytes).parent → HeaderNumbers l net id bytes (header_of l bytes).degree s
 header-back Tkt1 net id bytes s fits distance parent =
     let n : ℕ → ℕ = number_at bytes in
@@ -239,7 +239,7 @@ header-back Tkt2 net id bytes s fits distance parent =
     let last : parent_number s.parent ≡ n 14 = ap parent_number parent ∙ parent-back (n 14) in
     λ i. nodes i ∷ own i ∷ capacity i ∷ n 10 ∷ distance i ∷ last i ∷ []
 
-spelled-again : (l : Layout) (net : Network) (id : ℕ) (bytes ids : List ℕ) (s : LocalState) → header_length l ≤ length bytes → AllByRecursion IsByte bytes
+spelled-again : (l : FileLayout) (net : Network) (id : ℕ) (bytes ids : List ℕ) (s : LocalState) → header_length l ≤ length bytes → AllByRecursion IsByte bytes
     → take 4 bytes ≡ magic l → HeaderNumbers l net id bytes (length ids) s → bytes_of (flat_map (port_numbers s) ids) ≡ drop (header_length l) bytes
     → spelling l net id ids s ≡ bytes
 spelled-again Tkt1 net id bytes ids s there small word header ports = whole 5 bytes (magic Tkt1) (header_numbers Tkt1 net id (length ids) s) (flat_map (port_numbers s) ids) there small word header ports

@@ -10,11 +10,11 @@ use Rattle.state_writing.specs.node_core.Writes.{own_fits}
 use Rattle.state_writing.specs.node_core.Rewire.{rewired}
 use Rattle.state_writing.specs.Spelling.{spelling, written}
 use Rattle.node_state_file.specs.Reading.{are_ascending, decoded}
-use Rattle.state_writing.specs.declared.layout.Layout.{Layout}
-use Rattle.state_writing.specs.declared.layout.Layout.TheVariants.{Tkt2}
+use Rattle.state_writing.specs.declared.layout.FileLayout.{FileLayout}
+use Rattle.state_writing.specs.declared.layout.FileLayout.TheVariants.{Tkt2}
 
--- These may have been a node's neighbours: ascending other nodes, at least one, and fewer than there
--- are nodes.
+-- These may have been a node's neighbours: other nodes in ascending order, at least one, and fewer
+-- than there are nodes.
 pub record MayBeNeighbours (nodes id : ℕ) (ids : List ℕ) : Type 0 where
   pub some : 1 ≤ length ids
   pub few : length ids < nodes
@@ -31,14 +31,14 @@ pub record IsSavable (net : Network) (ids : List ℕ) (s : LocalState) : Type 0 
 -- each spelling of a state in range, with whatever neighbours, is read as that state, re-matched to
 -- the neighbours of the network, with an empty desk
 abbrev pub SpellingsAreRead : Type 0
-SpellingsAreRead = (net : Network) (id : ℕ) (layout : Layout) (ids : List ℕ) (s : LocalState) → IsAcceptedNetwork net → id < net.nodes
+SpellingsAreRead = (net : Network) (id : ℕ) (layout : FileLayout) (ids : List ℕ) (s : LocalState) → IsAcceptedNetwork net → id < net.nodes
     → MayBeNeighbours net.nodes id ids → IsSavable net ids s
     → decoded net id (spelling layout net id ids s) ≡ Ok (record (rewired (ranges_of net) ids (neighbours_of net id) s) { desk = no_desk })
 
 -- The bytes are the spelling of a state in range, with these other nodes as its neighbours; and
 -- what is read is that state, re-matched to the neighbours of the network, with an empty desk.
 pub record IsSpelled (net : Network) (id : ℕ) (bytes : List ℕ) (s : LocalState) : Type 0 where
-  pub layout : Layout
+  pub layout : FileLayout
   pub ids : List ℕ
   pub saved : LocalState
   pub neighbours : MayBeNeighbours net.nodes id ids

@@ -15,20 +15,20 @@ use Rattle.state_writing.specs.node_core.Rewire.{rewired}
 use Rattle.state_writing.specs.Spelling.{magic}
 use Rattle.node_state_file.specs.declared.fault.FileFault.{FileFault}
 use Rattle.node_state_file.specs.declared.fault.FileFault.TheVariants.{Short, Magic, Shape, Range, Long}
-use Rattle.state_writing.specs.declared.layout.Layout.{Layout}
-use Rattle.state_writing.specs.declared.layout.Layout.TheVariants.{Tkt1, Tkt2}
+use Rattle.state_writing.specs.declared.layout.FileLayout.{FileLayout}
+use Rattle.state_writing.specs.declared.layout.FileLayout.TheVariants.{Tkt1, Tkt2}
 use Rattle.node_state_file.specs.declared.saved.Header.{Header}
 use Rattle.node_state_file.specs.declared.saved.SavedPort.{SavedPort}
 
 -- the layout that the first four bytes name
-abbrev pub layout_of : List ℕ → Option Layout
+abbrev pub layout_of : List ℕ → Option FileLayout
 layout_of bytes =
     if bytes_eq (take 4 bytes) (magic Tkt1) then Some Tkt1
     else if bytes_eq (take 4 bytes) (magic Tkt2) then Some Tkt2
     else None
 
--- how many bytes stand before the ports
-abbrev pub header_length : Layout → ℕ
+-- how many bytes come before the ports
+abbrev pub header_length : FileLayout → ℕ
 header_length Tkt1 = 14
 header_length Tkt2 = 16
 
@@ -41,7 +41,7 @@ abbrev pub parent_of : ℕ → Option ℕ
 parent_of n = if n == 65535 then None else Some n
 
 -- the header
-abbrev pub header_of : Layout → List ℕ → Header
+abbrev pub header_of : FileLayout → List ℕ → Header
 header_of Tkt1 bytes = record {
   nodes = number_at bytes 4;
   id = number_at bytes 6;
@@ -83,7 +83,7 @@ abbrev pub ports_in : ℕ → List ℕ → List SavedPort
 ports_in zero bytes = []
 ports_in (suc count) bytes = port_in bytes ∷ ports_in count (drop 20 bytes)
 
--- the ids of the neighbours that the file speaks of
+-- the ids of the neighbours that the file names
 abbrev pub ids_of : List SavedPort → List ℕ
 ids_of ports = map (λ p. p.neighbour) ports
 
@@ -92,8 +92,8 @@ abbrev pub is_capacity : Option ℕ → ℕ → Bool
 is_capacity None capacity = true
 is_capacity (Some saved) capacity = saved == capacity
 
--- the file is one of this node in a network of as many nodes and this capacity, and has a port, and
--- fewer than there are nodes
+-- the file is of this node in a network of this many nodes and this capacity, and has at least one
+-- port, but fewer than there are nodes
 abbrev pub is_header_of : Network → ℕ → Header → Bool
 is_header_of net id h =
     h.nodes == net.nodes && (h.id == id && (is_capacity h.capacity net.capacity && (nat_le 1 h.degree && nat_lt h.degree net.nodes)))
@@ -114,12 +114,12 @@ abbrev pub saved_port_fits : Ranges → SavedPort → Bool
 saved_port_fits r p =
     counters_fit r p.seq p.last && (payload_fits r p.staged && (payload_fits r p.copy && nat_lt p.value r.ring))
 
--- all fields are in their ranges, also those of ports to nodes that are no neighbours any more
+-- all fields are in their ranges, even those of ports to nodes that are no longer neighbours
 abbrev pub fields_fit : Ranges → Header → List SavedPort → Bool
 fields_fit r h ports = own_fits r h.distance h.parent && list_all (saved_port_fits r) ports
 
 -- the first fault of a file of this layout
-abbrev pub first_fault : Network → ℕ → Layout → List ℕ → Option FileFault
+abbrev pub first_fault : Network → ℕ → FileLayout → List ℕ → Option FileFault
 first_fault net id l bytes =
     let h = header_of l bytes in
     let rest = drop (header_length l) bytes in
@@ -163,14 +163,14 @@ matched net id h ports =
     rewired r (ids_of ports) (neighbours_of net id) (state_saved r h ports)
 
 -- a file of this layout is read as its first fault, or as its state
-abbrev pub decoded_as : Network → ℕ → List ℕ → Layout → Option FileFault → Result LocalState FileFault
+abbrev pub decoded_as : Network → ℕ → List ℕ → FileLayout → Option FileFault → Result LocalState FileFault
 decoded_as net id bytes l (Some fault) = Err fault
 decoded_as net id bytes l None =
     let h = header_of l bytes in
     Ok (matched net id h (ports_in h.degree (drop (header_length l) bytes)))
 
--- and a file whose first four bytes name no layout as Short or Magic
-abbrev pub decoded_by : Network → ℕ → List ℕ → Option Layout → Result LocalState FileFault
+-- and a file whose first four bytes name no layout is read as Short or Magic
+abbrev pub decoded_by : Network → ℕ → List ℕ → Option FileLayout → Result LocalState FileFault
 decoded_by net id bytes None = Err (if nat_lt (length bytes) 4 then Short else Magic)
 decoded_by net id bytes (Some l) = decoded_as net id bytes l (first_fault net id l bytes)
 

@@ -1,20 +1,22 @@
-//! Why bytes are no state of a node.
+//! Why bytes are not a state of a node.
 ghost use Rattle.std.specs.Prelude.{◌≡◌};
 ghost use Rattle.node_state_file.specs.declared.fault.FileFault.TheVariants.{Memory};
 
 use std::alloc::AllocError;
 use thiserror::Error;
 
-/// The refusals of a state file, in the order in which they are looked for; `Memory` at any point.
+/// The faults of a state file, in the order in which they are checked; `Memory` may come at any
+/// point.
 #[derive(Clone, Copy, Debug, PartialEq, Eq, Drop, Error)]
 pub enum FileFault {
-    /// There are fewer bytes than the magic word, the header or the file's own degree ask for.
+    /// There are fewer bytes than the magic word, the header or the file's own degree requires.
     #[error("Short")]
     Short,
     /// The first four bytes are neither `TKT1` nor `TKT2`.
     #[error("Magic")]
     Magic,
-    /// The file is of another network or node, or its neighbours are no ascending other nodes.
+    /// The file is of another network or node, it has a degree that no node may have, or its
+    /// neighbours are not other nodes in ascending order.
     #[error("Shape")]
     Shape,
     /// A field is not in its range.

@@ -8,13 +8,13 @@ use std::os::unix::fs::OpenOptionsExt;
 use std::rt::Files;
 use std::{fs, io};
 
-/// A state in a plain file, which only its owner may read and write. A save writes the whole in
-/// place, from the start, in one write, and then the length if it differs: it takes no second
-/// file, cuts nothing off before, and does not wait for the disk. So a file may be torn if the
-/// machine stops in between, which is damage like any other.
+/// A state in a plain file, which only its owner may read and write. A save writes all of the state
+/// in place, from the start of the file, in one write, and then sets the length if it differs: it
+/// uses no second file, cuts nothing off beforehand, and does not wait for the disk. So a file may
+/// be torn if the machine stops in between, which is damage like any other.
 ///
 /// A folder, a pipe or a device in the file's place is a failure of the store, and is not waited
-/// for, unless it takes the file's place between the look at it and its opening.
+/// for, unless it takes the file's place between the check and the opening.
 #[derive(Drop)]
 pub struct FileStore<'a, F> {
     files: &'a F,
@@ -64,7 +64,7 @@ impl<'a, F: Files> Store for FileStore<'a, F> {
     }
 }
 
-/// Reads the first bytes of a plain file, and says how many.
+/// Reads the first bytes of a plain file, and returns how many.
 fn read_front<F: Files>(files: &F, path: &str, buffer: &mut [u8; LOADED_BYTES]) -> io::Result<usize>
     ensures { IfOk result (λ count. count ≤ 1277) }
 {
@@ -75,7 +75,7 @@ fn read_front<F: Files>(files: &F, path: &str, buffer: &mut [u8; LOADED_BYTES]) 
     fill(&mut file, buffer)
 }
 
-/// Fills the buffer, or as much of it as there are bytes for, and says how many.
+/// Fills the buffer, or as much of it as there are bytes for, and returns how many it read.
 fn fill<R: Read>(file: &mut R, buffer: &mut [u8; LOADED_BYTES]) -> io::Result<usize>
     ensures { IfOk result (λ count. count ≤ 1277) }
 {
@@ -90,7 +90,7 @@ fn fill<R: Read>(file: &mut R, buffer: &mut [u8; LOADED_BYTES]) -> io::Result<us
     Ok(count)
 }
 
-/// Writes all of a plain file in place, in one write, and then its length if that differs.
+/// Writes all of a plain file in place, in one write, and then sets its length if that differs.
 fn write_in_place<F: Files>(files: &F, path: &str, bytes: &[u8]) -> io::Result<()> {
     look_for_others(files, path)?;
     let mut file = OpenOptions::new()
@@ -101,7 +101,7 @@ fn write_in_place<F: Files>(files: &F, path: &str, bytes: &[u8]) -> io::Result<(
     overwrite(&mut file, bytes)
 }
 
-/// Fails if something else than a plain file stands at a path; nothing may stand there.
+/// Fails if there is anything but a plain file at a path; there may be nothing.
 fn look_for_others<F: Files>(files: &F, path: &str) -> io::Result<()> {
     match fs::metadata(files, path) {
         Ok(found) if !found.is_file() => Err(io::Error::from(ErrorKind::InvalidInput)),
@@ -110,7 +110,7 @@ fn look_for_others<F: Files>(files: &F, path: &str) -> io::Result<()> {
     }
 }
 
-/// Writes all of an open file in one write, and then its length if that differs.
+/// Writes all of an open file in one write, and then sets its length if that differs.
 fn overwrite<O: OpenFile + Write>(file: &mut O, bytes: &[u8]) -> io::Result<()> {
     if file.write(bytes)? < bytes.len() {
         return Err(io::Error::from(ErrorKind::WriteZero));

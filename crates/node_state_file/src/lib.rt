@@ -1,12 +1,12 @@
 //! A node's state as the bytes of a file, and where it is kept.
 //!
-//! [`encode`] writes a state, in the layout `TKT2`, which the crate `state_writing` has, as it has
-//! the trait [`Store`]. [`decode`] reads those bytes, and the older `TKT1`, which has no capacity;
-//! whatever else stands there is reported by a [`FileFault`].
+//! [`encode`] writes a state in the layout `TKT2`. It comes from the crate `state_writing`, as does
+//! the trait [`Store`]. [`decode`] reads those bytes, and those of the older `TKT1`, which has no
+//! capacity; anything else is reported as a [`FileFault`].
 //!
-//! [`start`] gives a node at its start: the state that a [`Store`] holds, or the default state and
-//! what stood in the way. A program puts a [`FileStore`] after it, a test a [`MemoryStore`] or a
-//! [`FusedStore`], which fails once.
+//! [`start`] returns a node at its start: the state that a [`Store`] holds, or the default state
+//! and why no stored state was used. A program gives it a [`FileStore`]; a test gives it a
+//! [`MemoryStore`] or a [`FusedStore`], which fails once.
 //!
 //! ```
 //! let mut store = FileStore::new(&rt, "node-1.state");
@@ -15,11 +15,11 @@
 //! let saved = store.save(&bytes[..count]);
 //! ```
 //!
-//! This is no journal and no backup: any bytes may stand in the file, and every state in range is a
-//! possible start, from which the network recovers.
+//! This is neither a journal nor a backup: the file may hold any bytes, and every state in range is
+//! a possible start, from which the network recovers.
 //!
-//! The trap: a file that is accepted may be of another day. Its ports to nodes that are no
-//! neighbours any more are dropped, and nothing shows that it is old.
+//! The trap: a file that is accepted may be old. Its ports to nodes that are no longer neighbours
+//! are dropped, and nothing shows its age.
 #![tactic(auto)]
 
 mod fault;

@@ -5,7 +5,8 @@ ghost use Rattle.std.specs.Prelude.{vec_capacity, option_map};
 use state_writing::{LOADED_BYTES, Store, StoreFault};
 use std::alloc::{AllocError, Allocator, Global};
 
-/// A store over memory, with room that its maker reserved. It fails if that is too small.
+/// A store over memory, with the room that was reserved when it was made. It fails if that is too
+/// small.
 #[derive(Drop)]
 pub struct MemoryStore<A: Allocator + Copy = Global> {
     bytes: Vec<u8, A>,
@@ -14,8 +15,8 @@ pub struct MemoryStore<A: Allocator + Copy = Global> {
 }
 
 impl<A: Allocator + Copy> MemoryStore<A> {
-    /// A store with nothing in it, and room for `room` bytes. All memory is reserved here;
-    /// `AllocError` comes only if that is refused.
+    /// A store with nothing in it, and room for `room` bytes. All memory is reserved here; it
+    /// returns `AllocError` only if that is refused.
     pub fn new(alloc: A, room: usize) -> Result<MemoryStore<A>, AllocError>
         ensures empty { IfOk result (λ store. store.is_present ≡ false) }
         ensures room { IfOk result (λ store. room ≤ vec_capacity store.bytes) }

@@ -13,7 +13,7 @@ pub(crate) fn number_at(bytes: &[u8], at: usize) -> u16
     BigEndian::read_u16(&bytes[at..])
 }
 
-/// The parent that stands at a place.
+/// The parent at a place.
 pub(crate) fn parent_at(bytes: &[u8], at: usize) -> Option<u16>
     requires { at + 2 ≤ length bytes.now }
     ensures { result ≡ parent_of (number_at bytes.now at) }

@@ -1,4 +1,4 @@
-//! Bytes are read as a node's state.
+//! Reads bytes as a node's state.
 ghost use Rattle.std.specs.Prelude.{◌≡◌, ◌≢◌, ◌≤◌, ◌<◌, ◌+◌, ◌*◌, Ok, Err, Some, IfOk, IfErr, IsTrue};
 ghost use Rattle.std.specs.Prelude.{Contains, nat_lt, not, ◌&&◌, ◌==◌, length};
 ghost use Rattle.std.specs.List.{list_all};
@@ -17,19 +17,19 @@ use crate::fault::FileFault;
 use crate::layout::{header_length, layout_of};
 use crate::saved::{Header, SavedPort};
 use arrayvec::ArrayVec;
-use state_writing::{Layout, NodeState};
+use state_writing::{FileLayout, NodeState};
 use std::alloc::Allocator;
 use topology::{Net, Ranges};
 
 /// Reads the state of node `id` of a network. Both layouts are read. The ports to nodes that are no
-/// neighbours any more are dropped, a new neighbour's port is as at the start, and the desk is
-/// empty.
+/// longer neighbours are dropped, a new neighbour's port is as at the start, and the desk is empty.
 ///
 /// # Errors
-/// The first that holds, looked for in this order: `Short` under 4 bytes; `Magic`;
-/// `Short` under the header's length; `Shape` if the header is of another network or node;
-/// `Short` under what the file's own degree asks for; `Shape` if the neighbours are no ascending
-/// other nodes; `Range`; `Long`. `Memory` comes at any point.
+/// The first of these that holds, in this order: `Short` if there are fewer than 4 bytes; `Magic`;
+/// `Short` if there are fewer bytes than the header has; `Shape` if the header is of another
+/// network or node, or has a degree that no node may have; `Short` if there are fewer bytes than
+/// the file's own degree requires; `Shape` if the neighbours are not other nodes in ascending
+/// order; `Range`; `Long`. `Memory` may come at any point.
 pub fn decode<A: Allocator + Copy, N: Allocator + Copy>(
     alloc: A,
     bytes: &[u8],
@@ -48,14 +48,14 @@ pub fn decode<A: Allocator + Copy, N: Allocator + Copy>(
     Ok(node)
 }
 
-/// What a file says of its node.
+/// What a file says about its node.
 #[derive(Drop)]
 pub(crate) struct SavedState {
     pub header: Header,
     pub ports: ArrayVec<SavedPort, 63>,
 }
 
-/// What a file says of node `id` of a network; all of it is in range.
+/// What a file says about node `id` of a network; all of it is in range.
 pub(crate) fn read_file<N: Allocator + Copy>(
     bytes: &[u8],
     net: &Net<N>,
@@ -75,9 +75,9 @@ pub(crate) fn read_file<N: Allocator + Copy>(
     }
 }
 
-/// What a file of this layout says of node `id` of a network; all of it is in range.
+/// What a file of this layout says about node `id` of a network; all of it is in range.
 fn read_as<N: Allocator + Copy>(
-    layout: Layout,
+    layout: FileLayout,
     bytes: &[u8],
     net: &Net<N>,
     id: u16,
@@ -115,7 +115,7 @@ fn read_as<N: Allocator + Copy>(
     Ok(SavedState { header, ports })
 }
 
-/// The first ports of these bytes.
+/// The first `count` ports of these bytes.
 fn read_ports(bytes: &[u8], count: u16) -> ArrayVec<SavedPort, 63>
     requires most { count ≤ 63 }
     requires there { 20 * count ≤ length bytes.now }
@@ -147,7 +147,7 @@ fn are_ascending(ports: &[SavedPort]) -> bool
     true
 }
 
-/// Whether each neighbour is another node.
+/// Whether each neighbour is another node of the network.
 fn are_other_nodes(ports: &[SavedPort], nodes: u16, id: u16) -> bool
     ensures { result ≡ list_all
         (λ p. nat_lt p.neighbour nodes && not (p.neighbour == id)) ports.now }
@@ -183,7 +183,7 @@ fn found(ports: &[SavedPort], neighbour: u16) -> Option<SavedPort>
     None
 }
 
-/// Writes what a file says of a node that is as at the start.
+/// Writes what a file says into a node that is as at the start.
 pub(crate) fn restore<A: Allocator, N: Allocator + Copy>(
     node: &mut NodeState<A>,
     net: &Net<N>,
@@ -212,7 +212,8 @@ fn write_port<A: Allocator>(node: &mut NodeState<A>, neighbour: u16, port: Saved
     requires fits { IsTrue (saved_port_fits (site_in node.old).ranges port) }
     ensures state { state_of node.new
         ≡ record (state_of node.old) {
-          port = at (state_of node.old).port neighbour (record { seq = port.seq; last = port.last; staged = port.staged; copy = port.copy });
+          port = at (state_of node.old).port neighbour
+              (record { seq = port.seq; last = port.last; staged = port.staged; copy = port.copy });
           value = at (state_of node.old).value neighbour port.value;
         } }
     ensures site { site_in node.new ≡ site_in node.old }

@@ -1,4 +1,4 @@
-//! What a state file says, before anything is believed of it.
+//! What a state file says, before any of it is believed.
 ghost use Rattle.std.specs.Prelude.{IsTrue, ◌≡◌, ◌≤◌, ◌+◌, ◌*◌, length};
 ghost use Rattle.topology.specs.Ranges.{ranges_of};
 ghost use Rattle.state_writing.specs.node_core.Writes.{own_fits};
@@ -7,18 +7,18 @@ ghost use Rattle.node_state_file.specs.Reading.{port_in, ports_in, ids_of, are_o
 ghost use Rattle.node_state_file.specs.Reading.{saved_port_fits, fields_fit};
 
 use crate::number::{number_at, parent_at};
-use state_writing::Layout;
+use state_writing::FileLayout;
 use std::alloc::Allocator;
 use topology::{Net, Payload, Ranges};
 
-/// What stands before the ports.
+/// What comes before the ports.
 #[derive(Clone, Copy, Debug, PartialEq, Eq)]
 pub(crate) struct Header {
     /// How many nodes the network has.
     pub nodes: u16,
     /// The node's id.
     pub id: u16,
-    /// How many items a link holds, if the layout has it.
+    /// How many items a link holds, if the layout has this number.
     pub capacity: Option<u16>,
     /// How many ports follow.
     pub degree: u16,
@@ -30,13 +30,13 @@ pub(crate) struct Header {
 
 impl Header {
     /// The header of a file.
-    pub fn read(layout: Layout, bytes: &[u8]) -> Header
+    pub fn read(layout: FileLayout, bytes: &[u8]) -> Header
         requires { header_length layout ≤ length bytes.now }
         ensures { result ≡ header_of layout bytes.now }
     {
         let (capacity, at) = match layout {
-            Layout::Tkt1 => (None, 8),
-            Layout::Tkt2 => (Some(number_at(bytes, 8)), 10),
+            FileLayout::Tkt1 => (None, 8),
+            FileLayout::Tkt2 => (Some(number_at(bytes, 8)), 10),
         };
         Header {
             nodes: number_at(bytes, 4),
@@ -48,7 +48,7 @@ impl Header {
         }
     }
 
-    /// Whether it is one of a node of a network, with a degree that a node may have.
+    /// Whether it is the header of this node of the network, with a degree that a node may have.
     pub fn is_of<N: Allocator + Copy>(&self, net: &Net<N>, id: u16) -> bool
         ensures header { result ≡ is_header_of net.now id self.now }
         ensures few { IsTrue result → self.now.degree ≤ 63 }
@@ -70,7 +70,7 @@ impl Header {
     }
 }
 
-/// What a file says of one port.
+/// What a file says about one port.
 #[derive(Clone, Copy, Debug, PartialEq, Eq)]
 pub(crate) struct SavedPort {
     /// The neighbour's id.
@@ -127,7 +127,7 @@ fn payload_at(bytes: &[u8], at: usize) -> Payload
     }
 }
 
-/// A port of which nothing is said: what stands at the free places of a list of ports.
+/// A port about which nothing is said: it fills the free places of a list of ports.
 impl Default for SavedPort {
     fn default() -> SavedPort {
         let blank = Payload {

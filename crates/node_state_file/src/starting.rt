@@ -1,4 +1,4 @@
-//! A node starts from what is stored.
+//! Starts a node from what is stored.
 ghost use Rattle.std.specs.Prelude.{◌≡◌, ℕ, ◌<◌, ◌≤◌, List, Ok, Err, IfOk, IfErr, IsTrue, None};
 ghost use Rattle.std.specs.Prelude.{Some};
 ghost use Rattle.topology.specs.Ranges.{ranges_of};
@@ -15,10 +15,10 @@ use std::alloc::{AllocError, Allocator};
 use thiserror::Error;
 use topology::Net;
 
-/// What stood in the way of a stored state.
+/// Why no stored state was used.
 #[derive(Clone, Copy, Debug, PartialEq, Eq, Drop, Error)]
 pub enum StartFault {
-    /// What is stored is no state of the node.
+    /// What is stored is not a state of the node.
     #[error("{0}")]
     File(FileFault),
     /// Nothing is stored.
@@ -34,12 +34,13 @@ pub enum StartFault {
 pub struct Started<A: Allocator> {
     /// The state that was stored, or the default state.
     pub state: NodeState<A>,
-    /// What stood in the way of a stored state, if the state is the default one.
+    /// Why no stored state was used; none if one was.
     pub fault: Option<StartFault>,
 }
 
 /// Starts node `id` of a network with the state that is stored, or with the default state if the
-/// file or the store has a fault. If memory is refused there is no node, and `AllocError` comes.
+/// file or the store has a fault. If memory is refused, there is no node, and it returns
+/// `AllocError`.
 pub fn start<A: Allocator + Copy, N: Allocator + Copy, S: Store>(
     alloc: A,
     store: &mut S,
@@ -71,11 +72,13 @@ fn read_store<N: Allocator + Copy, S: Store>(
     id: u16,
 ) -> Result<SavedState, StartFault>
     ensures ok { IfOk result (λ saved.
-        Starts net.now id (S.stored store.old) (S.failures store.old) (S.failures store.new) None (matched net.now id saved.header saved.ports.items)) }
+        Starts net.now id (S.stored store.old) (S.failures store.old) (S.failures store.new) None
+        (matched net.now id saved.header saved.ports.items)) }
     ensures fits { IfOk result
         (λ saved. IsTrue (fields_fit (ranges_of net.now) saved.header saved.ports.items)) }
     ensures err { IfErr result (λ fault.
-        Starts net.now id (S.stored store.old) (S.failures store.old) (S.failures store.new) (Some fault) (default_node (ranges_of net.now))) }
+        Starts net.now id (S.stored store.old) (S.failures store.old) (S.failures store.new)
+        (Some fault) (default_node (ranges_of net.now))) }
     ensures stored { S.stored store.new ≡ S.stored store.old }
 {
     let mut buffer = [0; LOADED_BYTES];

@@ -6,8 +6,8 @@ use Rattle.node_stopping.specs.declared.steps.LockSight.TheVariants.{Free, Held,
 use Rattle.node_stopping.specs.declared.steps.StopStep.{StopStep}
 use Rattle.node_stopping.specs.declared.steps.StopStep.TheVariants.{Ask, Wait, Done}
 
--- a node that runs is asked once, and waited for until the time is over; one that is not seen to run has ended if it was
--- asked, and else did not run
+-- a node that runs is asked once, and then waited for until the time is over; one that does not run has ended if it was
+-- asked, and else did not run; one whose lock file cannot be seen is done with at once
 abbrev pub next : LockSight → Bool → Bool → StopStep
 next Hidden was_asked is_late = Done ending.Hidden
 next Free true is_late = Done ending.Ended

@@ -5,10 +5,10 @@
 //! warn_of_runner(rt, "/run/nodes/state-1.tkt");         // says so if node 1 runs there
 //! ```
 //!
-//! A node runs if its lock file is held. What is done with one that is to end [`next`] decides, by what was
-//! seen of that file; the rest asks the system.
+//! A node runs if its lock file is held. [`next`] decides what is done with a node that should end, by what
+//! was seen of that file; the rest asks the system.
 //!
-//! The trap: whoever may not open the lock file of a node cannot see whether it runs, and a line says so.
+//! The trap: a user who may not open the lock file of a node cannot see whether it runs; a line says so.
 #![tactic(auto)]
 
 mod lines;

@@ -10,13 +10,13 @@ pub enum Ending {
     NotRunning,
     /// It has not ended in time.
     Late,
-    /// Nobody who runs this can see whether it runs.
+    /// The user who runs this cannot see whether it runs.
     Hidden,
     /// Its stop file cannot be made.
     Unasked,
 }
 
-/// The line which says that, without a newline.
+/// The line which says what became of a node, without a newline.
 #[derive(Clone, Copy)]
 pub struct EndingLine<'a> {
     /// The folder of the network.

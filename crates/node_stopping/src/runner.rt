@@ -1,4 +1,4 @@
-//! Whether the node runs whose state file was changed beside it.
+//! A warning if the node of a state file runs.
 ghost use Rattle.std.specs.Prelude.{◌≡◌, IfOk, IfSome, Some};
 ghost use Rattle.node_stopping.specs.Lines.{state_path, runner_line};
 
@@ -9,10 +9,10 @@ use std::fmt;
 use std::fs::File;
 use std::rt::Files;
 
-/// How many nodes a network has at most.
+/// The most nodes that a network has.
 const MOST_NODES: u16 = 64;
 
-/// The line which says that a node runs, and writes a file again, without a newline.
+/// The line, without a newline, which says that a node runs and writes its state file again.
 #[derive(Clone, Copy)]
 pub struct RunnerLine<'a> {
     /// The state file of the node.
@@ -34,7 +34,7 @@ impl fmt::Display for RunnerLine<'_> {
     }
 }
 
-/// Says so on standard error if a path is the state file of a node, `DIR/state-ID.tkt`, and that node runs:
+/// Warns on standard error if a path is the state file of a node, `DIR/state-ID.tkt`, and that node runs:
 /// its lock file is held.
 pub fn warn_of_runner<R: Files<File = File> + Eprint + AllocGlobal>(rt: &R, path: &str) {
     for id in 0..MOST_NODES {

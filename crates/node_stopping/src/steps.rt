@@ -1,4 +1,4 @@
-//! What is done next with a node that is to end.
+//! What is done next with a node that should end.
 ghost use Rattle.std.specs.Prelude.{◌≡◌};
 ghost use Rattle.node_stopping.specs.Steps.{next};
 
@@ -11,7 +11,7 @@ pub enum LockSight {
     Free,
     /// A process holds it.
     Held,
-    /// The system does not let it be seen.
+    /// The system does not let it be opened.
     Hidden,
 }
 
@@ -22,7 +22,7 @@ pub enum StopStep {
     Ask,
     /// It is looked at again after a while.
     Wait,
-    /// It is done with, in this way.
+    /// The node is done with, and it went like this.
     Done(Ending),
 }
 

@@ -11,15 +11,15 @@ use std::rt::Files;
 use std::time::{Clock, Duration};
 use std::{fs, io, thread};
 
-/// How long one look at a node's lock file is after the one before, in milliseconds.
+/// The time between two looks at a node's lock file, in milliseconds.
 const BETWEEN_LOOKS: u64 = 20;
 
-/// How many looks a second has.
+/// The number of looks in a second.
 const LOOKS_A_SECOND: u64 = 50;
 
 /// Ends these nodes of a folder, or each that has a socket there if none is named, and prints how it went
-/// with each. Waits so many seconds for each at most. Answers the status to end with: 0 if all have ended,
-/// else 1.
+/// with each. Waits at most `seconds` seconds for each. Returns the status to end with: 0 if all have
+/// ended, else 1.
 pub fn run<R>(rt: &R, dir: &str, ids: &[u16], seconds: u16) -> u8
 where
     R: Files<File = File> + Clock + Print + Eprint + AllocGlobal,
@@ -28,7 +28,7 @@ where
     status_of(have_ended(rt, dir, ids, seconds))
 }
 
-/// The status of nodes that have all ended or have not.
+/// The status, by whether all nodes have ended.
 fn status_of(is_done: bool) -> u8
     ensures { result ≡ (if is_done then 0 else 1) }
 {
@@ -88,7 +88,7 @@ struct AskedToEnd {
     ending: Option<Ending>,
 }
 
-/// Asks all these nodes to end, and then waits for each. Whether all have ended.
+/// Asks all these nodes to end, and then waits for each. Returns whether all have ended.
 fn end_all<R>(rt: &R, dir: &str, ids: &[u16], seconds: u16) -> bool
 where
     R: Files<File = File> + Clock + Print + Eprint + AllocGlobal,
@@ -112,7 +112,8 @@ where
     is_done
 }
 
-/// Makes the stop file of a node that runs; how it went if it does not, or none can be made.
+/// Makes the stop file of a node that runs. Returns how it went if the node is not seen to run, or
+/// no stop file can be made; else none.
 fn ask<R: Files<File = File> + AllocGlobal>(rt: &R, dir: &str, id: u16) -> Option<Ending> {
     let Ok(paths) = NodePaths::new(rt.alloc(), dir, id) else {
         return Some(Ending::Unasked);
@@ -134,7 +135,8 @@ fn ask<R: Files<File = File> + AllocGlobal>(rt: &R, dir: &str, id: u16) -> Optio
     }
 }
 
-/// Waits until a node has ended that was asked to, with so many looks at most.
+/// Waits until a node that was asked to end has ended. After the first look it looks again at most
+/// `looks` times.
 fn await_end<R>(rt: &R, dir: &str, id: u16, looks: u64) -> Ending
 where
     R: Files<File = File> + Clock + AllocGlobal,
@@ -149,7 +151,7 @@ where
             look == looks,
         ) {
             if ending == Ending::Ended {
-                // A node that was killed has left it, and its next start would end by it.
+                // A node that was killed has left its stop file, which would end its next start.
                 let _ = fs::remove_file(rt, paths.stop.as_str());
             }
             return ending;
@@ -159,7 +161,7 @@ where
     Ending::Late
 }
 
-/// What is seen of a lock file. Nobody's lock is kept for longer than a look.
+/// What is seen of a lock file. A lock that this takes is kept no longer than the look.
 fn look_at<F: Files<File = File>>(files: &F, path: &str) -> LockSight {
     match fs::open(files, path) {
         Ok(file) => match file.try_lock() {

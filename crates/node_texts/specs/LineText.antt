@@ -10,7 +10,7 @@ end_text (Signal signal) = codes " was ended by signal " ++ (decimal signal ++ c
 end_text Unknown = codes " ended, and is started again"
 end_text Unstarted = codes " cannot be started; it is tried again"
 
--- the same of a node
+-- the same after the node's id
 abbrev pub end_line : ℕ → End → List ℕ
 end_line id end = codes "node " ++ (decimal id ++ end_text end)
 

@@ -14,7 +14,7 @@ use Rattle.node_texts.specs.declared.look_parts.LoanPart.{LoanPart}
 use Rattle.node_texts.specs.declared.look_parts.ProcessPart.{ProcessPart}
 use Rattle.node_texts.specs.declared.look_parts.TurnPart.{TurnPart}
 
--- what is said at a time of what was noted
+-- what is said at a given time about what was noted
 abbrev pub link_part : ℕ → LinkTimes → ℕ → LinkPart
 link_part node l now = record {
   node = node;
@@ -93,7 +93,7 @@ turn_text t =
     ++ (codes ",\"limit_us\":" ++ (decimal t.limit
     ++ (codes ",\"late\":" ++ (decimal t.late ++ codes "}")))))))))
 
--- what stands between the links and the rounds
+-- what comes between the links and the rounds
 abbrev pub rest_text : LoanPart → TurnPart → ProcessPart → List ℕ → List ℕ
 rest_text loans turns process version =
     codes ",\"loans\":" ++ (loan_text loans

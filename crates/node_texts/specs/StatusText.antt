@@ -35,12 +35,13 @@ abbrev pub first_is : Word → List Word → Bool
 first_is name [] = false
 first_is name (word ∷ words) = bytes_eq word name
 
--- the next word is a name, and the word after it says this
+-- what the word after a name says, if the next word is that name
 abbrev pub value_after : {X : Type 0} → Word → (Word → Option X) → List Word → Option X
 value_after name read words =
     if first_is name words then option_and_then read (first_word (other_words words)) else None
 
--- the next word is a field's name; the word after it is read, and the others with what it says
+-- the next word is a field's name; the word after it is read, and then the others, with what it
+-- says
 abbrev pub field : {X Y : Type 0} → Word → (Word → Option X) → (X → List Word → Option Y)
     → List Word → Option Y
 field name read others words =
@@ -68,6 +69,6 @@ status_of =
 abbrev pub line_status : List ℕ → Option StatusLine
 line_status line = status_of (words line)
 
--- the same, save that a line of more than 96 bytes, which no status line has, says nothing
+-- the same, except that a line of more than 96 bytes, which no status line has, says nothing
 abbrev pub short_line_status : List ℕ → Option StatusLine
 short_line_status line = if nat_lt 96 (length line) then None else line_status line

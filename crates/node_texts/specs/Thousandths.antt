@@ -1,7 +1,7 @@
 -- Numbers with three decimals.
 use Rattle.std.specs.Prelude.{ℕ, ◌/◌, ◌%◌, List, ◌++◌, codes, decimal}
 
--- so many thousandths
+-- this many thousandths, as a number with three decimals
 abbrev pub thousandths_text : ℕ → List ℕ
 thousandths_text number =
     decimal (number / 1000) ++ (codes "." ++ (decimal (number / 100 % 10)

@@ -2,7 +2,7 @@
 ghost use Rattle.node_texts.specs.StatusLaws.{LinesAreRead, LinesHaveOneSpelling};
 
 /// Each status line whose numbers are below 65536 is read from its text, and from no other line. So
-/// whoever reads the lines of `status` by a program of his own may rest on their form.
+/// a program that reads the lines of `status` may rely on their form.
 pub fn one_spelling()
     ensures read { LinesAreRead }
     ensures spelled { LinesHaveOneSpelling }

@@ -1,5 +1,5 @@
-//! Texts of nodes that run: the names of their files, the lines that their processes print, and
-//! the status lines by which they say how they stand.
+//! Texts of nodes that run: the names of their files, the lines that their processes print, and the
+//! status lines in which they report their status.
 //!
 //! ```
 //! let paths = NodePaths::new(alloc, "run", 1)?;        // run/state-1.tkt, run/desk-1.sock, ..
@@ -8,8 +8,8 @@
 //!
 //! Nothing here reads a file or a socket.
 //!
-//! The trap: statuses of nodes are asked one after the other while the lock goes round, so that two
-//! of them, or none, may be seen with the token.
+//! The trap: the nodes are asked for their statuses one after the other while the lock goes round.
+//! So two of them, or none, may be seen with the token.
 #![tactic(auto)]
 
 pub mod laws;

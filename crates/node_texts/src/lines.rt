@@ -4,13 +4,14 @@ ghost use Rattle.node_texts.specs.LineText.{capacity_line, end_line, end_text};
 
 use std::fmt;
 
-/// The frames that may be under way from one node to another are 36: 6 in a socket, 23 in the piece
-/// that was read from it last, one that waits to be written, 6 in the socket of an older connection.
-/// A socket was seen to take 6; if another system's takes more, 28 are to spare.
+/// The capacity that links of sockets need. Up to 36 frames may be under way from one node to
+/// another: 6 in a socket, 23 in the piece that was read from it last, one that waits to be
+/// written, and 6 in the socket of an older connection. A socket was seen to take 6 frames; if one
+/// of another system takes more, there is room for 28 more.
 pub const SOCKET_FRAMES: u16 = 64;
 
 /// The line that says that this capacity is less than what may be under way. The proofs are then
-/// about links that hold less than these do.
+/// about links that hold less than the real ones.
 #[derive(Drop)]
 pub struct CapacityLine(pub u16);
 
@@ -34,7 +35,7 @@ pub enum End {
     Status(u32),
     /// By this signal.
     Signal(u32),
-    /// In a way that the system does not say.
+    /// In a way that the system does not report.
     Unknown,
     /// It could not be started.
     Unstarted,

@@ -30,7 +30,7 @@ pub struct LookAnswer<'a> {
     pub rounds: u64,
 }
 
-/// The links to these neighbours, as they are noted at that time.
+/// The links to these neighbours at that time, by the notes.
 ///
 /// # Errors
 /// If memory runs out.
@@ -75,7 +75,7 @@ fn push_look(text: &mut String, look: &LookAnswer<'_>) -> Result<(), AllocError>
     push_rounds(text, look.rounds)
 }
 
-/// Begins the object by what the status line says.
+/// Begins the object with what the status line says.
 fn push_status(text: &mut String, status: StatusLine) -> Result<(), AllocError>
     ensures { OnOk result (string_bytes text.new
         ≡ string_bytes text.old ++ (codes "{" ++ status_part status)) }
@@ -126,7 +126,7 @@ fn push_other(text: &mut String, link: &LinkPart) -> Result<(), AllocError>
     write!(text, ",{link}")
 }
 
-/// Adds what is left but for the rounds.
+/// Adds the rest except the rounds.
 fn push_rest(text: &mut String, look: &LookAnswer<'_>) -> Result<(), AllocError>
     ensures { OnOk result (string_bytes text.new
         ≡ string_bytes text.old ++ rest_text look.now.loans look.now.turns look.now.process

@@ -15,9 +15,9 @@ use turn_watch::{LinkTimes, LoanTimes, TurnTimes};
 pub struct LinkPart {
     /// The neighbour.
     pub node: u16,
-    /// Whether a connection stands.
+    /// Whether there is a connection.
     pub is_up: bool,
-    /// How long this has been so, in microseconds.
+    /// How long there has been a connection, or none, in microseconds.
     pub since: u64,
     /// How often a connection broke, or was replaced by a newer one.
     pub breaks: u64,
@@ -56,7 +56,7 @@ pub struct LoanPart {
     pub count: u64,
     /// The longest of those that ended.
     pub longest: u64,
-    /// How long the present one has been, if there is one.
+    /// How long the present loan has lasted, if there is one.
     pub present: Option<u64>,
     /// The longest of those that ended in the last minute.
     pub lately: u64,
@@ -91,24 +91,24 @@ impl fmt::Display for LoanPart {
     }
 }
 
-/// The turns of a node, and the longest times between the ends of two, in microseconds. Printed, it is a
-/// JSON object.
+/// The turns of a node, and the longest times between the ends of two turns, in microseconds.
+/// Printed, it is a JSON object.
 #[derive(Clone, Copy, Drop)]
 pub struct TurnPart {
     /// The turns so far.
     pub count: u64,
-    /// The longest time between two, since the start.
+    /// The longest time between the ends of two turns, since the start.
     pub longest: u64,
-    /// The longest of the last minute.
+    /// The longest such time in the last minute.
     pub lately: u64,
-    /// After more than how much time a turn is late.
+    /// The longest time in which a turn is not late.
     pub limit: u64,
-    /// How many were late.
+    /// How many turns were late.
     pub late: u64,
 }
 
 impl TurnPart {
-    /// The turns at that time, which are late after `limit`.
+    /// The turns at that time; a turn is late after more than `limit`.
     pub fn of(turns: &TurnTimes, limit: u64, now: u64) -> TurnPart
         ensures { result ≡ turn_part turns.now limit now }
     {
@@ -137,8 +137,8 @@ impl fmt::Display for TurnPart {
 /// The process of a node.
 #[derive(Clone, Copy, Drop)]
 pub struct ProcessPart {
-    /// Its id in the system, if the system says it.
+    /// Its id in the system, if the system reports it.
     pub id: Option<u64>,
-    /// When it started, in milliseconds since the start of 1970, UTC, if the system says it.
+    /// When it started, in milliseconds since the start of 1970, UTC, if the system reports it.
     pub start: Option<u64>,
 }

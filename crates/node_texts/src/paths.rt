@@ -4,7 +4,7 @@ ghost use Rattle.node_texts.specs.Names.{AreFiles, AreNamed, AreSockets, file_na
 
 use std::alloc::{AllocError, Global};
 
-/// The most bytes that the name of a Unix socket has, with its folder.
+/// The most bytes that the name of a Unix socket may have, with its folder.
 pub const LONGEST_SOCKET_NAME: usize = 107;
 
 /// The names of the files of one node, each with its folder.
@@ -73,14 +73,14 @@ impl SocketNames {
     }
 }
 
-/// The names of a node's files that are no sockets.
+/// The names of a node's files that are not sockets.
 #[derive(Drop)]
 struct FileNames {
-    /// Its state.
+    /// The node's state.
     state: String,
-    /// What ends it.
+    /// The file that ends the node.
     stop: String,
-    /// What it holds locked.
+    /// The file that the node holds locked.
     lock: String,
 }
 
@@ -97,7 +97,7 @@ impl FileNames {
     }
 }
 
-/// The name of the socket at which node `id` is connected to.
+/// The name of the socket at which neighbours connect to node `id`.
 ///
 /// # Errors
 /// If memory runs out.
@@ -122,7 +122,7 @@ fn file_name(
     format!(in alloc; "{dir}/{before}{id}{after}")
 }
 
-/// How many bytes the longest name of a socket in a folder has, for a network of this many nodes.
+/// How many bytes the longest name of a socket in a folder has in a network of this many nodes.
 ///
 /// # Errors
 /// If memory runs out.

@@ -1,4 +1,4 @@
-//! The line by which a node says how it stands.
+//! The line in which a node reports its status.
 ghost use Rattle.std.specs.Prelude.{◌≡◌, is_some, OnSome, Some};
 ghost use Rattle.line_words.specs.Numbers.{number, number_or_none, yes_or_no};
 ghost use Rattle.line_words.specs.Words.{other_words};
@@ -12,7 +12,7 @@ use std::fmt;
 /// The most bytes of a line that is read as a status line. No status line has more than 73.
 pub const MOST_STATUS_BYTES: usize = 96;
 
-/// How a node stands, as its status line says. Printed, it is that line, without its newline.
+/// The status of a node, as its status line says. Printed, it is that line, without its newline.
 #[derive(Clone, Copy, Drop)]
 pub struct StatusLine {
     /// The node's id.
@@ -81,7 +81,7 @@ fn yes_or_no_after(words: &mut Words, name: &[u8]) -> Option<bool>
     words.yes_or_no()
 }
 
-/// Takes the next word if it is this one; none if it is another one, or there is none.
+/// Takes the next word; none if it is not this word, or there is none.
 fn expect(words: &mut Words, name: &[u8]) -> Option<()>
     ensures is { is_some result ≡ first_is name.now words.old }
     ensures rest { words.new ≡ other_words words.old }
@@ -93,7 +93,7 @@ fn expect(words: &mut Words, name: &[u8]) -> Option<()>
     }
 }
 
-/// Reads lines as status lines, in whatever pieces they come.
+/// Reads lines as status lines, in whatever pieces they arrive.
 pub struct StatusReading;
 
 impl LineReading<MOST_STATUS_BYTES> for StatusReading {

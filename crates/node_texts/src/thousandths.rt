@@ -4,7 +4,7 @@ ghost use Rattle.node_texts.specs.Thousandths.{thousandths_text};
 
 use std::fmt;
 
-/// So many thousandths, printed as a number with three decimals: milliseconds as seconds, say.
+/// This many thousandths, printed as a number with three decimals: milliseconds as seconds, say.
 #[derive(Drop)]
 pub struct Thousandths(pub u64);
 

@@ -1,7 +1,7 @@
 -- Times that are over.
 use Rattle.std.specs.Prelude.{ℕ, ◌-◌, Bool, ◌||◌, nat_lt, nat_le, if◌then◌else◌}
 
--- a time of `span` is over since that moment; one that lies ahead counts as long ago
+-- a time of `span` has passed since that moment; a moment that lies ahead counts as long ago
 abbrev pub is_over : ℕ → ℕ → ℕ → Bool
 is_over since span now = nat_lt now since || nat_le span (now - since)
 

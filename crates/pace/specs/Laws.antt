@@ -31,8 +31,8 @@ HoldsEnd =
     (outlook : Outlook) (manner : Manner) (now : ℕ) (node : NodePace)
     → holds outlook manner now node ≡ true → node.hold_until ≤ now + manner.hold
 
--- the frame with which a call is out is a call for a neighbour that heard it as often in a row, if it
--- came there soon after the one before it
+-- the frame that completes a call is a call for a neighbour that heard it the same number of times
+-- in a row, if it came there soon after the one before it
 abbrev pub EndsAgreeOnCalls : Type 0
 EndsAgreeOnCalls =
     (times : ℕ) (calls : Calling) → calls ≢ Done → calls_after times calls ≡ Done

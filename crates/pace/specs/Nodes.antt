@@ -24,15 +24,16 @@ lease_runs outlook = outlook.lends && outlook.has_lease
 abbrev pub may_tick : Outlook → ℕ → NodePace → Bool
 may_tick outlook now node = not (lease_runs outlook) || is_over node.ticked_at 2000 now
 
--- it was called within 25 milliseconds, and has the haste of three circuits left
+-- it was called within the last 25 milliseconds, and has more than the haste of three circuits left
 abbrev pub was_called : ℕ → ℕ → NodePace → Bool
 was_called trees now node = nat_lt (3 * trees) node.credit && not (is_over node.called_at 25000 now)
 
--- called: haste for four circuits, which pass it once for each tree neighbour, and no hold
+-- it is called: it has haste for four circuits, each of which passes it once for each tree
+-- neighbour, and no hold
 abbrev pub called : ℕ → ℕ → NodePace → NodePace
 called trees now node = record node { hold_until = 0; credit = 4 * trees; called_at = now }
 
--- haste is left of a call within 100 milliseconds
+-- some haste is left of a call within the last 100 milliseconds
 abbrev pub is_hasty : ℕ → NodePace → Bool
 is_hasty now node = nat_lt 0 node.credit && not (is_over node.called_at 100000 now)
 
@@ -40,7 +41,7 @@ is_hasty now node = nat_lt 0 node.credit && not (is_over node.called_at 100000 n
 abbrev pub cut_credit : ℕ → ℕ → ℕ
 cut_credit trees credit = if nat_le credit (4 * trees) then credit else 4 * trees
 
--- a sum, and at most 2^64 - 1
+-- a sum, capped at 2^64 - 1
 abbrev pub later : ℕ → ℕ → ℕ
 later now span =
     if nat_le (now + span) 18446744073709551615 then now + span else 18446744073709551615
@@ -57,8 +58,8 @@ moved_on moved trees manner now node =
     record node { ticked_at = now; credit = cut_credit trees node.credit } in
     if moved then after_move manner now ticked else ticked
 
--- it calls: somebody waits and nobody borrows, and the haste of one circuit is left at most, or its
--- last call is 50 milliseconds ago
+-- it calls: somebody waits and nobody borrows, and at most the haste of one circuit is left, or its
+-- last call is at least 50 milliseconds ago
 abbrev pub calls_for_haste : Outlook → ℕ → ℕ → NodePace → Bool
 calls_for_haste outlook trees now node =
     outlook.waits

@@ -41,7 +41,8 @@ abbrev pub is_other : Option ℕ → ℕ → Bool
 is_other None p = true
 is_other (Some but) p = not (but == p)
 
--- a port at which a call must be passed on, if there is one; one that is under way goes on
+-- a port at which a call must be passed on, if there is one; a call that is already under way goes
+-- on
 abbrev pub call_at : Bool → Calling → Calling
 call_at true Done = Begins
 call_at _ calls = calls

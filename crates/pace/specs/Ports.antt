@@ -10,7 +10,7 @@ use Rattle.pace.specs.declared.port.Hearing.TheVariants as hearing
 use Rattle.pace.specs.declared.port.Calling.{Calling}
 use Rattle.pace.specs.declared.port.Calling.TheVariants.{Done, Begins, GoesOn}
 
--- the same node, or none both times
+-- the same node, or none in both
 abbrev pub same_node : Option ℕ → Option ℕ → Bool
 same_node None None = true
 same_node (Some v) (Some w) = v == w
@@ -41,17 +41,17 @@ fresh_port = record {
   calls = Done;
 }
 
--- one more, and at most 2^32 - 1
+-- one more, capped at 2^32 - 1
 abbrev pub one_more : ℕ → ℕ
 one_more n = if nat_lt n 4294967295 then n + 1 else 4294967295
 
--- how many times in a row a frame came, if another came as often as that before
+-- how many times in a row a frame came last, if the last frame came this many times in a row
 abbrev pub times_after : Option Frame → ℕ → Frame → ℕ
 times_after None times frame = 0
 times_after (Some last) times frame = if same_frame last frame then times else 0
 
 -- how many times in a row a frame was given last; and how many times it was heard, this time
--- counted
+-- included
 abbrev pub times_given : Frame → PortPace → ℕ
 times_given frame port = times_after port.given port.given_times frame
 
@@ -59,7 +59,7 @@ abbrev pub times_heard : Frame → PortPace → ℕ
 times_heard frame port = one_more (times_after port.heard port.heard_times frame)
 
 -- a frame that comes now follows the one before it within 4 milliseconds, and within half of the
--- repetition time: it is given again for another reason than time
+-- repetition time: it is given again for a reason other than time
 abbrev pub is_soon : ℕ → ℕ → PortPace → Bool
 is_soon repeat now port = not (is_over port.heard_at (min 4000 (repeat / 2)) now)
 
@@ -80,7 +80,7 @@ heard_port frame now port = record port {
   owes = port.owes || (times_heard frame port == 2);
 }
 
--- how far a call is passed on after a frame that was given for this time in a row: it is out with
+-- how far a call is passed on after a frame that was given this many times in a row: it is out with
 -- each fourth, if another frame has been given for it before
 abbrev pub calls_after : ℕ → Calling → Calling
 calls_after times Done = Done
@@ -115,7 +115,7 @@ is_new_after (Some last) frame = not (same_payload last.payload frame.payload)
 abbrev pub is_news : Frame → PortPace → Bool
 is_news frame port = is_new_after port.given frame
 
--- a frame is due if one is taken, and its payload is news, an answer is owed, a call must be
+-- a frame is due if the port takes one, and its payload is news, an answer is owed, a call must be
 -- passed on, the repetition time is over, or a question must be asked, which gives it twice
 abbrev pub is_due : PortSight → Bool → ℕ → ℕ → PortPace → Bool
 is_due sight holds repeat now port =

@@ -4,9 +4,9 @@
 //! A frame that is sent again means nothing to the protocol. So a run of equal frames can carry a
 //! signal that costs it nothing. The second equal frame in a row is a question, which is answered
 //! at once. Each fourth one is a call for haste, which goes on through the tree, if it follows the
-//! third at once: within half of the time after which a frame is given again, 4 milliseconds at most. A [`TurnPace`] keeps
-//! what was given and heard at each port and when, and says before each turn what its [`Plan`] is,
-//! and after it how long to rest.
+//! one before it at once: within half of the time after which a frame is given again, 4
+//! milliseconds at most. A [`TurnPace`] keeps what was given and heard at each port and when, and
+//! says before each turn what its [`Plan`] is, and after it how long to rest.
 //!
 //! ```
 //! let plan = pace.plan(&sights, &outlook, now);       // on which ports to offer; a tick or none
@@ -21,8 +21,8 @@
 //! that takes frames is given one each repetition time, and a tick is left out for the sake of a
 //! lease alone.
 //!
-//! The trap: times are microseconds of a clock that never goes back. One that lies ahead counts as
-//! long ago.
+//! The trap: times are microseconds of a clock that never goes back. A time that lies ahead counts
+//! as long ago.
 #![tactic(auto)]
 
 mod clock;

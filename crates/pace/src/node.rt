@@ -20,7 +20,7 @@ const CALL_ENDS: u64 = 100_000;
 /// The circuits of the token for which a call is good.
 const CIRCUITS: u32 = 4;
 
-/// How a node's desk and its clients stand.
+/// The state of a node's desk and its clients.
 #[derive(Clone, Copy)]
 pub struct Outlook {
     /// Somebody waits for the lock.
@@ -33,8 +33,8 @@ pub struct Outlook {
     pub let_go: bool,
 }
 
-/// What a node remembers of its own haste. Times are microseconds. Whatever stands here, a pace goes
-/// by it, and loses no more than time.
+/// What a node remembers of its own haste. Times are microseconds. Whatever these fields hold, a
+/// pace goes by them, and loses no more than time.
 #[derive(Clone, Copy)]
 pub struct NodePace {
     /// Until when it keeps the news of its machines to itself.
@@ -61,7 +61,7 @@ impl NodePace {
     }
 
     /// Whether it keeps the news of its machines to itself: the hold is not over, nobody waits, and
-    /// nobody has just let go. A hold that ends later than one can is none.
+    /// nobody has just let go. A hold that ends later than a hold can is no hold.
     pub fn holds(&self, outlook: &Outlook, manner: &Manner, now: u64) -> bool
         ensures { result ≡ holds outlook.now manner.now now self.now }
     {
@@ -71,7 +71,8 @@ impl NodePace {
             && !outlook.let_go
     }
 
-    /// How long it is until the hold is over, 2 milliseconds at most, also if it does not hold.
+    /// How long it is until the hold is over, 2 milliseconds at most; 2 milliseconds if it does not
+    /// hold.
     pub fn rest(&self, outlook: &Outlook, manner: &Manner, now: u64) -> u64
         ensures { result ≡ node_rest outlook.now manner.now now self.now }
     {
@@ -82,7 +83,8 @@ impl NodePace {
         }
     }
 
-    /// Whether it is to tick: always, but while a loan with a lease runs once in 2 milliseconds.
+    /// Whether it may tick: once in 2 milliseconds while a loan with a lease runs, and otherwise
+    /// always.
     pub fn may_tick(&self, outlook: &Outlook, now: u64) -> bool
         ensures { result ≡ may_tick outlook.now now self.now }
     {
@@ -98,7 +100,7 @@ impl NodePace {
         self.credit > (CIRCUITS - 1) * trees && !is_over(self.called_at, CALL_AGAIN / 2, now)
     }
 
-    /// It was called, or calls: haste for some circuits, and no hold.
+    /// Takes note that it was called, or calls: it has haste for some circuits, and no hold.
     pub fn call(&mut self, trees: u32, now: u64)
         requires { trees ≤ 64 }
         ensures { self.new ≡ called trees now self.old }
@@ -126,15 +128,15 @@ impl NodePace {
         }
     }
 
-    /// Whether a call's haste is left.
+    /// Whether some of a call's haste is left.
     fn is_hasty(&self, now: u64) -> bool
         ensures { result ≡ is_hasty now self.now }
     {
         self.credit > 0 && !is_over(self.called_at, CALL_ENDS, now)
     }
 
-    /// Whether it is to call: somebody waits and nobody borrows, and its haste runs low or its last
-    /// call was a while ago.
+    /// Whether it should call: somebody waits and nobody borrows, and its haste runs low or its
+    /// last call was a while ago.
     pub fn calls_for_haste(&self, outlook: &Outlook, trees: u32, now: u64) -> bool
         ensures { result ≡ calls_for_haste outlook.now trees now self.now }
     {

@@ -19,12 +19,12 @@ pub const PORTS: usize = 64;
 pub struct Manner {
     /// How long a node keeps the news of its machines to itself, if nobody is in haste.
     pub hold: u64,
-    /// After what time a frame is given again.
+    /// The time after which a frame is given again.
     pub repeat: u64,
 }
 
 impl Manner {
-    /// A hold of 2 milliseconds, and frames again after 8.
+    /// A hold of 2 milliseconds, and frames given again after 8.
     pub fn usual() -> Manner
         ensures { (result.hold ≡ 2000) × (result.repeat ≡ 8000) }
     {
@@ -53,7 +53,7 @@ pub struct TurnPace {
 }
 
 impl TurnPace {
-    /// A node that has been given nothing and has heard nothing yet.
+    /// The pace of a node at whose ports nothing was given or heard yet.
     pub fn new(manner: Manner) -> TurnPace
         ensures manner { result.manner ≡ manner }
         ensures node { result.node ≡ quiet_node }
@@ -66,8 +66,8 @@ impl TurnPace {
         }
     }
 
-    /// A node that remembers this, whatever it is: by the port's number, what was given and heard
-    /// there.
+    /// The pace of a node that remembers this, whatever it is; `ports` is what was given and heard
+    /// at each port, by its number.
     pub fn remembering(manner: Manner, node: NodePace, ports: [PortPace; PORTS]) -> TurnPace
         ensures { (result.manner ≡ manner) × (result.node ≡ node) × (result.ports ≡ ports) }
     {
@@ -78,7 +78,8 @@ impl TurnPace {
         }
     }
 
-    /// A port, 0 to 63, has a new connection: what was given and heard there counts for nothing.
+    /// Takes note that a port, 0 to 63, has a new connection: what was given and heard there no
+    /// longer counts.
     pub fn attached(&mut self, port: usize)
         requires { port < 64 }
         ensures port { port_of self.new.ports port ≡ fresh_port }
@@ -88,7 +89,8 @@ impl TurnPace {
         self.ports[port] = PortPace::new();
     }
 
-    /// A port, 0 to 63, was given a frame, at `now` microseconds of a clock that never goes back.
+    /// Takes note that a port, 0 to 63, was given a frame, at `now` microseconds of a clock that
+    /// never goes back.
     pub fn gave(&mut self, port: usize, frame: &Frame, now: u64)
         requires { port < 64 }
         ensures port { port_of self.new.ports port
@@ -99,8 +101,8 @@ impl TurnPace {
         self.ports[port].give(frame, now);
     }
 
-    /// The plan of the turn that begins now: a frame on each port for which one is due, and a tick if
-    /// none must be left out.
+    /// The plan of the turn that begins now: a frame on each port for which one is due, and a tick
+    /// unless it must be left out.
     pub fn plan(&self, sights: &[PortSight], outlook: &Outlook, now: u64) -> Plan
         requires { length sights.now ≤ 64 }
         ensures ticks { result.ticks ≡ may_tick outlook.now now self.now.node }
@@ -121,9 +123,9 @@ impl TurnPace {
         }
     }
 
-    /// A port brought a frame at `now` microseconds. A call is good for some circuits of the token,
-    /// and goes on to the other tree neighbours, unless one has just gone on. `trees` says of each
-    /// port whether a tree neighbour is there.
+    /// Takes note that a port brought a frame at `now` microseconds. A call is good for some
+    /// circuits of the token, and goes on to the other tree neighbours, unless one has just gone
+    /// on. `trees` says of each port whether a tree neighbour is there.
     pub fn heard(&mut self, port: usize, frame: &Frame, trees: &[bool], now: u64) -> Hearing
         requires port { port < 64 }
         requires few { length trees.now ≤ 64 }
@@ -147,8 +149,8 @@ impl TurnPace {
         hearing
     }
 
-    /// The node ticked, and some machine moved in that or none did. If somebody waits it may
-    /// call for haste, on all its tree ports.
+    /// Takes note that the node ticked; `moved` says whether some machine moved in that tick. If
+    /// somebody waits it may call for haste, on all its tree ports.
     pub fn ticked(&mut self, outlook: &Outlook, moved: bool, trees: &[bool], now: u64)
         requires { length trees.now ≤ 64 }
         ensures node { self.new.node ≡ node_ticked outlook.now moved (tree_count trees.now)
@@ -177,7 +179,7 @@ impl TurnPace {
         ensures ports { (p : ℕ) → p < length sights.now → result
             ≤ rest_at (sight_of sights.now p) (holds outlook.now self.now.manner now self.now.node)
             self.now.manner.repeat now (port_of self.now.ports p) }
-        // it is no shorter than it must be
+        // The rest is no shorter than it must be.
         ensures reached { (result ≡ node_rest outlook.now self.now.manner now self.now.node)
             ⊎ ((p : ℕ) × (p < length sights.now) × (result
             ≡ rest_at (sight_of sights.now p) (holds outlook.now self.now.manner now self.now.node)
@@ -200,7 +202,7 @@ fn fresh_ports() -> [PortPace; PORTS]
     [PortPace::new(); PORTS]
 }
 
-/// Has a call passed on at the ports of all tree neighbours but one, if it goes on.
+/// Has a call passed on, if it goes on, at the ports of all tree neighbours except `but`.
 fn pass_on(ports: &mut [PortPace], trees: &[bool], goes_on: bool, but: Option<usize>)
     requires { length trees.now ≤ length ports.old }
     ensures ports { (p : ℕ) → port_of ports.new p

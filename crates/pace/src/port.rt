@@ -8,15 +8,16 @@ ghost use Rattle.pace.specs.Ports.{calls_after, has_question, is_news, is_due};
 use crate::clock::{LONGEST_REST, is_over, time_left};
 use topology::{Frame, Payload};
 
-/// Equal frames in a row that are a question.
+/// How many equal frames in a row are a question.
 const QUESTION: u32 = 2;
 
-/// Each time that so many equal frames came in a row, the last of them may be a call for haste.
+/// Each time that this many equal frames have come in a row, the last of them may be a call for
+/// haste.
 const CALL: u32 = 4;
 
-/// It is one if it came so soon after the frame before it, in microseconds, and within half of the
-/// repetition time. From a neighbour with the same repetition time, a frame that is given again
-/// because that time is over comes later.
+/// Such a frame is a call if it came this soon after the frame before it, in microseconds, and
+/// within half of the repetition time. From a neighbour with the same repetition time, a frame that
+/// is given again because that time is over comes later.
 const SOON: u64 = 4_000;
 
 /// What a node sees at one of its ports.
@@ -24,20 +25,20 @@ const SOON: u64 = 4_000;
 pub struct PortSight {
     /// Whether a frame would be accepted there: there is a connection, and the last line is out.
     pub takes_frames: bool,
-    /// What it would be given now.
+    /// The frame that the port would be given now.
     pub frame: Frame,
     /// What the node has to say there now; it is staged once the last number is acknowledged.
     pub present: Payload,
 }
 
-/// What a frame that came means beside what it says.
+/// What a frame that came means besides what it says.
 #[derive(Clone, Copy, PartialEq, Eq)]
 pub enum Hearing {
-    /// Nothing more.
+    /// It means nothing more.
     Frame,
-    /// An answer is wanted.
+    /// It asks for an answer.
     Question,
-    /// Haste is wanted.
+    /// It asks for haste.
     Call,
 }
 
@@ -53,7 +54,7 @@ pub enum Calling {
 }
 
 impl Calling {
-    /// How far a call has been passed on after a frame that was given for this time in a row.
+    /// How far a call has been passed on after a frame that was given this many times in a row.
     fn after(self, given_times: u32) -> Calling
         ensures { result ≡ calls_after given_times self }
     {
@@ -66,8 +67,8 @@ impl Calling {
     }
 }
 
-/// What was given and heard at one port. Whatever stands here, a pace goes by it, and loses no more
-/// than time.
+/// What was given and heard at one port. Whatever these fields hold, a pace goes by them, and loses
+/// no more than time.
 #[derive(Clone, Copy)]
 pub struct PortPace {
     /// The frame given last.
@@ -126,15 +127,15 @@ impl PortPace {
         }
     }
 
-    /// Whether a frame that comes now comes too soon after the one before it to be given again for the
-    /// sake of time.
+    /// Whether a frame that comes now comes so soon after the one before it that it is not given
+    /// again for the sake of time.
     fn is_soon(&self, repeat: u64, now: u64) -> bool
         ensures { result ≡ is_soon repeat now self.now }
     {
         !is_over(self.heard_at, SOON.min(repeat / 2), now)
     }
 
-    /// How many times in a row this frame was heard, this time counted.
+    /// How many times in a row this frame was heard, this time included.
     fn times_heard(&self, frame: &Frame) -> u32
         ensures { result ≡ times_heard frame.now self.now }
     {
@@ -154,8 +155,9 @@ impl PortPace {
         }
     }
 
-    /// Takes note of a frame that was given at `now` microseconds: nothing is owed any more, and a call
-    /// is out once a frame that can be one has been given for it after another.
+    /// Takes note of a frame that was given at `now` microseconds: no answer is owed any more, and
+    /// a call is out once a frame that can be one has been given for it, after at least one other
+    /// frame.
     pub fn give(&mut self, frame: &Frame, now: u64)
         ensures { self.new ≡ given_port frame.now now self.old }
     {
@@ -166,7 +168,7 @@ impl PortPace {
         self.calls = self.calls.after(self.given_times);
     }
 
-    /// From now on a call must be passed on, if there is one.
+    /// Takes note that a call must be passed on from now on, if there is one.
     pub fn call(&mut self, is_called: bool)
         ensures { self.new ≡ called_port is_called self.old }
     {
@@ -189,8 +191,9 @@ impl PortPace {
         time_left(self.given_at, repeat, now).min(LONGEST_REST)
     }
 
-    /// Whether a frame is due: none was given yet; its payload is news; an answer is owed; a call
-    /// must be passed on; the repetition time is over; or there is a question to ask.
+    /// Whether a frame is due at a port that would accept one: none was given yet; its payload is
+    /// news; an answer is owed; a call must be passed on; the repetition time is over; or there is
+    /// a question to ask.
     pub fn is_due(&self, sight: &PortSight, holds: bool, repeat: u64, now: u64) -> bool
         ensures { result ≡ is_due sight.now holds repeat now self.now }
     {
@@ -202,7 +205,8 @@ impl PortPace {
                 || (has_question(sight, holds) && self.times_given(&sight.frame) < QUESTION))
     }
 
-    /// Whether the frame's payload is another than that of the frame given last.
+    /// Whether the frame's payload differs from that of the frame given last; true if none was
+    /// given.
     fn is_news(&self, frame: &Frame) -> bool
         ensures { result ≡ is_news frame.now self.now }
     {

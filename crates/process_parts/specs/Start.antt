@@ -1,4 +1,4 @@
--- Which faults may end a start, by how far it is.
+-- Which faults may end a start, by how far it has come.
 use Rattle.std.specs.Prelude.{Bool, true, false}
 use Rattle.process_parts.specs.declared.start.StartStage.{StartStage}
 use Rattle.process_parts.specs.declared.start.StartStage.TheVariants.{Begun, Checked, Entered, Held, Listening}

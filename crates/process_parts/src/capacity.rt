@@ -1,4 +1,4 @@
-//! A network whose links hold too few frames for sockets.
+//! A warning if a network's links hold too few frames for sockets.
 use node_keeping::{CapacityLine, SOCKET_FRAMES};
 
 /// Warns if links hold fewer frames than a socket may.

@@ -14,9 +14,9 @@ use std::io::ErrorKind;
 /// Why a node does not run, or ends. Printed within a [`ProcessRefusal`].
 #[derive(Clone, Copy, Drop)]
 pub enum NodeFault {
-    /// The network file is refused.
+    /// The network file is invalid, or cannot be read.
     Network(NetworkFault),
-    /// There is no such node; the network has this many.
+    /// There is no such node; the network has this many nodes.
     NoNode(u16),
     /// The sockets' names would have too many bytes.
     LongName,
@@ -26,7 +26,7 @@ pub enum NodeFault {
     RightsStay,
     /// The file that marks a node as running cannot be opened.
     Lock,
-    /// Another process is the node already.
+    /// Another process runs as this node already.
     Running,
     /// The file that marks `up` as running cannot be opened.
     UpLock,
@@ -38,7 +38,7 @@ pub enum NodeFault {
     Clients,
     /// The socket for whoever looks cannot be made.
     Looks,
-    /// The system gives no clock, no poll or no process.
+    /// The system provides no clock, no poll or no process.
     System,
     /// Standard input, whose end ends the node, is a file or absent.
     Input,
@@ -102,20 +102,20 @@ impl fmt::Display for ProcessRefusal<'_> {
     }
 }
 
-/// What is said of a fault, by what it is said of.
+/// What is said of a fault, by its subject.
 #[derive(Clone, Copy)]
 enum Said {
     /// Of the network file.
     OfNetwork(NetworkFault),
-    /// Of a node that the network does not have; it has this many.
+    /// Of a node that the network does not have; it has this many nodes.
     OfNoNode(u16),
     /// Of a node that runs already.
     OfNode,
     /// Of the folder, after its name.
     OfFolder(&'static str),
-    /// Of a node's file: how its name begins, and what stands after the name.
+    /// Of a node's file: how its name begins, and what follows the name.
     OfFile(&'static str, &'static str),
-    /// Of the system, or of what it gives.
+    /// Of the system, or of what it provides.
     OfSystem(&'static str),
 }
 
@@ -220,7 +220,7 @@ impl fmt::Display for NoSuchNode<'_> {
     }
 }
 
-/// Says that another process is the node already.
+/// Says that another process runs as the node already.
 #[derive(Drop)]
 struct RunsAlready<'a> {
     dir: &'a str,

@@ -24,10 +24,10 @@ use std::rt::Files;
 use std::{fs, io};
 use unix_ends::Listeners;
 
-/// Who may open a file that is made here: its owner.
+/// The mode of a file that is made here: only its owner may open it.
 const FILE_MODE: u32 = 0o600;
 
-/// Refuses a folder if a socket of one of this many nodes would have too long a name there.
+/// Checks that in this folder no socket of a network of this many nodes would have too long a name.
 ///
 /// # Errors
 /// `LongName`, or `Memory`.
@@ -42,8 +42,8 @@ pub fn check_names(alloc: Global, dir: &str, nodes: u16) -> Result<(), NodeFault
     Ok(())
 }
 
-/// Makes the folder with these rights if it is missing, but none above it. In a folder that is
-/// there, the group's rights are set too.
+/// Makes the folder with these rights if it is missing, but makes no folder above it. If the group
+/// gets rights, these are set for a folder that is already there, too.
 ///
 /// # Errors
 /// `Folder` if there is none and none can be made; `RightsStay` if its rights cannot be set.
@@ -88,7 +88,7 @@ fn is_folder<F: Files>(files: &F, dir: &str) -> bool {
 }
 
 /// A process's place in a folder: a file that is locked as long as this value lives. However the
-/// process ends, the system unlocks it then.
+/// process ends, the system then unlocks the file.
 #[derive(Drop)]
 pub struct FolderPlace {
     _file: File,
@@ -142,7 +142,7 @@ fn open_place<F: Files<File = File>>(files: &F, path: &str) -> io::Result<File> 
         .open(files, path)
 }
 
-/// Which file it is.
+/// The id of the file that has this metadata.
 fn id_of(found: &Metadata) -> FileId {
     FileId {
         device: found.dev(),
@@ -155,7 +155,7 @@ pub fn sight_at<F: Files>(files: &F, path: &str, own: FileId) -> FileSight {
     sight(own, fs::symlink_metadata(files, path))
 }
 
-/// What a name leads to, by what the system says of it.
+/// What a name leads to, by what the system says about it.
 fn sight(own: FileId, found: io::Result<Metadata>) -> FileSight {
     match found {
         Ok(found) => sight_of(own, Ok(id_of(&found))),
@@ -177,11 +177,11 @@ pub struct Listener {
 pub struct NodeSockets {
     /// The sockets.
     pub listeners: Listeners,
-    /// That of the socket for neighbours.
+    /// The file of the socket for neighbours.
     pub links: FileId,
-    /// That of the socket for clients.
+    /// The file of the socket for clients.
     pub clients: FileId,
-    /// That of the socket for whoever looks.
+    /// The file of the socket for whoever looks.
     pub looks: FileId,
 }
 
@@ -245,7 +245,7 @@ fn joined(links: Listener, clients: Listener, looks: Listener) -> NodeSockets {
 /// microseconds; the unit's mask is 0077.
 ///
 /// # Errors
-/// If what has this name cannot be removed (a folder, say), or the system makes no socket.
+/// If whatever has this name cannot be removed (a folder, say), or the system makes no socket.
 pub fn bind_again<R: Files + Net>(rt: &R, path: &str, mode: Option<u32>) -> io::Result<Listener> {
     remove(rt, path)?;
     let socket = UnixListener::bind(rt, path)?;
@@ -333,11 +333,11 @@ fn make_way<F: Files>(files: &F, path: &str) -> io::Result<()> {
     }
 }
 
-/// A plain file that is there, of which all is cut off after so many bytes. What is written goes to its
-/// end. A symbolic link is not followed.
+/// Opens a plain file that is there, and cuts it off after `length` bytes. What is written to it
+/// goes to its end. A symbolic link is not followed.
 ///
 /// # Errors
-/// If it is no plain file, has fewer bytes, or the system does not open or cut it.
+/// If it is not a plain file, has fewer bytes, or the system does not open or cut it.
 pub fn file_up_to<F: Files<File = File>>(files: &F, path: &str, length: u64) -> io::Result<File> {
     check_length(files, path, length)?;
     let file = OpenOptions::new().append(true).open(files, path)?;
@@ -345,10 +345,10 @@ pub fn file_up_to<F: Files<File = File>>(files: &F, path: &str, length: u64) -> 
     Ok(file)
 }
 
-/// Refuses what is no plain file, or has fewer bytes.
+/// Checks that this is a plain file with at least this many bytes.
 ///
 /// # Errors
-/// Then, or if the system does not say.
+/// If it is not, or if the system does not say.
 fn check_length<F: Files>(files: &F, path: &str, length: u64) -> io::Result<()> {
     let found = fs::symlink_metadata(files, path)?;
     if !found.is_file() || found.len() < length {

@@ -1,6 +1,6 @@
-//! What the processes of a network share, those of its nodes and the one that keeps these running: what their
-//! command lines say, why they do not run, the folder and a place in it, in which order they start, and who
-//! may use what they make.
+//! What the processes of a network (those of its nodes, and the one that keeps these running)
+//! share: what their command lines say, why they do not run, the folder and a place in it, the
+//! order in which they start, and who may use what they make.
 //!
 //! ```
 //! let mut stage = StartStage::Checked;
@@ -9,11 +9,11 @@
 //! let refusal = ProcessRefusal { file: "ring.toml", dir: "run", id: 1, fault: NodeFault::Running };
 //! ```
 //!
-//! Contracts know nothing of the system's answers. So functions that call it promise in which order a
-//! start goes, and which fault ends it.
+//! Contracts know nothing of the system's answers. So functions that call the system promise the
+//! order of a start, and which fault ends it.
 //!
-//! The trap: whoever can open the sockets can take the lock. The folder is made so that only its
-//! owner can enter it.
+//! The trap: whoever can open the sockets can take the lock. With `Rights::Usual` the folder is
+//! made so that only its owner can enter it.
 #![tactic(auto)]
 
 mod capacity;

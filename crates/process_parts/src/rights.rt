@@ -1,14 +1,15 @@
-//! Who may use the folder of a network and what stands in it.
+//! Who may use the folder of a network and the files in it.
 ghost use Rattle.std.specs.Prelude.{◌≡◌};
 ghost use Rattle.process_parts.specs.Rights.{folder_mode, own_mode, clients_mode};
 
-/// The rights that a node gives to others than its own user.
+/// The rights that a node gives to others besides its own user.
 #[derive(Clone, Copy)]
 pub enum Rights {
-    /// Only its user enters a folder that it makes. In a folder that is there, the folder and the
-    /// user's mask decide.
+    /// Only its user may enter a folder that it makes. If the folder is already there, the folder
+    /// and the user's mask decide.
     Usual,
-    /// The user's group enters the folder, and uses the socket for clients; only the user uses the rest.
+    /// The user's group may enter the folder, and use the socket for clients; only the user may use
+    /// the rest.
     GroupLocks,
 }
 

@@ -15,7 +15,7 @@ pub struct NodeWords<'a> {
     pub dir: &'a str,
     /// How quiet or how fast the node is.
     pub manner: Manner,
-    /// After how many microseconds a turn is late.
+    /// The number of microseconds after which a turn is late.
     pub turn: u64,
     /// The version of the program, in letters, digits and dots.
     pub version: &'a str,
@@ -25,7 +25,8 @@ pub struct NodeWords<'a> {
     pub log: Option<Level>,
     /// The size of its record's files, if it keeps a record.
     pub record_size: Option<RecordSize>,
-    /// Whether `up` started it: then its lines begin with its name, and it ends with its input.
+    /// Whether `up` started it. If so, its lines begin with its name, and it ends when its input
+    /// ends.
     pub is_child: bool,
 }
 
@@ -38,7 +39,7 @@ pub struct UpWords<'a> {
     pub dir: &'a str,
     /// How quiet or how fast each node is.
     pub manner: Manner,
-    /// After how many microseconds a turn is late.
+    /// The number of microseconds after which a turn is late.
     pub turn: u64,
     /// Who may use the folder and the nodes' sockets.
     pub rights: Rights,

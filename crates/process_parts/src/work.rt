@@ -1,8 +1,9 @@
-//! What a command line asks for that stands above it.
+//! What a command line asks for that is done in a crate above it.
 use crate::fault::NodeFault;
 use crate::words::NodeWords;
 
-/// What runs a node as a process. So the line of `node` need not stand on all that a node is.
+/// What runs a node as a process. Because of this trait, the command line of `node` need not depend
+/// on all parts of a node.
 pub trait NodeWork<R> {
     /// Runs the node that the words name, until it must end.
     ///

@@ -5,7 +5,7 @@ use Rattle.command_grammar.specs.Given.{IsFlag}
 use Rattle.process_parts.specs.declared.rights.Rights.{Rights}
 use Rattle.process_parts.specs.declared.rights.Rights.TheVariants.{Usual, GroupLocks}
 
--- with `--group-locks` the group may take the lock, and else it is as usual
+-- with `--group-locks` the group may take the lock; without it the rights are the usual ones
 abbrev pub AreRightsOf : Found → Rights → Type 0
 AreRightsOf found GroupLocks = IsFlag found (codes "group-locks") true
 AreRightsOf found Usual = IsFlag found (codes "group-locks") false

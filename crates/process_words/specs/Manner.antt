@@ -25,7 +25,7 @@ IsLimitOf found limit =
     ((word : List ℕ) × (first_value found (codes "turn") ≡ Some word) × (micros_of word ≡ Some limit) × (0 < limit))
     ⊎ ((first_value found (codes "turn") ≡ None) × (limit ≡ 2200))
 
--- its word spells no such time
+-- the word of `--turn` spells no such time
 abbrev pub IsLimitRefused : Found → TimeFault → Type 0
 IsLimitRefused found fault =
     (fault ≡ Turn)

@@ -16,7 +16,7 @@ use Rattle.command_words.specs.Refused.{IsIdRefused, IsMissing}
 use Rattle.command_words.specs.declared.refusal.Refusal.{Refusal}
 use Rattle.command_words.specs.declared.refusal.Refusal.TheVariants.{Word, Time}
 
--- what the options say that `node` and `up` share: the pace of a node, and after how long a turn is late; who may use its
+-- what the options that `node` and `up` share say: the pace of a node, and after how long a turn is late; who may use its
 -- sockets; its log and its record
 abbrev pub AreOptionsOf : Found → Manner → ℕ → Rights → Option Level → Option RecordSize → Type 0
 AreOptionsOf found manner turn rights log record_size =

@@ -1,4 +1,4 @@
-//! What the lines of `node` and `up` do.
+//! What the command lines of `node` and `up` do.
 use crate::{node, up};
 use clap::ArgMatches;
 use command_words::program::Runtime;
@@ -17,7 +17,8 @@ Examples:
 This is the part of tokentree that runs nodes. Other parts ask them, and know
 networks; the whole program also simulates, measures and draws.";
 
-/// Does what the words say, after the first, the program's name, and returns the exit status. `nodes` runs a node.
+/// Does what the words say, and returns the exit status. The first word is the program's name. `nodes` runs a
+/// node.
 pub fn run_words<R: Runtime, S: AsStr, N: NodeWork<R>>(rt: &R, words: &[S], nodes: &N) -> ExitCode {
     if asks_for_version(words) {
         return say_version(rt);

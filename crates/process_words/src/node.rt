@@ -106,7 +106,7 @@ pub fn asked<'a>(given: &ArgMatches<'a>) -> Result<NodeWords<'a>, Refusal>
     ensures err { IfErr result (AreNodeWordsRefused (found_of given.now)) }
 {
     let id = given_number(given, ID)? as u16;
-    // Beside these, it takes what `up` takes.
+    // Besides these, it takes what `up` takes.
     let words = up::asked(given)?;
     Ok(NodeWords {
         file: words.file,

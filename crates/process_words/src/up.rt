@@ -34,8 +34,8 @@ line says so. Each node gets --hold, --repeat, --turn, --group-locks, --log,
 SIGINT (Ctrl-C), SIGTERM or SIGHUP ends it. So does the end of its standard
 input, if that is a terminal (Ctrl-D) or a pipe; with a file or /dev/null it
 runs on. Then the nodes save their states and end, with a line each. What has
-not ended after five seconds is killed. Ctrl-C or another signal meanwhile kills
-it at once. If `up` itself is killed, each node still ends well.
+not ended after five seconds is killed. Ctrl-C or another signal before that
+kills it at once. If `up` itself is killed, each node still ends well.
 
 The launcher ./tokentree holds signals back from up, and so does
 

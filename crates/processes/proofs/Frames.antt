@@ -70,7 +70,7 @@ abbrev pub EachInRange : Ranges → List Ended → List Act → Type 0
 EachInRange r [] acts = AreInRange r (accepted_frames acts)
 EachInRange r (c ∷ cs) acts = AreInRange r (accepted_frames c.acts) × EachInRange r cs acts
 
--- if all that the link accepted is
+-- if all that the link accepted is in range
 pub each-in_range : (r : Ranges) (way : List Frame) (cs : List Ended) (acts : List Act) → AreInRange r (accepted_frames (history_over way cs acts)) → EachInRange r cs acts
 each-in_range r way [] acts h = h
 each-in_range r way (c ∷ cs) acts h =

@@ -1,4 +1,5 @@
--- A node that ticks in its turns, and whose loans end, ticks fully once in each such stretch.
+-- A node that ticks in its turns, and whose loans end, ticks fully in each stretch that is long
+-- enough.
 use Rattle.std.proofs.Common.{◌≡◌, ◌⊎◌, inl, inr, ℕ, zero, suc, ◌+◌, ◌*◌, ◌<◌, ◌≤◌, ◌==◌, if◌then◌else◌, ◌&&◌, max, List, [], ◌∷◌, ◌++◌, Option, Some, None, IsTrue, IsFalse, is_none, is_some, Bool, true, false, refl, ap, ◌∙◌, sym, subst, arith}
 use Rattle.std.proofs.lemmas.List.{append_assoc, append-nil}
 use Rattle.std.proofs.lemmas.List.Elements.{Contains-append_cases}
@@ -21,7 +22,7 @@ use Rattle.processes.proofs.TurnWindows.{pace-gives-windows}
 
 -- ---- lists
 
--- an item stands somewhere
+-- a list, split at an item
 abbrev Split : {X : Type 0} → List X → X → Type 0
 Split {X = X} xs x = (before after : List X) × (xs ≡ before ++ (x ∷ after))
 
@@ -96,7 +97,7 @@ tick-here site s e t ts x l m h =
 
 -- ---- a loan that ended
 
--- the node lends to nobody, and does not before its next tick is over
+-- the node lends to nobody, and does not lend before its next tick is over
 abbrev IsFree : LocalState → Type 0
 IsFree x = (x.desk.lent ≡ None) × (x.desk.served ≡ true)
 
@@ -285,7 +286,8 @@ module _ (p : Premises) (site : Site) (start until : ℕ) (turns : List Turn) (a
       none-between c i xs [] l early late = append-nil xs
       none-between c i xs (t ∷ more) l early late = let a = early.0 in let b = late.0 in absurd (omega (arith, l, a, b))
 
-  -- the point lies in the stretch, and a loan stands there
+  -- if the node lends at a point less than a turn after the start of the stretch, the stretch has a
+  -- full tick
   loan-over : (loan from : ℕ) → LoansEndWithin loan site start until account s → (a : ℕ) (point : Point account a) → IsTrue (lends (led site point.before s).desk)
       → start ≤ from → from ≤ a → a < from + p.turn → from + (loan + 2 * p.turn) ≤ until → FullIn from (from + (loan + 2 * p.turn))
   loan-over loan from ends a point lent l since soon to =
@@ -336,7 +338,7 @@ module _ (p : Premises) (site : Site) (start until : ℕ) (turns : List Turn) (a
       not-both true t f = cc
       not-both false t f = cc
 
-  -- if loans end, one of the turns until then has one
+  -- if loans end, a stretch of a loan and two turns has a full tick
   full-if-ends : (loan : ℕ) → LoansEndWithin loan site start until account s → (from : ℕ) → start ≤ from → from + (loan + 2 * p.turn) ≤ until → FullIn from (from + (loan + 2 * p.turn))
   full-if-ends loan ends from l to =
       let end = from + (loan + 2 * p.turn) in

@@ -41,7 +41,7 @@ gives-are u v (m ∷ ms) =
 
 -- ---- in order
 
--- what one mark is of a link happens when the mark does
+-- what one mark contributes to a link happens when the mark does
 pub one-moment : (u v : ℕ) (m : Mark) → AllByRecursion (λ a. moment a ≡ mark_moment m) (act_on u v m)
 one-moment u v (Does t a Ticks) = tt
 one-moment u v (Does t a (Sends b f)) = grind (arith, common_steps)
@@ -58,7 +58,7 @@ acts-later u v n (m ∷ ms) all =
     (all-more (λ a. moment a ≡ mark_moment m) (λ a. n ≤ moment a) (act_on u v m) (λ a e. let l = all.0 in omega (arith, e, l)) (one-moment u v m))
     (acts-later u v n ms all.1)
 
--- at most one act of a mark stands before those of the others
+-- acts of one moment, put before later acts in order, are in order
 order-join : (n : ℕ) (xs ys : List Act) → AllByRecursion (λ a. moment a ≡ n) xs → AllByRecursion (λ a. n ≤ moment a) ys → AreWeaklyInOrder ys → AreWeaklyInOrder (xs ++ ys)
 order-join n [] ys same later order = order
 order-join n (x ∷ xs) ys same later order = (

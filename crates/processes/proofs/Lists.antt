@@ -1,4 +1,4 @@
--- Lists of which all items have something, what stands in a list, and tests of which one holds.
+-- Lists all of whose items have a property, what is in a list, and tests of which one holds.
 use Rattle.std.proofs.Common.{◌≡◌, ◌⊎◌, List, [], ◌∷◌, ◌++◌, Bool, true, false, ◌||◌, IsTrue, refl, arith}
 use Rattle.std.proofs.lemmas.Grind.{common_steps}
 use Rattle.std.specs.List.{AllByRecursion, Contains}

@@ -1,10 +1,10 @@
--- Ordered lists of marks are merged into one: two of them, and then as many as there are nodes.
+-- Ordered lists of marks are merged into one: two of them, and then one list for each node.
 use Rattle.std.proofs.Common.{◌≡◌, ◌≢◌, ◌⊎◌, inl, inr, ℕ, zero, suc, ◌<◌, ◌≤◌, List, [], ◌∷◌, ◌++◌, refl, ap, ◌∙◌, sym, subst, arith}
 use Rattle.std.proofs.lemmas.Bool.{cases_eq}
 use Rattle.std.specs.List.{AllByRecursion}
 use Rattle.processes.specs.Marks.{Mark, mark_moment, AreOrdered}
 
--- the third list has all that stands in the first two, each in its order
+-- the third list has all items of the first two, each in its order
 pub data Merge : List Mark → List Mark → List Mark → Type 0 where
   Neither : Merge [] [] []
   First : {x : Mark} {xs ys zs : List Mark} → Merge xs ys zs → Merge (x ∷ xs) ys (x ∷ zs)
@@ -66,12 +66,12 @@ merged (x ∷ xs) o ys p = put-in x xs o.0 o.1 (merged xs o.1) ys p
 
 -- ---- what is picked of marks
 
--- what each of these marks has of something
+-- what is picked from each of these marks
 abbrev pub picked : {Y : Type 0} → (Mark → List Y) → List Mark → List Y
 picked pick [] = []
 picked pick (m ∷ ms) = pick m ++ picked pick ms
 
--- none of them has anything of it
+-- nothing is picked from any of them
 abbrev pub HaveNone : {Y : Type 0} → (Mark → List Y) → List Mark → Type 0
 HaveNone pick ms = AllByRecursion (λ m. pick m ≡ []) ms
 
@@ -88,10 +88,10 @@ of-second pick (Second {y = y} m) none = ap (λ ps. pick y ++ ps) (of-second pic
 pub none-merged : {Y : Type 0} (pick : Mark → List Y) {xs ys zs : List Mark} → Merge xs ys zs → HaveNone pick xs → HaveNone pick ys → HaveNone pick zs
 none-merged pick m a b = all-merged (λ x. pick x ≡ []) m a b
 
--- ---- of as many lists as there are nodes
+-- ---- one list for each node
 
--- the first n of these lists, merged: whatever stands in none of them but one is picked of that
--- one; whatever stands in none of them stands nowhere
+-- the first n of these lists, merged: whatever is in only one of them is picked from that one;
+-- whatever is in none of them is nowhere
 pub record Gathered (list : ℕ → List Mark) (n : ℕ) : Type 1 where
   pub all : List Mark
   pub ordered : AreOrdered all

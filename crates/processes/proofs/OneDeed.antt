@@ -1,4 +1,4 @@
--- One deed of an account: what it asks of the node, and what it makes of it.
+-- One deed of an account: what it requires of the node, and what it makes of the node.
 use Rattle.std.proofs.Common.{◌≡◌, List, ◌∷◌, IsTrue}
 use Rattle.std.specs.List.{Contains}
 use Rattle.data_link.specs.Port.{frame_of}

@@ -1,4 +1,4 @@
--- What one mark is of each account and of each history.
+-- What one mark contributes to each account and to each history.
 use Rattle.std.proofs.Common.{◌≡◌, ◌≢◌, ℕ, List, ◌∷◌, arith}
 use Rattle.std.proofs.lemmas.Grind.{common_steps}
 use Rattle.topology.specs.declared.frame.Frame.{Frame}

@@ -176,7 +176,7 @@ module _ (n : ℕ) (account : ℕ → List Timed) (history : ℕ → ℕ → Lis
     },
   )
 
--- both of two nodes are nodes
+-- of two nodes in the network, neither is outside it
 not-there : (n u v : ℕ) → (n ≤ u) ⊎ (n ≤ v) → (u < n) × (v < n) → ⊥
 not-there n u v (inl l) both = let k = both.0 in omega (arith, l, k)
 not-there n u v (inr l) both = let k = both.1 in omega (arith, l, k)

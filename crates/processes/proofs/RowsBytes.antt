@@ -1,4 +1,4 @@
--- Connections of bytes, small enough to see through: the beginnings of a line, and half a line.
+-- Connections of bytes, small enough to check by hand: the beginnings of a line, and half a line.
 use Rattle.std.proofs.Common.{◌≡◌, ◌==◌, ◌&&◌, ℕ, Bool, true, false, List, [], ◌∷◌, ◌++◌, refl, ap, sym, subst, ◌∙◌, codes, arith}
 use Rattle.std.proofs.lemmas.Grind.{common_steps}
 use Rattle.topology.specs.declared.frame.Frame.{Frame}
@@ -48,7 +48,7 @@ are_none (f ∷ fs) = false
 
 -- ---- a connection
 
--- one line came whole, and the half of the next: the first frame is pulled
+-- one line came whole, and half of the next: the first frame is pulled
 half-of-the-next : IsConnection sizes [] (numbered 1 ∷ numbered 2 ∷ []) (numbered 1 ∷ [])
 unfolding frame_of spelling
 half-of-the-next = record {
@@ -58,7 +58,7 @@ half-of-the-next = record {
   pulled_are = refl;
 }
 
--- of the one line no other frame is pulled
+-- from that one line no other frame is pulled
 only-the-first : each_passes (λ r. are_numbered 1 (good_lines sizes r)) (lines_of (numbered 1 ∷ [])) ≡ true
 unfolding frame_of spelling
 only-the-first = refl
@@ -98,7 +98,7 @@ not-with-a-half sent taken cs acts h = let e : ◌≡◌ {A = List ℕ} (codes "
 
 -- ---- what happened on a link that was two connections, one after the other
 
--- on the first one a frame was accepted, and not given when it ended
+-- on the first connection a frame was accepted, and not given when that ended
 abbrev twice : Wires
 twice = record {
   junk = λ u v. [];

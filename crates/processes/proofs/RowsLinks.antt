@@ -1,4 +1,4 @@
--- Histories of a link, small enough to see through.
+-- Histories of a link, small enough to check by hand.
 use Rattle.std.proofs.Common.{◌≡◌, ℕ, List, [], ◌∷◌, ◌++◌, None, refl, inl, inr, ap, ◌∙◌, sym, arith}
 use Rattle.topology.specs.declared.frame.Frame.{Frame}
 use Rattle.link_model.specs.declared.item.Item.{Item}
@@ -13,7 +13,7 @@ use Rattle.processes.specs.Connections.{IsWithin, KeepsOrder, Ended, history_ove
 abbrev pub numbered : ℕ → Frame
 numbered n = record { seq = n; ack = 0; payload = record { distance = 0; parent = None; ring = 0 } }
 
--- two frames of different numbers are two
+-- two frames with different numbers are different frames
 pub two-frames : numbered 1 ≡ numbered 2 → ⊥
 two-frames e = let n = ap (λ f. f.seq) e in omega (arith, n)
 
@@ -53,7 +53,7 @@ loses-one = (omega arith, (omega arith, (omega arith, ([], refl, refl))))
 what-stood-there : Plays 2 (item.Noise ∷ item.Frame (numbered 5) ∷ []) (Loses 1 0 ∷ Accepts 1 (numbered 1) ∷ Gives 2 (numbered 5) ∷ []) (item.Frame (numbered 1) ∷ [])
 what-stood-there = (omega arith, (omega arith, (item.Frame (numbered 1) ∷ [], refl, refl)))
 
--- the second is not given in front of the first
+-- the second frame is not given before the first
 not-out-of-order : (last : List Item) → Plays 2 [] (Accepts 1 (numbered 1) ∷ Accepts 2 (numbered 2) ∷ Gives 3 (numbered 2) ∷ []) last → ⊥
 not-out-of-order last h =
     let is : ◌≡◌ {A = List Item} (item.Frame (numbered 1) ∷ item.Frame (numbered 2) ∷ []) (item.Frame (numbered 2) ∷ h.1.1.0) = h.1.1.1 in
@@ -95,7 +95,7 @@ not-at-once h = let a = h.0.0 in grind arith
 
 -- ---- whole histories
 
--- the one end sent two frames, the other took the second
+-- one end sent two frames, and the other took the second
 a-history : IsHistory 2 [] (Accepts 1 (numbered 1) ∷ Accepts 2 (numbered 2) ∷ []) (Gives 3 (numbered 2) ∷ [])
     (Accepts 1 (numbered 1) ∷ Accepts 2 (numbered 2) ∷ Loses 3 0 ∷ Gives 3 (numbered 2) ∷ []) []
 a-history = record {
@@ -123,11 +123,11 @@ not-made-up capacity history last h =
 
 -- ---- connections
 
--- one connection for one frame: two frames, one after the other
+-- a connection that holds one frame carries two frames, one after the other
 keeps-order : KeepsOrder 1 [] (Accepts 1 (numbered 1) ∷ Gives 2 (numbered 1) ∷ Accepts 3 (numbered 2) ∷ []) (numbered 2 ∷ [])
 keeps-order = record { kept = refl; within = (omega arith, (omega arith, tt)) }
 
--- none may be passed over
+-- no frame may be passed over
 not-passed-over : (left : List Frame) → KeepsOrder 2 [] (Accepts 1 (numbered 1) ∷ Accepts 2 (numbered 2) ∷ Gives 3 (numbered 2) ∷ []) left → ⊥
 not-passed-over left h =
     let e : ◌≡◌ {A = List Frame} (numbered 1 ∷ numbered 2 ∷ []) (numbered 2 ∷ left) = h.kept in
@@ -190,13 +190,13 @@ not-lost-too-late sent taken r h = let a = h.in_order.1.0.0 in grind arith
 keep-order : KeepOrder 1 [] first_one (Accepts 5 (numbered 2) ∷ []) (numbered 2 ∷ [])
 keep-order = (record { kept = refl; within = (omega arith, tt) }, record { kept = refl; within = (omega arith, tt) })
 
--- two numbers of counters are in range; a number that is no counter's is not
+-- two frames whose numbers are counters are in range; one whose number is not a counter is not
 in-range : AreInRange sizes (numbered 1 ∷ numbered 2 ∷ [])
 in-range = (refl, (refl, tt))
 
 not-in-range : AreInRange sizes (numbered 9 ∷ []) → ⊥
 not-in-range h = let e = h.0 in absurd cc
 
--- a connection that carries two frames at once is none of capacity 1
+-- a connection that carries two frames at once does not have capacity 1
 not-carried : CarriesActs sizes 1 [] (Accepts 1 (numbered 1) ∷ Accepts 2 (numbered 2) ∷ []) → ⊥
 not-carried c = not-two-at-once c.within

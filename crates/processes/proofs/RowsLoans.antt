@@ -1,4 +1,4 @@
--- Small accounts of loans and turns, seen through; and windows that are too short.
+-- Small accounts of loans and turns, checked by hand; and windows that are too short.
 use Rattle.std.proofs.Common.{◌≡◌, ◌⊎◌, inl, inr, ℕ, zero, suc, ◌+◌, ◌*◌, ◌<◌, ◌≤◌, List, [], ◌∷◌, ◌++◌, Option, Some, None, IsTrue, IsFalse, Bool, true, false, refl, ap, ◌∙◌, sym, subst, arith}
 use Rattle.std.proofs.lemmas.Grind.{common_steps}
 use Rattle.std.specs.List.{AllByRecursion, Contains}
@@ -40,7 +40,7 @@ none-before : (xs ys : List Timed) → [] ≡ xs ++ ys → xs ≡ []
 none-before [] ys e = refl
 none-before (x ∷ xs) ys e = absurd cc
 
--- before all that is done
+-- the point before all deeds
 abbrev at-first : (account : List Timed) (a : ℕ) → AllByRecursion (λ t. a ≤ t.instant) account → Point account a
 at-first account a since = record { before = []; after = account; whole = refl; until = tt; since = since }
 
@@ -101,7 +101,7 @@ a-loan-in-time site s a p from to lent = elim (one-cut (leave_at 4) p.before p.a
   | inr front ↦ let t = subst (λ ts. IsTrue (lends (led site ts (lending s)).desk)) front lent in absurd (not-both false t refl)
 ]
 
--- a loan that stands
+-- a loan that does not end
 not-a-loan-that-stands : (site : Site) (s : LocalState) → LoansEndWithin 5 site 0 20 [] (lending s) → ⊥
 not-a-loan-that-stands site s ends =
     let over = ends 0 (at-first [] 0 tt) (omega arith) (omega arith) refl in
@@ -228,7 +228,7 @@ not-without-repeat law =
     let passes = law (pace-two 8) 0 4 two_turns two_turns [] two-often two-often none-is-due (λ a f t there from ends turn late. absurd (in-none (Accepts a f) there)) 0 (omega arith) (omega arith) in
     not-both false passes refl
 
--- one turn for two: the frame is given in a turn at 3, and taken in one at 4
+-- one turn instead of two: the frame is given in a turn at 3, and taken in one at 4
 abbrev even_turns : List Turn
 even_turns = turn_at 0 0 ∷ turn_at 2 2 ∷ turn_at 4 4 ∷ []
 

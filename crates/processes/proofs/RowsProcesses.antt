@@ -1,4 +1,4 @@
--- Two processes on the least network, small enough to see through.
+-- Two processes on the smallest network, small enough to check by hand.
 use Rattle.std.proofs.Common.{◌≡◌, ◌==◌, ◌&&◌, if◌then◌else◌, ℕ, zero, suc, ◌<◌, ◌≤◌, List, [], ◌∷◌, ◌++◌, map, rules, IsFalse, refl, inl, ◌∙◌, sym, ap, arith}
 use Rattle.std.proofs.lemmas.Grind.{common_steps}
 use Rattle.topology.specs.Network.{are_joined, bound_of}
@@ -107,7 +107,7 @@ an-order = record {
   losses = losses-are;
 }
 
--- a take does not stand in front of what happened before it
+-- a take does not come before what happened earlier
 not-the-take-first : AreOrdered (Does 2 1 (Takes 0 said) ∷ Does 1 0 (Sends 1 said) ∷ []) → ⊥
 not-the-take-first h = let a = h.0.0 in omega (arith, a)
 
@@ -125,7 +125,7 @@ not-nothing o = none o.marks o.are_events (o.nodes 0) where
   none [] e h = let f : ◌≡◌ {A = List Timed} [] (record { instant = 1; deed = Sends 1 said } ∷ []) = h in absurd cc
   none (m ∷ ms) e h = let f : ◌≡◌ {A = List Event} (event_of m ∷ map event_of ms) [] = e in absurd cc
 
--- a node that takes what no other sent is no such process, whatever is said of the links
+-- a node that takes what no other node sent is no such process, whatever is said of the links
 abbrev alone : ℕ → List Timed
 alone (suc zero) = record { instant = 2; deed = Takes 0 said } ∷ []
 alone _ = []
@@ -148,7 +148,7 @@ not-two h = let a = h.1.0.1 in grind (arith, common_steps)
 not-of-an-empty-link : GoesThrough calm (Take 0 1 ∷ []) → ⊥
 not-of-an-empty-link h = let a = h.0.1 in omega (arith, a)
 
--- an ask may be refused, but by the desk alone
+-- an ask may be refused, but only by the desk
 refused-by-desk : GoesThrough calm (Ask 1 7 ∷ Ask 1 7 ∷ [])
 refused-by-desk = search rules
 
@@ -162,11 +162,11 @@ serves-at-once : ServesAfter 0 calm []
 serves-at-once [] after is sweeps = calm-serves
 serves-at-once (e ∷ before) after is sweeps = let f : ◌≡◌ {A = List Event} [] (e ∷ (before ++ after)) = is in absurd cc
 
--- one in which both nodes lend does not
+-- a world in which both nodes lend does not
 not-forged : ServesAfter 0 forged [] → ⊥
 not-forged h = let two = (h [] [] refl tt).one_lending 0 1 (omega arith) (omega arith) refl refl in absurd (omega (arith, two))
 
--- a network of one node, whose desk's tickets wait, with no sweep at all
+-- a network of one node, which has this desk, and no sweep at all
 abbrev one_waits : DeskState → World
 one_waits desk = record calm { net = record two_nodes { nodes = 1; edges = [] }; node = λ v. record (calm.node v) { desk = desk } }
 
@@ -199,7 +199,7 @@ keeps-promise = record {
   lends = nobody-to-lend (sharp_of two_nodes);
 }
 
--- it is not kept if the events lead to another world, nor if one of them does not go through
+-- it is not kept if the events lead to a different world, nor if one of them does not go through
 not-elsewhere : KeepsPromise calm (run calm (Send 0 1 ∷ [])) [] → ⊥
 not-elsewhere h = let e : ◌≡◌ {A = List Item} [] (item.Frame said ∷ []) = ap (λ w. w.link 0 1) h.leads in absurd cc
 
@@ -264,6 +264,6 @@ over-bytes = record {
   in-time-of zero = (tt, tt)
   in-time-of (suc v) = tt
 
--- with a frame under way at the end that no line of the last connection is
+-- not if nothing is under way at the end, since a frame is left on the last connection
 not-another-end : AreProcessesOverBytes calm only_sends one_wire calm → ⊥
 not-another-end p = let e : ◌≡◌ {A = List Item} [] (item.Frame said ∷ []) = p.left 0 1 refl in absurd cc

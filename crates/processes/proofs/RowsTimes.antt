@@ -61,7 +61,7 @@ accepted-at = refl
 given_not-at : give_at 2 5 (Sends 2 said) ≡ []
 given_not-at = refl
 
--- a loss comes first of its instant; a frame is given later than it was accepted
+-- a loss comes first at its instant; a frame is given later than it was accepted
 before-loss : IsBefore (Loses 5 0) (Gives 5 said)
 before-loss = inl (omega arith)
 
@@ -114,7 +114,7 @@ left_not-of-ended = refl
 abbrev sizes : Ranges
 sizes = record { nodes = 3; counter = 5; ring = 13 }
 
--- junk stands on the first connection alone: of two, each in turn carries one frame
+-- only the first connection may hold junk: of two connections, each in turn carries one frame
 carry-two : CarryActs sizes 1 [] (record { acts = Accepts 1 (numbered 1) ∷ []; instant = 4 } ∷ []) (Accepts 5 (numbered 2) ∷ [])
 carry-two = (
   record { bytes = nothing-yet sizes [] (numbered 1 ∷ []); within = (omega arith, tt) },
@@ -197,7 +197,7 @@ keeps = record {
   ticks = λ v s below from to. ticks-at v s below to;
 }
 
--- a node without a turn keeps none
+-- a node without a turn keeps no pace
 keeps_not-without : ¬ KeepsPace three 0 3 (λ v. []) calm ticks_once passes_once
 keeps_not-without k = let t = k.turns_often 0 (omega arith) 0 (omega arith) (omega arith) in in-none t.0 t.1
 

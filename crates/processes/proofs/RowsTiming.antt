@@ -1,4 +1,4 @@
--- Small accounts, turns and histories, seen through.
+-- Small accounts, turns and histories, checked by hand.
 use Rattle.std.proofs.Common.{◌≡◌, ℕ, [], ◌∷◌, None, Some, true, false, refl, ap, arith}
 use Rattle.std.proofs.lemmas.Grind.{common_steps}
 use Rattle.topology.specs.declared.frame.Frame.{Frame}

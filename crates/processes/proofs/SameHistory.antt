@@ -54,12 +54,12 @@ first-of P k (b ∷ acts) a rest all is = elim (cases_eq (kind b) k) [
   | inr apart ↦ first-of P k acts a rest all.1 (sym (there k b acts apart) ∙ is)
 ]
 
--- no act stands after one that happens later
+-- no act comes after one that happens later
 abbrev pub AreWeaklyInOrder : List Act → Type 0
 AreWeaklyInOrder [] = Unit {0}
 AreWeaklyInOrder (a ∷ acts) = AllByRecursion (λ b. moment a ≤ moment b) acts × AreWeaklyInOrder acts
 
--- two lists of acts that have the same acts of each kind, both in order, are one
+-- two lists of acts in order that have the same acts of each kind are the same
 same-acts : (xs ys : List Act) → AreWeaklyInOrder xs → AreInOrder ys → ((k : ℕ) → of_kind k xs ≡ of_kind k ys) → xs ≡ ys
 same-acts [] [] wx wy same = refl
 same-acts [] (y ∷ ys) wx wy same =

@@ -129,7 +129,7 @@ module _ (w last : World) (ms : List Mark) (t v : ℕ) (d : Deed) (h : Holds w (
   nodes-next : (a : ℕ) → Leads (site_of w.net a) (deeds (account_of a ms)) (at w.node v (after_deed (site_of w.net v) d (w.node v)) a) (last.node a)
   nodes-next = at-each (λ a s. Leads (site_of w.net a) (deeds (account_of a ms)) s (last.node a)) w.node v (after_deed (site_of w.net v) d (w.node v)) leads-here.1 leads-there
 
-  -- a deed that is none of a link's
+  -- a deed that changes no link
   pub inside : ((a b : ℕ) → history_of a b (Does t v d ∷ ms) ≡ history_of a b ms) → Holds (with_node w v (after_deed (site_of w.net v) d (w.node v))) ms last
   inside same = record {
     network = h.network;
@@ -140,7 +140,7 @@ module _ (w last : World) (ms : List Mark) (t v : ℕ) (d : Deed) (h : Holds w (
     nowhere = λ a b apart. (ap the_losses (sym (same a b)) ∙ (h.nowhere a b apart).0, (h.nowhere a b apart).1);
   }
 
--- the same, of the world after an event that is done
+-- the same for the world after an event that is done
 goes-on : (w last x : World) (e : Event) (ms : List Mark) → IsDone w e → step w e ≡ x → x.net ≡ w.net → Holds x ms last → GoesOn w last e ms
 goes-on w last x e ms done is network holds = record {
   done = done;
@@ -157,7 +157,7 @@ module _ (near : NeighboursAreJoined) (back : JoinedBack) (w last : World) (ms :
   joined-to : (v u : ℕ) → Contains (neighbours_of w.net v) u → IsTrue (are_joined w.net.edges v u)
   joined-to v u there = ((near w.net v u).0 there).1
 
-  -- a mark that changes one link alone leaves all others, and what holds of them
+  -- a mark that changes only one link leaves all others as they are, and what holds of them
   links-next : (m : Mark) (u v : ℕ) (xs : List Item) → Holds w (m ∷ ms) last → ((a b : ℕ) → ((a ≡ u) × (b ≡ v) → ⊥) → history_of a b (m ∷ ms) ≡ history_of a b ms)
       → Plays w.net.capacity xs (history_of u v ms) (last.link u v)
       → (a b : ℕ) → IsTrue (are_joined w.net.edges a b) → Plays w.net.capacity (at_pair w.link u v xs a b) (history_of a b ms) (last.link a b)

@@ -41,7 +41,8 @@ one-passes s e a p (q ∷ ps) there is since later soon = by-place (first-or p q
       left-or (is_since s q.accepted && is_in s e q.given) (passes_in s e ps) (subst (λ x. IsTrue (is_since s x.accepted && is_in s e x.given)) (sym same) (inside s e a p is since later soon))
   by-place (inr rest) again = right-or (is_since s q.accepted && is_in s e q.given) (passes_in s e ps) (again rest is since later soon)
 
--- given in the first turn that begins `repeat` later, and taken in the first that begins `delay` after that
+-- a frame is given in the first turn that begins `repeat` later, and taken in the first that begins `delay`
+-- after that
 pub passes-within : (pace : Pace) (start until s e : ℕ) (from to : List Turn) (acts : List Act) (passed : List Passage) → TurnsOften pace start until from → TurnsOften pace start until to
     → GivesOften pace start until from acts → Arrives pace start until to acts passed → start ≤ s → s + (pace.repeat + 2 * pace.turn + pace.delay) ≤ e → e ≤ until → IsTrue (passes_in s e passed)
 passes-within pace start until s e from to acts passed turns-from turns-to gives arrives l m n =
@@ -72,7 +73,7 @@ pace-gives-windows are-joined pace start until turns w account history range k =
       (k.turns_often u nodes.0) (k.turns_often v nodes.1) (k.gives u v is) (k.arrives u v is) from (omega (arith, a)) to;
 }
 
--- a ring of three: a frame each 8 ms, turns each 2.2 ms, 0.1 ms on the way, and no loan
+-- a ring of three: a frame every 8 ms, a turn every 2.2 ms, 0.1 ms on the way, and no loan
 window-by-hand : window_of (record { turn = 2200; repeat = 8000; delay = 100; full = 2200 }) ≡ 12500
 window-by-hand = refl
 

@@ -45,7 +45,7 @@ length-map f (x ∷ xs) = ap suc (length-map f xs)
 
 -- ---- the length of what is under way
 
--- two links that come to the same by the same acts hold as many items
+-- two links that come to the same items by the same acts hold the same number of items
 pub same-length : (capacity : ℕ) (xs ys last : List Item) (acts : List Act) → Plays capacity xs acts last → Plays capacity ys acts last → length xs ≡ length ys
 same-length capacity xs ys last [] p q = ap length (sym p ∙ q)
 same-length capacity xs ys last (Accepts t f ∷ acts) p q =
@@ -134,11 +134,11 @@ abbrev pub is_sent : Origin → Bool
 is_sent Before = false
 is_sent (Sent i) = true
 
--- beside each item stands whether it was sent in the stretch
+-- both lists agree on which items were sent in the stretch
 abbrev pub AreAlike : ℕ → List Origin → List (Option ℕ) → Type 0
 AreAlike s origins way = map is_sent origins ≡ map (is_since s) way
 
--- what a mark is of a link, as an act of its history and of its sweep
+-- what a mark contributes to a link, as an act of its history and of its sweep
 data Kind (u v : ℕ) (m : Mark) : Type 0 where
   None-of : act_on u v m ≡ [] → link_act u v (event_of m) ≡ link.Rests → Kind u v m
   Put-of : (t : ℕ) (f : Frame) → act_on u v m ≡ Accepts t f ∷ [] → link_act u v (event_of m) ≡ link.Puts → mark_moment m ≡ suc (2 * t) → Kind u v m

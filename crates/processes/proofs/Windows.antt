@@ -89,7 +89,7 @@ alike-first s (x ∷ items) (o ∷ way) e none =
     let n : length way ≡ length items = omega (arith, e) in
     ap (λ l. false ∷ l) (alike-first s items way n none.1) ∙ ap (λ b. b ∷ map (is_since s) way) (sym none.0)
 
--- what is asked of all marks
+-- what is required of all marks
 record Moves (window start until : ℕ) (w : World) (ms : List Mark) : Type 0 where
   ticks : (v s : ℕ) → v < w.net.nodes → start ≤ s → s + window ≤ until → IsTrue (ticks_fully_in (site_of w.net v) s (s + window) (account_of v ms) (w.node v))
   links : (u v s : ℕ) → IsTrue (are_joined w.net.edges u v) → start ≤ s → s + window ≤ until → IsTrue (passes_in s (s + window) (passages (at_first (w.link u v)) (history_of u v ms)))
@@ -190,7 +190,7 @@ module _ (near : NeighboursAreJoined) (back : JoinedBack) where
           → (o : IsOrderOf account history events) → GoesThrough w (map event_of o.marks)
       all-through w last account history events range p o = (marks-run near back o.marks w last (nodes-of w range) (all-hold w last account history events p o)).1
 
-      -- as many sweeps as windows that are over
+      -- there are as many sweeps as windows that are over
       enough : (w last : World) (account : ℕ → List Timed) (history : ℕ → ℕ → List Act) (events : List Event) (o : IsOrderOf account history events) (window start until k : ℕ)
           (before after : List Mark) → IsWorldInRange w → AreProcesses w account history last → MovesWithin window start until w account history
           → o.marks ≡ before ++ after → start + k * window ≤ until → AreSince (start + k * window) after

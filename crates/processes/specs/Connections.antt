@@ -28,8 +28,8 @@ given_frames (Accepts t f ∷ acts) = given_frames acts
 given_frames (Gives t f ∷ acts) = f ∷ given_frames acts
 given_frames (Loses t i ∷ acts) = given_frames acts
 
--- With n frames under way at first: nothing is lost, no frame is given before it was accepted, by
--- count, and at most so many are under way at every moment.
+-- With n frames under way at first: nothing is lost, by count no frame is given before it was
+-- accepted, and a frame is accepted only while fewer than `capacity` are under way.
 abbrev pub IsWithin : ℕ → ℕ → List Act → Type 0
 IsWithin capacity n [] = Unit {0}
 IsWithin capacity n (Accepts t f ∷ acts) = (n < capacity) × IsWithin capacity (suc n) acts
@@ -86,23 +86,23 @@ abbrev pub lines_of : List Frame → List ℕ
 lines_of [] = []
 lines_of (f ∷ fs) = line_of f ++ lines_of fs
 
--- all of them are in range
+-- all of these frames are in range
 abbrev pub AreInRange : Ranges → List Frame → Type 0
 AreInRange r fs = AllByRecursion (λ f. IsTrue (frame_fits r f)) fs
 
--- One connection, as its two ends saw it. At the start there stood junk between them: bytes on the
--- wire, a half line that the receiver had read, the rest of a line that the sender had begun; on a
--- new connection there is none. What was read at the one end is a beginning of the junk and then of
--- the lines of the frames that were accepted at the other; and the frames that were pulled are the
--- good lines of what was read.
+-- One connection, as its two ends saw it. At the start junk stood between them: bytes on the wire,
+-- a half line that the receiver had read, the rest of a line that the sender had begun; on a new
+-- connection there is none. What was read at the one end is a beginning of the junk and then of the
+-- lines of the frames that were accepted at the other; and the frames that were pulled are the good
+-- lines of what was read.
 pub record IsConnection (r : Ranges) (junk : List ℕ) (accepted pulled : List Frame) : Type 0 where
   pub read : List ℕ
   pub ahead : List ℕ
   pub beginning : read ++ ahead ≡ junk ++ lines_of accepted
   pub pulled_are : good_lines r read ≡ pulled
 
--- The connection carries these acts, with that junk at its start: its bytes are so, and at most so
--- many frames are under way.
+-- The connection carries these acts, with that junk at its start: its bytes make such a connection,
+-- and at most `capacity` frames are under way.
 pub record CarriesActs (r : Ranges) (capacity : ℕ) (junk : List ℕ) (acts : List Act) : Type 0 where
   pub bytes : IsConnection r junk (accepted_frames acts) (given_frames acts)
   pub within : IsWithin capacity (length (good_lines r junk)) acts

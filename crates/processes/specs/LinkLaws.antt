@@ -39,8 +39,8 @@ ConnectionsGiveABeginning =
     (r : Ranges) (junk : List ℕ) (accepted pulled : List Frame) → IsConnection r junk accepted pulled
     → (left : List Frame) × (good_lines r (junk ++ lines_of accepted) ≡ pulled ++ left)
 
--- And so it keeps order and loses nothing, if no half line stood on it at the start and at most so
--- many frames are under way. At the start those are under way whose lines stood on it.
+-- And so it keeps order and loses nothing, if no half line stood on it at the start and at most
+-- `capacity` frames are under way. At the start the frames whose lines stood on it are under way.
 abbrev pub BytesKeepOrder : Type 0
 BytesKeepOrder =
     (r : Ranges) (junk : List ℕ) (capacity : ℕ) (acts : List Act) → AreNarrow r

@@ -1,4 +1,5 @@
--- What happens on a directed link: it keeps order, may lose, and holds at most so many frames.
+-- What happens on a directed link: it keeps order, may lose, and holds at most as many frames as
+-- its capacity.
 use Rattle.std.specs.Prelude.{◌≡◌, ℕ, suc, ◌*◌, ◌<◌, ◌≤◌, ◌==◌, ◌⊎◌, if◌then◌else◌, List, [], ◌∷◌, ◌++◌, length}
 use Rattle.std.specs.List.{AllByRecursion, remove}
 use Rattle.topology.specs.declared.frame.Frame.{Frame}
@@ -14,14 +15,14 @@ pub data Act : Type 0 where
   Gives : ℕ → Frame → Act
   Loses : ℕ → ℕ → Act
 
--- its frames that the link accepts, with their instants
+-- the acts by which a link accepts frames, with their instants
 abbrev pub the_accepts : List Act → List Act
 the_accepts [] = []
 the_accepts (Accepts t f ∷ acts) = Accepts t f ∷ the_accepts acts
 the_accepts (Gives t f ∷ acts) = the_accepts acts
 the_accepts (Loses t i ∷ acts) = the_accepts acts
 
--- those that it gives
+-- those by which it gives frames
 abbrev pub the_gives : List Act → List Act
 the_gives [] = []
 the_gives (Accepts t f ∷ acts) = the_gives acts
@@ -35,7 +36,7 @@ the_losses (Accepts t f ∷ acts) = the_losses acts
 the_losses (Gives t f ∷ acts) = the_losses acts
 the_losses (Loses t i ∷ acts) = Loses t i ∷ the_losses acts
 
--- what a deed at that instant is for the link that leads to u, or none of it
+-- what a deed at that instant is for the link that leads to u, if it is anything
 abbrev pub accept_at : ℕ → ℕ → Deed → List Act
 accept_at u t (Sends w f) = if w == u then Accepts t f ∷ [] else []
 accept_at u t _ = []
@@ -62,14 +63,14 @@ moment (Accepts t f) = suc (2 * t)
 moment (Gives t f) = suc (2 * t)
 moment (Loses t i) = 2 * t
 
--- of which kind an act is: 0 accepts, 1 gives, 2 loses
+-- the kind of an act: 0 accepts, 1 gives, 2 loses
 abbrev pub kind : Act → ℕ
 kind (Accepts t f) = 0
 kind (Gives t f) = 1
 kind (Loses t i) = 2
 
--- The one comes before the other: acts of one kind may share an instant, acts of two kinds stand at
--- two moments. So a frame is given later than it was accepted.
+-- The one comes before the other: acts of one kind may share an instant, acts of different kinds
+-- stand at different moments. So a frame is given later than it was accepted.
 abbrev pub IsBefore : Act → Act → Type 0
 IsBefore a b = (moment a < moment b) ⊎ ((kind a ≡ kind b) × (moment a ≤ moment b))
 

@@ -1,4 +1,4 @@
--- When a node ticks and how long it lends, in instants: so how often it has a full tick.
+-- When a node ticks and how long it lends, in instants; and so how often it has a full tick.
 use Rattle.std.specs.Prelude.{◌≡◌, ◌⊎◌, ℕ, zero, suc, ◌+◌, ◌<◌, ◌≤◌, IsTrue, IsFalse, List, [], ◌∷◌, ◌++◌, map}
 use Rattle.std.specs.List.{AllByRecursion, Contains}
 use Rattle.topology.specs.Network.{are_joined}
@@ -26,7 +26,7 @@ led site [] s = s
 led site (t ∷ ts) s = led site ts (after_deed site t.deed s)
 
 -- A point of an account at an instant: what was done until then, and what was done from then on. Of
--- the deeds of that very instant any first part may be done.
+-- the deeds at that very instant, any first part may count as done.
 pub record Point (account : List Timed) (instant : ℕ) : Type 0 where
   pub before : List Timed
   pub after : List Timed
@@ -46,7 +46,7 @@ LendsIn site t account s =
     (a : ℕ) × (p : Point account a) × (t.begins ≤ a) × (a ≤ t.ends)
     × IsTrue (lends (led site p.before s).desk)
 
--- In each turn the node ticks, unless it lends: a tick may be left out for the sake of a loan alone.
+-- In each turn the node ticks, unless it lends: a tick may be left out only for the sake of a loan.
 abbrev pub TicksInTurns : Site → ℕ → ℕ → List Turn → List Timed → LocalState → Type 0
 TicksInTurns site start until turns account s =
     (t : Turn) → Contains turns t → start ≤ t.begins → t.ends < until
@@ -72,7 +72,7 @@ abbrev pub LoansKeep : ℕ → Site → ℕ → ℕ → List Timed → LocalStat
 LoansKeep zero site start until account s = NobodyBorrows site start until account s
 LoansKeep (suc k) site start until account s = LoansEndWithin (suc k) site start until account s
 
--- the pace of a machine of which that is believed
+-- the pace of a machine of which these premises are believed
 abbrev pub pace_of : Premises → Pace
 pace_of p = record { turn = p.turn; repeat = p.repeat; delay = p.delay; full = full_of p }
 

@@ -36,35 +36,35 @@ abbrev pub AreOrdered : List Mark → Type 0
 AreOrdered [] = Unit {0}
 AreOrdered (m ∷ ms) = AllByRecursion (λ later. mark_moment m ≤ mark_moment later) ms × AreOrdered ms
 
--- what a mark is of v's account
+-- the part of v's account that a mark is
 abbrev pub done_by : ℕ → Mark → List Timed
 done_by v (Does t a d) = if a == v then record { instant = t; deed = d } ∷ [] else []
 done_by v (Drops t a b i) = []
 
--- what v does, of all that happened
+-- all that v does, out of all that happened
 abbrev pub account_of : ℕ → List Mark → List Timed
 account_of v [] = []
 account_of v (m ∷ ms) = done_by v m ++ account_of v ms
 
--- what a deed of a at that instant is of the link from u to v
+-- what a deed of a at that instant is for the link from u to v
 abbrev pub deed_act : ℕ → ℕ → ℕ → ℕ → Deed → List Act
 deed_act u v t a (Sends b f) = if (a == u) && (b == v) then Accepts t f ∷ [] else []
 deed_act u v t a (Takes b f) = if (b == u) && (a == v) then Gives t f ∷ [] else []
 deed_act u v t a _ = []
 
--- what a mark is of the link from u to v
+-- what a mark is for the link from u to v
 abbrev pub act_on : ℕ → ℕ → Mark → List Act
 act_on u v (Does t a d) = deed_act u v t a d
 act_on u v (Drops t a b i) = if (a == u) && (b == v) then Loses t i ∷ [] else []
 
--- what happens on the link from u to v, of all that happened
+-- all that happens on the link from u to v, out of all that happened
 abbrev pub history_of : ℕ → ℕ → List Mark → List Act
 history_of u v [] = []
 history_of u v (m ∷ ms) = act_on u v m ++ history_of u v ms
 
 -- The list of events is an order of what these accounts and histories speak of: each deed and each
--- loss once and nothing else, by their instants. Of deeds of one instant, of two nodes, either may
--- come first.
+-- loss once and nothing else, by their instants. Of two deeds at one instant, by two nodes, either
+-- may come first.
 pub record IsOrderOf (account : ℕ → List Timed) (history : ℕ → ℕ → List Act) (events : List Event)
     : Type 0 where
   pub marks : List Mark

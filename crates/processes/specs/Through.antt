@@ -7,8 +7,8 @@ use Rattle.run_model.specs.declared.event.Event.{Event}
 use Rattle.run_model.specs.declared.event.Event.TheVariants.{Send, Take, Lose, Tick, Ask, Leave, Damage}
 use Rattle.run_model.specs.declared.event.EventFault.TheVariants.{Stranger}
 
--- The event is not refused, but an ask or a leave by the desk alone; a send meets room, a take an
--- item; and it is no damage.
+-- Only an ask or a leave may be refused, and only by the desk; a send finds room, and a take an
+-- item; and the event is no damage.
 abbrev pub IsDone : World → Event → Type 0
 IsDone w (Tick v) = refusal w (Tick v) ≡ None
 IsDone w (Send u v) = (refusal w (Send u v) ≡ None) × IsTrue (has_room w u v)
@@ -19,7 +19,7 @@ IsDone w (Leave v t) =
     refusal w (Leave v t) ≡ unless (not (is_stranger t (w.node v).desk)) Stranger
 IsDone w (Damage h) = ⊥
 
--- every event of the list is such when it happens
+-- this holds of every event of the list when it happens
 abbrev pub GoesThrough : World → List Event → Type 0
 GoesThrough w [] = Unit {0}
 GoesThrough w (e ∷ es) = IsDone w e × GoesThrough (step w e) es

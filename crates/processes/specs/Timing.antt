@@ -32,16 +32,16 @@ abbrev pub is_full : Site → Deed → LocalState → Bool
 is_full site Ticks s = is_none (ticked site s).desk.lent
 is_full site _ s = false
 
--- Some deed of the account is a full tick at an instant of the stretch. The account leads from that
--- state.
+-- Some deed of the account is a full tick at an instant of the stretch. The account starts from
+-- that state.
 abbrev pub ticks_fully_in : Site → ℕ → ℕ → List Timed → LocalState → Bool
 ticks_fully_in site from end [] s = false
 ticks_fully_in site from end (t ∷ ts) s =
     (is_in from end t.instant && is_full site t.deed s)
     || ticks_fully_in site from end ts (after_deed site t.deed s)
 
--- A frame that a link handed over: when the link had accepted it, none if it was under way at
--- first; and when it was given.
+-- A frame that a link handed over: when the link accepted it (none if it was under way at first),
+-- and when it was given.
 pub record Passage : Type 0 where
   pub accepted : Option ℕ
   pub given : ℕ

@@ -44,8 +44,9 @@ abbrev pub history_on : World → Wires → ℕ → ℕ → List Act
 history_on w wires u v =
     history_over (frames_at_first w wires u v) (wires.ended u v) (wires.acts u v)
 
--- The same of links that were one connection of bytes after another: the frames under way at the
--- start are those whose lines stand on it, and at the end those that are left on its last connection.
+-- The same for links that were one connection of bytes after another: the frames under way at the
+-- start are those whose lines stand on it, and at the end those that are left on its last
+-- connection.
 pub record AreProcessesOverBytes (w : World) (account : ℕ → List Timed) (wires : Wires)
     (last : World) : Type 0 where
   pub network : last.net ≡ w.net

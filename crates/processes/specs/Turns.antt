@@ -35,15 +35,15 @@ TurnsOften pace start until turns =
     (s : ℕ) → start ≤ s → s + pace.turn ≤ until
     → (t : Turn) × Contains turns t × (s ≤ t.begins) × (t.begins ≤ t.ends) × (t.ends < s + pace.turn)
 
--- From any instant on: in a turn of the sender that begins `repeat` later, if not before, the link
--- accepts a frame.
+-- From any instant on, the link accepts a frame by the end of each turn of the sender that begins
+-- `repeat` or more later.
 abbrev pub GivesOften : Pace → ℕ → ℕ → List Turn → List Act → Type 0
 GivesOften pace start until turns acts =
     (s : ℕ) (t : Turn) → start ≤ s → t.ends < until → Contains turns t → s + pace.repeat ≤ t.begins
     → (a : ℕ) × (f : Frame) × Contains acts (Accepts a f) × (s ≤ a) × (a ≤ t.ends)
 
--- A frame that the link accepted is handed over: in a turn of the receiver that begins `delay`
--- later, if not before.
+-- A frame that the link accepted is handed over by the end of each turn of the receiver that begins
+-- `delay` or more later.
 abbrev pub Arrives : Pace → ℕ → ℕ → List Turn → List Act → List Passage → Type 0
 Arrives pace start until turns acts passed =
     (a : ℕ) (f : Frame) (t : Turn) → Contains acts (Accepts a f) → start ≤ a → t.ends < until

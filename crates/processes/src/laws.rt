@@ -26,8 +26,8 @@ pub fn runs()
 }
 
 /// The headline and the service of processes: once that run holds as many sweeps as the bound says,
-/// the network serves, and from then on; and then a ticket that waits after i others, and does not
-/// leave while it waits, is lent the lock within 8(n - 1)(i + 2) sweeps.
+/// the network serves, and goes on serving; and then a ticket that waits after i others, and does
+/// not leave while it waits, is lent the lock within 8(n - 1)(i + 2) sweeps.
 pub fn promise()
     ensures { ProcessesKeepPromise }
 {
@@ -65,10 +65,10 @@ pub fn bytes()
     frame_codec_laws::junk_ends_at_newline();
 }
 
-/// The headline and the service of processes over bytes, whole. What is asked: the nodes go by their
-/// own steps; each link is one connection of bytes after another, on which whole lines stand at the
-/// start; a frame is taken later than it was accepted; and at most as many frames as the capacity are
-/// under way on a link. What a node sends is in range by itself.
+/// The whole of the headline and the service, for processes over bytes. What is asked: the nodes go
+/// by their own steps; each link is one connection of bytes after another, on which whole lines
+/// stand at the start; a frame is taken later than it was accepted; and at most as many frames as
+/// the capacity are under way on a link. What a node sends is in range by itself.
 pub fn promise_over_bytes()
     ensures are { BytesAreProcesses }
     ensures keep { BytesKeepPromise }

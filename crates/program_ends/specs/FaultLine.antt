@@ -9,6 +9,6 @@ use Rattle.command_faults.specs.PathFaultText.{path_fault_text}
 abbrev pub fault_line : Fault → List ℕ
 fault_line fault = codes "tokentree: " ++ fault_text fault
 
--- the same of a command that changes a file
+-- the same for a command that changes a file
 abbrev pub path_fault_line : PathFault → List ℕ
 path_fault_line fault = codes "tokentree: " ++ path_fault_text fault

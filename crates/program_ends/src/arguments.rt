@@ -3,7 +3,7 @@ ghost use Rattle.std.specs.Prelude.{◌≡◌, ◌≢◌, ◌⊎◌, IfErr, if�
 ghost use Rattle.std.specs.Process.{exit_status};
 ghost use Rattle.std.specs.declared.io.ErrorKind.TheVariants.{OutOfMemory};
 
-use crate::ends::{LINE_REFUSED, fails, fault_status};
+use crate::ends::{INVALID_ARGUMENTS, fails, fault_status};
 use crate::streams::fill_standard_streams;
 use command_faults::Fault;
 use std::alloc::AllocError;
@@ -12,11 +12,11 @@ use std::io::ErrorKind;
 use std::process::ExitCode;
 use std::rt::{Env, Files};
 
-/// What a program does before all else: it fills its standard streams, and reads its own words. Gives the
-/// words, or the status of a program that cannot read them.
+/// What a program does before all else: it fills its standard streams, and reads its own words. Returns
+/// the words, or the status of a program that cannot read them.
 ///
 /// # Errors
-/// Status 1 (of `lock` 125) if memory runs out, 2 if a word is no text; either is reported on
+/// Status 1 (125 for `lock`) if memory runs out, 2 if a word is no text; either is reported on
 /// standard error.
 pub fn begin<R: Env + Files<File = File> + Eprint + AllocGlobal>(
     rt: &R,
@@ -48,8 +48,8 @@ fn asks_for_lock<R: Env>(rt: &R) -> bool {
     matches!(rt.arg(1, &mut name), Ok(4)) && name == *b"lock"
 }
 
-/// Says why the words cannot be read, and says with which status that ends: that of a fault for
-/// want of memory; else one of them is no text, and the command line is refused.
+/// Says why the words cannot be read. Returns the status of a fault if memory ran out; else one of
+/// them is no text, and the arguments are invalid.
 fn unread<R: Eprint>(rt: &R, kind: ErrorKind, is_lock: bool) -> ExitCode
     ensures memory { kind ≡ OutOfMemory → exit_status result ≡ (if is_lock then 125 else 1) }
     ensures no_text { kind ≢ OutOfMemory → exit_status result ≡ 2 }
@@ -58,6 +58,6 @@ fn unread<R: Eprint>(rt: &R, kind: ErrorKind, is_lock: bool) -> ExitCode
         fails(rt, Fault::Memory, fault_status(is_lock))
     } else {
         let _ = eprintln!(rt; "tokentree: arguments Unreadable");
-        ExitCode::from(LINE_REFUSED)
+        ExitCode::from(INVALID_ARGUMENTS)
     }
 }

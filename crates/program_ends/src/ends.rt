@@ -15,8 +15,8 @@ use std::alloc::AllocError;
 use std::io;
 use std::process::ExitCode;
 
-/// The status of a command line that was refused.
-pub const LINE_REFUSED: u8 = 2;
+/// The status if the arguments are invalid.
+pub const INVALID_ARGUMENTS: u8 = 2;
 
 /// The status of a program whose reader is gone, as a shell shows one that SIGPIPE ended.
 const CLOSED_PIPE: u8 = 141;
@@ -28,8 +28,8 @@ pub fn fault_status(is_lock: bool) -> u8
     if is_lock { 125 } else { 1 }
 }
 
-/// Shows the help that was asked for, or why the command line was refused, or that memory ran out
-/// before it was read. A refusal is one line, which names the help of the command that was meant.
+/// Shows the help that was asked for, or why the arguments are invalid, or that memory ran out before
+/// they were read. A mistake is one line, which names the help of the command that was meant.
 pub fn shows<R: Print + Eprint + AllocGlobal>(
     rt: &R,
     error: &clap::Error,
@@ -48,12 +48,12 @@ pub fn shows<R: Print + Eprint + AllocGlobal>(
         ErrorKind::DisplayHelp | ErrorKind::DisplayVersion => print_status(rt, error.print(rt)),
         _ => {
             say_mistake(rt, error, command);
-            ExitCode::from(LINE_REFUSED)
+            ExitCode::from(INVALID_ARGUMENTS)
         }
     }
 }
 
-/// Says why a command line is refused, in a line; in the parser's own words if memory is short.
+/// Says why the arguments are invalid, in a line; in the parser's own words if memory is short.
 fn say_mistake<R: Print + Eprint + AllocGlobal>(
     rt: &R,
     error: &clap::Error,
@@ -69,7 +69,7 @@ fn say_mistake<R: Print + Eprint + AllocGlobal>(
     }
 }
 
-/// That line.
+/// The line that says why the arguments are invalid.
 fn mistake_line<R: AllocGlobal>(
     rt: &R,
     error: &clap::Error,
@@ -79,7 +79,7 @@ fn mistake_line<R: AllocGlobal>(
     one_line(rt.alloc(), text.as_str(), command)
 }
 
-/// The status of a program that only prints, as its help, by what standard output answered.
+/// The status of a program that only prints, such as its help, by what standard output answered.
 pub fn print_status<R: Eprint>(rt: &R, answer: io::Result<()>) -> ExitCode
     ensures status { MatchResult answer (λ _. exit_status result ≡ 0)
         (λ error. exit_status result ≡ end_status (output_fault error) 1) }
@@ -92,8 +92,8 @@ pub fn print_status<R: Eprint>(rt: &R, answer: io::Result<()>) -> ExitCode
     }
 }
 
-/// Shows a fault, and ends with this status. But if the reader of standard output is gone, it ends
-/// quietly, with the status of that.
+/// Shows a fault, and returns this status. But if the reader of standard output is gone, shows
+/// nothing, and returns the status for that.
 pub fn fails<R: Eprint>(rt: &R, fault: Fault, status: u8) -> ExitCode
     ensures { exit_status result ≡ end_status fault status }
 {

@@ -2,8 +2,8 @@
 use command_faults::Fault;
 use std::fmt;
 
-/// A fault, which prints as its line on standard error: the program's name, what was refused, and
-/// by which name.
+/// A fault, which prints as its line on standard error: the program's name, what failed, and the
+/// fault's name.
 #[derive(Drop)]
 pub struct FaultLine(pub Fault);
 

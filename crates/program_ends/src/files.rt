@@ -1,4 +1,4 @@
-//! Files that are refused.
+//! Faults of files.
 ghost use Rattle.std.specs.Prelude.{◌≡◌, ◌↔◌, IsTrue, option_map};
 ghost use Rattle.program_ends.specs.Kinds.{kind_text, unmade_text, AreSwapped, MayWait};
 
@@ -31,7 +31,7 @@ fn say<R: Eprint, D: Display + Drop>(rt: &R, file: &str, what: D) {
     let _ = eprintln!(rt; "tokentree: {file}: {what}");
 }
 
-/// Says what is wrong with a network file that was refused.
+/// Says what is wrong with an invalid network file.
 pub fn explain_network<R: Files + Eprint + AllocGlobal>(rt: &R, file: &str, fault: NetworkFault) {
     match fault {
         NetworkFault::Unreadable => explain_unreadable(rt, file),
@@ -76,16 +76,16 @@ pub fn explain_id<R: Eprint>(rt: &R, file: &str, id: u16) {
     let _ = eprintln!(rt; "tokentree: {file}: no node {id} is in it");
 }
 
-/// Says what the system said of a file that cannot be read, if it says so still.
+/// Says what the system says about a file that cannot be read, if it still says so.
 pub fn explain_reading<R: Files + Eprint>(rt: &R, path: &str) {
     if let Err(error) = fs::open(rt, path) {
         say(rt, path, error);
     }
 }
 
-/// Says what the system said of a file that cannot be written, if it says so still. Of one that is not
-/// there, though its folder is, the system would say just that; so this says that none can be made. Of a
-/// pipe or a device it says nothing: to open a pipe would wait for whoever reads it.
+/// Says what the system says about a file that cannot be written, if it still says so. If the file does
+/// not exist, though its folder does, the system would say just that; so this says that none can be
+/// made. About a pipe or a device it says nothing: opening a pipe would wait for its reader.
 pub fn explain_writing<R: Files + Eprint>(rt: &R, path: &str) {
     if may_wait(&fs::metadata(rt, path)) {
         return;
@@ -98,7 +98,8 @@ pub fn explain_writing<R: Files + Eprint>(rt: &R, path: &str) {
     }
 }
 
-/// Whether to open it may wait for another process: it is there, and neither a plain file nor a folder.
+/// Whether opening a file may wait for another process: the file exists, and is neither a plain file
+/// nor a folder.
 fn may_wait(found: &io::Result<Metadata>) -> bool
     ensures { IsTrue result ↔ MayWait found.now }
 {
@@ -118,7 +119,7 @@ fn unmade(kind: ErrorKind, has_folder: bool) -> Option<&'static str>
     }
 }
 
-/// Whether the folder is there in which a file of this path would stand.
+/// Whether there is a folder for a file of this path.
 fn has_folder<R: Files>(rt: &R, path: &str) -> bool {
     match Path::new(path).parent() {
         Some(folder) if !folder.path_text().is_empty() => {
@@ -129,7 +130,7 @@ fn has_folder<R: Files>(rt: &R, path: &str) -> bool {
     }
 }
 
-/// Says so if FILE is a folder and DIR a file.
+/// If FILE is a folder and DIR a plain file, says so.
 pub fn explain_swap<R: Files + Eprint>(rt: &R, file: &str, dir: &str) {
     if are_swapped(&fs::metadata(rt, file), &fs::metadata(rt, dir)) {
         let _ = eprintln!(rt;

@@ -1,6 +1,6 @@
-//! How the program `tokentree` begins and ends: with which words and streams, with which status, and
-//! with which lines on standard error. The last line names the fault. The line before it is a hint: which
-//! file it is, which key and place in it, and what the system said of it. No status rests on a hint.
+//! How the program `tokentree` begins and ends: with which words and streams, with which status, and with
+//! which lines on standard error. The last line names the fault. The line before it is a hint: which file
+//! it is, which key and place in it, and what the system said about it. No status depends on a hint.
 //!
 //! ```
 //! let words = begin(rt)?;                              // before anything is opened
@@ -12,7 +12,7 @@
 //! ```
 //!
 //! The traps: what standard error does not take is left out; the status is the same. And a file is read again
-//! for a hint, so it may be another one by then.
+//! for a hint, so it may be a different one by then.
 #![tactic(auto)]
 
 mod arguments;
@@ -25,7 +25,7 @@ mod streams;
 
 pub use arguments::begin;
 pub use command_faults::{Fault, PathFault};
-pub use ends::{LINE_REFUSED, fails, fault_status, print_status, shows};
+pub use ends::{INVALID_ARGUMENTS, fails, fault_status, print_status, shows};
 pub use fault_line::FaultLine;
 pub use files::{explain_id, explain_network, explain_reading, explain_swap, explain_writing};
 pub use path_fault_line::PathFaultLine;

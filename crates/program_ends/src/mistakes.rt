@@ -1,8 +1,8 @@
-//! Command lines that are refused.
+//! Invalid arguments.
 
 use std::alloc::{AllocError, Global};
 
-/// The text of a refused command line as one line: what is wrong, then what is like it, then which help
+/// The text about invalid arguments as one line: what is wrong, then the parser's tips, then which help
 /// to try.
 ///
 /// # Errors
@@ -17,7 +17,7 @@ pub fn one_line(alloc: Global, text: &str, command: Option<&str>) -> Result<Stri
     Ok(line)
 }
 
-/// What is wrong, then what is like it.
+/// What is wrong, then the parser's tips.
 fn mistake(alloc: Global, text: &str) -> Result<String, AllocError> {
     let mut line = String::new(alloc);
     for paragraph in text.split("\n\n") {
@@ -32,7 +32,7 @@ fn mistake(alloc: Global, text: &str) -> Result<String, AllocError> {
     Ok(line)
 }
 
-/// Adds the words of a text, parted by single spaces.
+/// Adds the words of a text, separated by single spaces.
 fn add_words(line: &mut String, text: &str) -> Result<(), AllocError> {
     for (place, word) in text.split_ascii_whitespace().enumerate() {
         if place > 0 {

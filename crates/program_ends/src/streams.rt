@@ -1,4 +1,4 @@
-//! The standard streams, of which whoever starts the program may have closed some.
+//! The standard streams. Some of them may be closed when the program starts.
 
 use std::fs;
 use std::fs::File;
@@ -8,7 +8,7 @@ use std::rt::Files;
 /// The descriptor of standard error, the last of the standard streams.
 const STANDARD_ERROR: i32 = 2;
 
-/// Takes the null device for each standard stream that is closed. Else the next file or socket that
+/// Opens the null device for each standard stream that is closed. Else the next file or socket that
 /// is opened would be that stream, and would be written to in its place.
 ///
 /// The device is opened for reading alone. So a write to a stream that was closed still fails, and

@@ -11,8 +11,8 @@ use Rattle.process_parts.specs.declared.record_size.RecordSize.{RecordSize}
 abbrev pub file_bytes : RecordSize → ℕ
 file_bytes size = max size.bytes 65536
 
--- the file with which a record begins, by when each was written, if it is there: the one that was
--- written earlier, or one that is not there
+-- the file with which a record begins, by when each file that is there was written: the one that
+-- was written earlier, or one that is not there
 abbrev pub side_to_begin : Option ℕ → Option ℕ → Side
 side_to_begin None second = First
 side_to_begin (Some first) None = Second
@@ -24,13 +24,14 @@ of_side First first second = first
 of_side Second first second = second
 
 -- The pages after the file that was written last: a recorder goes on in it, after its whole entries; or it
--- cannot, and then the other file begins.
+-- cannot, and then it begins the other file.
 abbrev pub ArePagesAfter : ℕ → Side → ℕ → ℕ → List ℕ → RecorderView → Type 0
 ArePagesAfter size earlier network node last pages =
     Resumes size (other earlier) network node last pages
     ⊎ (IsLeft size network node last × (pages ≡ at_start size earlier))
 
--- the pages with which a record begins, after a file that is there, or at the start of one
+-- the pages with which a record begins, after the entries of a file that is there, or at the start
+-- of a file
 abbrev pub AreFirstPages : ℕ → RecorderView → Type 0
 AreFirstPages size pages =
     (pages ≡ at_start size pages.side)

@@ -6,7 +6,7 @@ use Rattle.node_recorder.specs.Names.{network_name}
 abbrev pub draft_name : List ℕ → ℕ → List ℕ
 draft_name dir id = network_name dir ++ (codes "." ++ decimal id)
 
--- the text is not kept
+-- the line which says that the text is not kept
 abbrev pub not_kept_line : List ℕ → List ℕ
 not_kept_line dir =
     codes "tokentree: " ++ (dir

@@ -21,13 +21,14 @@ is_seen_up (Some sight) = sight.is_up
 abbrev pub is_linked : {P : Type 0} → List (NodePort P) → ℕ → Bool
 is_linked ports id = is_seen_up (link_at (slice_get ports id))
 
--- the deeds of a link, by whether it was up and whether it is: its connection began, or ended, or neither
+-- the deeds of a link, by whether it was up and whether it is up now: its connection began, or ended, or
+-- neither
 abbrev pub link_change : Bool → Bool → ℕ → List Deed
 link_change false true id = Connects id ∷ []
 link_change true false id = Disconnects id ∷ []
 link_change _ _ id = []
 
--- so for each of so many nodes, by id
+-- the same for each of this many nodes, by id
 abbrev pub link_changes : (ℕ → Bool) → (ℕ → Bool) → ℕ → List Deed
 link_changes was is nodes = flat_map (λ id. link_change (was id) (is id) id) (range_with_len 0 nodes)
 
@@ -57,9 +58,9 @@ pub record RecordsTurn {A : Type 0} (now : ℕ) (deeds : List Deed) (has_all may
 module _ {A P : Type 0} (start now : ℕ) (linked : List Bool) (deeds : List Deed) (has_all must_settle : Bool)
     (node : NodeView) (ports : List (NodePort P)) where
   -- A record that has not stopped has the turn that began `now` microseconds after the node's clock stood at 0,
-  -- which was at the time `start`: its deeds, and then each connection that began or ended, since the node had
-  -- those of `linked`, with one of at most 64 nodes. Times end at 2^64 - 1. A deed may wait to be written only
-  -- after a turn that was not quiet, and if none must settle.
+  -- which was at the time `start`: its deeds, and then each connection with one of at most 64 nodes that began
+  -- or ended since the node had those of `linked`. Times end at 2^64 - 1. A deed may wait to be written only
+  -- after a turn that was not quiet, and only if none must settle.
   abbrev pub HasTurn : NodeRecorder A → NodeRecorder A → Type 0
   HasTurn old new =
       old.pages.is_stopped ≡ false

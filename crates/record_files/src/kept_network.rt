@@ -14,7 +14,7 @@ use std::rt::Files;
 use std::{fmt, fs, io};
 use topology::Net;
 
-/// Of the words of a node, those by which its network is kept.
+/// Those words of a node by which its network is kept.
 #[derive(Clone, Copy)]
 pub struct KeepWords<'a> {
     /// The network file.
@@ -25,20 +25,20 @@ pub struct KeepWords<'a> {
     pub dir: &'a str,
 }
 
-/// Keeps the text of a node's network file in its folder, for `gather`, and returns it. At any time the
-/// kept file, DIR/record.toml, is whole: it is written as DIR/record.toml.ID first, a name of the node's
+/// Keeps the text of a node's network file in its folder, for `gather`, and returns it. The kept file,
+/// DIR/record.toml, is whole at any time: it is first written as DIR/record.toml.ID, a name of the node's
 /// own. `net` is the network as the node knows it, which may have other edges.
 ///
 /// # Errors
-/// If the network file cannot be read: `InvalidInput` if it is no plain file. If it is invalid or another
-/// network's now, or memory runs out while it is looked at: `InvalidData`. Or if its text cannot be
+/// If the network file cannot be read: `InvalidInput` if it is no plain file. If it is now invalid or a
+/// different network's, or memory runs out while it is looked at: `InvalidData`. If its text cannot be
 /// written; then what was kept before stays.
 pub fn keep_network<R: Files<File = File> + AllocGlobal>(
     rt: &R,
     words: KeepWords<'_>,
     net: &Net,
 ) -> io::Result<Vec<u8>>
-    // It is the text of the node's network, but for edges.
+    // It is the text of the node's network, apart from edges.
     ensures { IfOk result (λ text.
         (read : Network) × IsNetworkOf text.items read × IsTrue (is_same_frame read net.now)) }
 {
@@ -52,7 +52,7 @@ pub fn keep_network<R: Files<File = File> + AllocGlobal>(
     }
 }
 
-/// What stands in a network file.
+/// The text of a network file.
 fn read_text<R: Files + AllocGlobal>(rt: &R, file: &str) -> io::Result<Vec<u8>> {
     // A pipe or a device is not waited for.
     if !fs::metadata(rt, file)?.is_file() {
@@ -61,7 +61,7 @@ fn read_text<R: Files + AllocGlobal>(rt: &R, file: &str) -> io::Result<Vec<u8>> 
     fs::read(rt, file)
 }
 
-/// Writes the text, and leaves nothing else if that fails.
+/// Writes the text, and leaves no draft if that fails.
 fn write_text<R: Files<File = File> + AllocGlobal>(
     rt: &R,
     words: KeepWords<'_>,

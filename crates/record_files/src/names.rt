@@ -10,14 +10,14 @@ use std::alloc::{AllocError, Global};
 /// The names of a record's two files.
 #[derive(Drop)]
 pub struct RecordNames {
-    /// That of the file that is written first.
+    /// The name of the file that is written first.
     pub first: String,
-    /// That of the other one.
+    /// The name of the other file.
     pub second: String,
 }
 
 impl RecordNames {
-    /// Those of node `id` in a folder: DIR/record-ID.0 and DIR/record-ID.1.
+    /// The names for node `id` in a folder: DIR/record-ID.0 and DIR/record-ID.1.
     ///
     /// # Errors
     /// If memory runs out.

@@ -14,15 +14,15 @@ use std::rt::Files;
 /// The most bytes of a file that a start goes on with: 16 MiB. Longer ones take too long to read.
 const MOST_READ: u64 = 16_777_216;
 
-/// The pages with which the record of node `id` begins, in two files of these names, of at most `size`
-/// each. `network` is the number of its network, as `network_mark` gives it. The record goes on in the file
-/// that was written last, if that is a plain file of at most 16 MiB, begins as a record of this node in this
+/// The pages with which the record of node `id` begins, in two files of these names, of at most `size` each.
+/// `network` is the number of its network, as `network_mark` gives it. The record goes on in the file that
+/// was written last, if that is a plain file of at most 16 MiB, begins as a record of this node in this
 /// network, and has room for one more page of 32768 bytes. Else it begins the other file, in place of what
-/// stands there. All memory of the pages is reserved here; no file is made or changed yet.
+/// is there. All memory of the pages is reserved here; no file is made or changed yet.
 ///
 /// # Errors
-/// If memory for the pages runs out. A file that cannot be read, for want of memory too, counts as one that
-/// is not there.
+/// If memory for the pages runs out. A file that cannot be read, even if only for want of memory, counts as
+/// one that is not there.
 pub fn first_pages<R: Files + AllocGlobal>(
     rt: &R,
     names: &RecordNames,
@@ -63,7 +63,7 @@ fn pages_after(
     }
 }
 
-/// What stands in a plain file of at most 16 MiB; none if it is not there or cannot be read.
+/// The bytes of a plain file of at most 16 MiB; none if there is no such file or it cannot be read.
 fn read_file<R: Files + AllocGlobal>(rt: &R, path: &str) -> Option<Vec<u8>> {
     let found = fs::symlink_metadata(rt, path).ok()?;
     if !found.is_file() || found.len() > MOST_READ {
@@ -80,8 +80,8 @@ fn file_bytes(size: RecordSize) -> u64
     size.bytes.max(LEAST_SIZE)
 }
 
-/// The file with which a record begins, by when each was written, if it is there: the one that was
-/// written earlier, or one that is not there.
+/// The file with which a record begins, by when each file that is there was written: the one that
+/// was written earlier, or one that is not there.
 fn side_to_begin(first: Option<u64>, second: Option<u64>) -> Side
     ensures { result ≡ side_to_begin first second }
 {

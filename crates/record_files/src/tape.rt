@@ -44,11 +44,11 @@ pub struct Tape<'a, R> {
 }
 
 impl<'a, R: Files<File = File> + Clock + Eprint + AllocGlobal> Tape<'a, R> {
-    /// The record of the node of these words, which runs since its clock stood at 0. `now` is the time of
-    /// that clock, in microseconds. It goes on in the file that was written last, if that is a record of
-    /// this node in this network that has room and at most 16 MiB; else in a new file, in place of the other
-    /// one. All memory is reserved here. The network's text is kept beside it; no other file is made or
-    /// changed yet.
+    /// The record of the node of these words, which has been running since its clock stood at 0. `now` is the
+    /// time of that clock, in microseconds. The record goes on in the file that was written last, if that is
+    /// a record of this node in this network, has room, and is at most 16 MiB long; else in a new file, in
+    /// place of the other one. All memory is reserved here. The network's text is kept beside it; no other
+    /// file is made or changed yet.
     ///
     /// # Errors
     /// If memory runs out, or the network has no such node.
@@ -83,11 +83,11 @@ impl<'a, R: Files<File = File> + Clock + Eprint + AllocGlobal> Tape<'a, R> {
         }
     }
 
-    /// The node took a turn, or did something between two turns. `deeds` are what it did, in order, and
+    /// Records a turn of the node, or what it did between two turns. `deeds` are what it did, in order, and
     /// `has_all` says whether none is missing. `ports` are the node's, one for each node by its id. `now` is
-    /// when it began, in microseconds of the node's clock. If `must_settle` is yes, no deed may wait to be
-    /// noted: the node may have other neighbours before its next turn, or end. A record that has stopped sees
-    /// nothing.
+    /// when it began, in microseconds of the node's clock. If `must_settle` is true, no deed may wait to be
+    /// noted: the node may have other neighbours before its next turn, or end. A record that has stopped
+    /// stays as it is.
     pub fn turn_ended<P: Pipe>(
         &mut self,
         node: &Node,
@@ -100,10 +100,10 @@ impl<'a, R: Files<File = File> + Clock + Eprint + AllocGlobal> Tape<'a, R> {
         ensures stopped { self.old.recorder.pages.is_stopped ≡ true → self.new ≡ self.old }
         // A page that is due is written, or the record stops.
         ensures written { is_due (is_quiet deeds.now) self.new.recorder.pages ≡ false }
-        // After a quiet turn, and if none may wait, no deed waits to be noted.
+        // After a quiet turn, or if none may wait, no deed waits to be noted.
         ensures settled { self.old.recorder.pages.is_stopped ≡ false
             → IsTrue (is_quiet deeds.now || must_settle) → self.new.recorder.backlog ≡ nothing }
-        // The deeds are recorded, and then the connections that began or ended since it was seen last.
+        // The deeds are recorded, and then the connections that began or ended since they were seen last.
         ensures noted { HasTurn self.old.start now self.old.linked deeds.now has_all must_settle
             node.now ports.now self.old.recorder self.new.recorder }
         ensures linked { self.old.recorder.pages.is_stopped ≡ false
@@ -122,8 +122,8 @@ impl<'a, R: Files<File = File> + Clock + Eprint + AllocGlobal> Tape<'a, R> {
         self.write_if_due(is_quiet);
     }
 
-    /// Writes the page if it is due after a turn that was quiet, or was not. A record that has stopped in the
-    /// turn says so.
+    /// Writes the page if it is due after this turn. `is_quiet` says whether the turn was quiet. A record
+    /// that has stopped in the turn says so.
     fn write_if_due(&mut self, is_quiet: bool)
         ensures written { is_due is_quiet self.new.recorder.pages ≡ false }
         ensures backlog { self.new.recorder.backlog ≡ self.old.recorder.backlog }
@@ -178,7 +178,8 @@ impl<'a, R: Files<File = File> + Clock + Eprint + AllocGlobal> Tape<'a, R> {
             .turn_ended(node, &[deed], true, may_wait, instant);
     }
 
-    /// The node may have other neighbours from now on. If so, the network's text is kept again.
+    /// Takes note that the node may have other neighbours from now on. If it has, the network's
+    /// text is kept again.
     pub fn rewired(&mut self, words: &NodeWords<'_>, net: &Net, node: &Node)
         ensures pages { self.new.recorder.pages ≡ self.old.recorder.pages }
         // If it has, and no deed waits, its whole state is noted before its next deeds.
@@ -193,7 +194,7 @@ impl<'a, R: Files<File = File> + Clock + Eprint + AllocGlobal> Tape<'a, R> {
         }
     }
 
-    /// The node ends: what was noted and not yet written is written.
+    /// Writes what was noted and not yet written, as the node ends.
     pub fn end(&mut self)
         ensures stopped { self.old.recorder.pages.is_stopped ≡ true → self.new ≡ self.old }
     {
@@ -251,7 +252,8 @@ fn first_recorder<R: Files + AllocGlobal>(
     NodeRecorder::new(rt.alloc(), net, node, pages)
 }
 
-/// Whether a turn's deeds may wait to be noted: not after a quiet turn, and not if none may wait.
+/// Whether a turn's deeds may wait to be noted: not after a quiet turn, and not if they must
+/// settle.
 fn may_wait(is_quiet: bool, must_settle: bool) -> bool
     ensures { result ≡ not (is_quiet || must_settle) }
 {
@@ -268,7 +270,7 @@ fn is_linked<P: Pipe>(ports: &[NodePort<P>], id: u16) -> bool
     }
 }
 
-/// That the connection with a neighbour began, or that it ended.
+/// The deed that the connection with a neighbour began, or that it ended.
 fn link_deed(neighbour: u16, is_linked: bool) -> Deed
     ensures { result ≡ (if is_linked then Connects neighbour else Disconnects neighbour) }
 {

@@ -1,4 +1,4 @@
-//! A record's pages are written to its two files.
+//! How a record's pages are written to its two files.
 ghost use Rattle.std.specs.Prelude.{◌≡◌, None, is_ok, is_some};
 
 use crate::names::RecordNames;
@@ -25,15 +25,15 @@ impl RecordFiles {
         RecordFiles { names, file: None }
     }
 
-    /// Writes the page, of at most 32768 bytes, to the end of the present file of these pages. If that is
-    /// not open, it is made again, in place of a plain file of its name; or, if something is written to it,
-    /// what stands there is opened, and cut off after as many bytes as are written.
+    /// Writes the page, of at most 32768 bytes, to the end of the present file of these pages. If that file
+    /// is not open, it is made again, in place of a plain file of its name; or, if something is written to
+    /// it, the file that is there is opened, and cut off after the bytes that are written.
     ///
     /// # Errors
-    /// If the file cannot be made, opened or cut, or is another one now: `InvalidInput` if a new one would
-    /// take the place of what is no plain file; `InvalidData` if one that is written to is no plain file or
-    /// has too few bytes. If the system does not write: `WriteZero` if it writes a part of the page alone.
-    /// Then no file is open.
+    /// If the file cannot be made, opened or cut, or is a different file now: `InvalidInput` if a new file
+    /// would take the place of something that is no plain file; `InvalidData` if a file that is written to
+    /// is no plain file or has too few bytes. If the system does not write: `WriteZero` if it writes only a
+    /// part of the page. After an error no file is open.
     pub fn append<R: Files<File = File>>(&mut self, rt: &R, pages: &Recorder) -> io::Result<()>
         ensures names { self.new.names ≡ self.old.names }
         ensures file { is_some self.new.file ≡ is_ok result }
@@ -59,7 +59,7 @@ impl RecordFiles {
         }
     }
 
-    /// Closes the present file. What is written next opens one.
+    /// Closes the present file. The next write opens one.
     pub fn close(&mut self)
         ensures { (self.new.names ≡ self.old.names) × (self.new.file ≡ None) }
     {

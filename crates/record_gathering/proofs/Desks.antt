@@ -1,4 +1,4 @@
--- A desk stands as it was noted, after its events.
+-- After its events, a desk is as it was noted.
 use Rattle.std.proofs.Common.{◌≡◌, ◌≢◌, ◌∙◌, ℕ, ◌<◌, ◌≤◌, Bool, true, false, ◌&&◌, ◌==◌, List, [], ◌∷◌, ◌++◌, refl, ap, sym, subst, arith, append_assoc, Option, None, length, map}
 use Rattle.std.proofs.lemmas.Bool.{cond_both}
 use Rattle.std.proofs.lemmas.List.{append-nil}
@@ -128,7 +128,7 @@ module _ (w : World) (v : ℕ) (here : v < w.net.nodes) where
       let self : (t == t) ≡ true = grind (arith, common_steps) in
       let e = first-without t ts d in grind (arith, common_steps, self, e)
 
-  -- all who wait leave
+  -- all tickets that wait leave
   all-leave : (ts : List ℕ) (m : World) → IsDeskAt w v (waiting ts) m → are_distinct ts ≡ true
       → IsDeskAt w v (waiting []) (run m (map (Leave v) ts))
   all-leave [] m h d = h
@@ -147,7 +147,7 @@ module _ (w : World) (v : ℕ) (here : v < w.net.nodes) where
   first-number : (t : ℕ) (ts : List ℕ) → list_all is_number (t ∷ ts) ≡ true → (is_number t ≡ true) × (list_all is_number ts ≡ true)
   first-number t ts h = (grind (arith, common_steps), grind (arith, common_steps))
 
-  -- these ask, after those that wait
+  -- these tickets ask, after those that wait
   all-ask : (ts done : List ℕ) (m : World) → IsDeskAt w v (waiting done) m → are_distinct (done ++ ts) ≡ true
       → length (done ++ ts) ≤ 64 → list_all is_number ts ≡ true
       → IsDeskAt w v (waiting (done ++ ts)) (run m (map (Ask v) ts))

@@ -1,4 +1,4 @@
--- A field that is named stands otherwise, and where none is named the node stands as was noted.
+-- A field that is named differs, and if none is named, the node is as it was noted.
 use Rattle.std.proofs.Common.{◌≡◌, ◌≢◌, refl, subst, arith, ℕ, ◌<◌, ◌==◌, Bool, true, false, List, ◌∷◌, Option, None}
 use Rattle.std.proofs.lemmas.Grind.{common_steps}
 use Rattle.std.proofs.lemmas.Slice.Eq.{bytes_eq-Decides}
@@ -140,7 +140,7 @@ pub fields-said : (w : World) (queue : List ℕ) (v : ℕ) (n : Noted) → AreAl
 fields-said w queue v n =
     either (Differs w queue v n) (nat_lt v w.net.nodes) (noted_fields w queue v n) (noted-said w queue v n)
 
--- ---- a node that stands so
+-- ---- a node that is as it was noted
 
 neither : (b : Bool) (fs : List (Option Field)) → fs ≡ no_fields → (if b then fs else no_fields) ≡ no_fields
 neither true fs e = e

@@ -37,7 +37,7 @@ one-more {X = X} {Y = Y} f append old now new xs i x more before after =
     ∙ ap (λ (l : List Y). old ++ l) (sym (append (take i xs) (x ∷ [])))
     ∙ ap (λ (l : List X). old ++ f l) (sym more)
 
--- what each element becomes, of a list that is read as another one
+-- what each element of a list becomes, if an equal list is read in its place
 pub map-more : {X Y : Type 0} (f : X → Y) (old now new : List Y) (xs read : List X) → read ≡ xs → (i : ℕ) (x : X) → i < length read
     → now ≡ old ++ map f (take i xs) → new ≡ now ++ f (slice_index_or read i x) ∷ []
     → new ≡ old ++ map f (take (i + 1) xs)

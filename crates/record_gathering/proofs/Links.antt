@@ -69,8 +69,8 @@ none-left (x ∷ xs) = none-left xs
 
 -- ---- losses
 
--- from one world to another, the oldest items of a link were lost, so many, and nothing else changed
--- that is asked of here
+-- from one world to another, this many of a link's oldest items were lost, and nothing else changed
+-- that matters here
 record IsAfterLosses (w : World) (u v n : ℕ) (new : World) : Type 0 where
   link : new.link u v ≡ drop n (w.link u v)
   node : new.node ≡ w.node

@@ -1,4 +1,4 @@
--- Where a node stands as it was noted, there is no harm.
+-- If a node is as it was noted, there is no harm.
 use Rattle.std.proofs.Common.{◌≡◌, ℕ, Bool, true, false, List, [], ◌∷◌, ◌++◌, refl, arith, IsTrue, Option, suc, zero}
 use Rattle.std.proofs.lemmas.Grind.{common_steps}
 use Rattle.std.proofs.lemmas.Slice.Eq.{bytes_eq-Decides}

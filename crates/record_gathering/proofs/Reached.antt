@@ -1,4 +1,4 @@
--- A node stands as it was noted, after its harms.
+-- After its harms, a node is as it was noted.
 use Rattle.std.proofs.Common.{◌≡◌, ◌≢◌, ◌∙◌, ℕ, ◌<◌, Bool, true, false, ◌&&◌, ◌==◌, nat_lt, nat_le, List, [], ◌∷◌, refl, ap, sym, subst, arith, IsTrue, Option, None, Some}
 use Rattle.std.proofs.lemmas.Bool.{cond_both}
 use Rattle.std.proofs.lemmas.Grind.{common_steps}
@@ -206,7 +206,8 @@ module _ (w : World) (v u : ℕ) where
     number-same : (a b : ℕ) → (a == b) ≡ true → a ≡ b
     number-same a b t = grind (arith, common_steps)
 
-    -- the world in which the harms of a port's numbers and of its staged payload end, and what it is there
+    -- the world in which the harms of a port's numbers and of its staged payload end, and what the port is
+    -- there
     first-two : (seq last : ℕ) (y : Payload) → counters_fit (ranges_of w.net) seq last ≡ true → payload_fits (ranges_of w.net) y ≡ true
         → IsPortAt w v u (record ((w.node v).port u) { seq = seq; last = last; staged = y }) ((w.node v).value u)
         (run (run w (harms_in (numbers-harm seq last ∷ []))) (harms_in (staged-harm y ∷ [])))

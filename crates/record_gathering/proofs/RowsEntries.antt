@@ -1,4 +1,4 @@
--- Entries and worlds that are small enough to see through.
+-- Entries and worlds that are small enough to check by hand.
 use Rattle.std.proofs.Common.{◌≡◌, ℕ, ◌==◌, ◌&&◌, true, false, List, [], ◌∷◌, Some, None, refl}
 use Rattle.std.specs.Prelude.{if◌then◌else◌}
 use Rattle.std.proofs.lemmas.List.Elements.{All-from_recursion}
@@ -30,7 +30,7 @@ first = record { seq = 1; ack = 2; payload = record { distance = 0; parent = Non
 abbrev second : Frame
 second = record { seq = 2; ack = 2; payload = record { distance = 0; parent = None; ring = 3 } }
 
--- nothing has happened, but that node 0 sent these frames
+-- nothing has happened except that node 0 sent these frames
 abbrev world : List Item → World
 world items = record {
   net = pair;
@@ -49,7 +49,7 @@ second-taken = refl
 first-taken : entry_events both [] 1 (noted.Deed (deed.Takes 0 first)) ≡ Take 0 1 ∷ []
 first-taken = refl
 
--- one that nobody sent is a harm, after all that was under way
+-- a frame that nobody sent is a harm, after all that was under way
 nobody-sent : entry_events (world (item.Frame first ∷ [])) [] 1 (noted.Deed (deed.Takes 0 second))
     ≡ Lose 0 1 0 ∷ Damage (harm.Item 0 1 (item.Frame second)) ∷ Take 0 1 ∷ Damage (harm.Item 0 1 (item.Frame first)) ∷ []
 nobody-sent = refl
@@ -58,7 +58,7 @@ nobody-sent = refl
 no-harm : entry_events both [] 1 (noted.Deed (deed.Takes 0 first)) ≡ Damage (harm.Item 0 1 (item.Frame first)) ∷ Take 0 1 ∷ [] → ⊥
 no-harm e = absurd cc
 
--- what is under way is ready to be taken, and what is not waits; a full link takes no more
+-- what is under way is ready to be taken, and what is not under way waits; a full link takes no more
 under-way : is_ready both 1 (noted.Deed (deed.Takes 0 second)) ≡ true
 under-way = refl
 
@@ -68,14 +68,14 @@ not-under_way e = absurd cc
 full : is_ready both 0 (noted.Deed (deed.Sends 1 first)) ≡ false
 full = refl
 
--- a node that stands so already, and one that does not
+-- a node that is already as noted, and one that is not
 stands-so : entry_events (world []) [] 1 (noted.State (part.Own 2 None)) ≡ []
 stands-so = refl
 
 stands-otherwise : entry_events (world []) [] 1 (noted.State (part.Own 1 (Some 0))) ≡ Damage (harm.Own 1 1 (Some 0)) ∷ []
 stands-otherwise = refl
 
--- those who wait are noted one by one, and ask if they do not wait there
+-- tickets that wait are noted one by one, and ask if they do not wait there
 noted-queue : queue_after (queue_after [] (noted.State (part.Waits 7))) (noted.State (part.Waits 5)) ≡ 7 ∷ 5 ∷ []
 noted-queue = refl
 
@@ -83,7 +83,7 @@ asks : entry_events (world []) (7 ∷ []) 1 (noted.State (part.Loan (Some 9) 0 f
     ≡ Damage (harm.Desk 1 None 0 false) ∷ Ask 1 7 ∷ Damage (harm.Desk 1 (Some 9) 0 false) ∷ []
 asks = refl
 
--- nobody is node 2
+-- there is no node 2
 no-node : entry_events both [] 2 (noted.Deed deed.Ticks) ≡ []
 no-node = refl
 
@@ -94,7 +94,7 @@ stranger = refl
 not-stranger : accepted both (Leave 1 7 ∷ Tick 1 ∷ []) ≡ Leave 1 7 ∷ Tick 1 ∷ [] → ⊥
 not-stranger e = absurd cc
 
--- the whole state of node 1 as it stands, and one of which the distance, the value and the queue are others
+-- the whole state of node 1 as it is, and one in which the distance, the value and the queue differ
 abbrev stands : LocalState
 stands = default_node (ranges_of pair)
 
@@ -116,7 +116,7 @@ none-is-left-out : state_events (world []) [] 1 77 differs
     ≡ Damage (harm.Own 1 1 None) ∷ Damage (harm.Desk 1 None 0 false) ∷ Ask 1 7 ∷ [] → ⊥
 none-is-left-out e = absurd cc
 
--- that a state is reached is not said of a node that stands otherwise
+-- a state is not said to be reached at a node that differs from it
 reached : IsStateReached (world []) 1 stands (world [])
 reached = record {
   same = ((refl, refl, refl), All-from_recursion (λ u. AreSameAt u stands stands) (0 ∷ []) ((refl, refl), tt));

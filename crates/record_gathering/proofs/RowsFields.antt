@@ -1,4 +1,4 @@
--- Fields of two nodes, of which nothing has happened.
+-- Fields of two nodes, to which nothing has happened.
 use Rattle.std.proofs.Common.{◌≡◌, ℕ, true, [], ◌∷◌, Some, None, refl, arith}
 use Rattle.topology.specs.Network.{Network}
 use Rattle.topology.specs.Ranges.{ranges_of}
@@ -44,7 +44,7 @@ other-desk : fields_of fresh (7 ∷ []) 1 (noted.State (part.Loan None 0 true))
     ≡ Some field.Waiting ∷ None ∷ None ∷ Some field.Served ∷ None ∷ []
 other-desk = refl
 
--- its port to node 0 would send another number, and acknowledge another one
+-- its port to node 0 would send a different number, and acknowledge a different one
 other-frame : fields_of fresh [] 1 (noted.Deed (deed.Sends 0 frame))
     ≡ Some (field.Number 0) ∷ Some (field.Last 0) ∷ None ∷ None ∷ None ∷ []
 other-frame = refl
@@ -56,14 +56,15 @@ nobody-sent = refl
 no-such-node : fields_of fresh [] 2 (noted.State (part.Own 1 None)) ≡ no_fields
 no-such-node = refl
 
--- what stands as noted does not differ, and a part says nothing of other fields
+-- what is as noted does not differ, and a part says nothing of other fields
 not-other : Differs fresh [] 1 (noted.State (part.Own 2 None)) field.Distance → ⊥
 not-other d = d refl
 
 not-said : Differs fresh [] 1 (noted.State (part.Own 1 None)) field.Served → ⊥
 not-said d = d
 
--- a part says where the node's port to a neighbour stands, and nothing of a port to a node that is none
+-- a part gives the state of the node's port to a neighbour, and nothing of a port to a node that is no
+-- neighbour
 abbrev about : ℕ → StatePart
 about neighbour = part.Port neighbour 3 4 frame.payload frame.payload 5
 
@@ -86,7 +87,7 @@ part_not-itself e = absurd cc
 part-waits : part_noted fresh 1 (part.Waits 7) ≡ said.Nothing
 part-waits = refl
 
--- of two nodes, 1 is one and 2 is none
+-- of two nodes, 1 is a node and 2 is not
 port-of_node : IsPortOfNode 2 (said-about 1)
 port-of_node = omega arith
 

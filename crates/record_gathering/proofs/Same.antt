@@ -1,4 +1,4 @@
--- Tests of equality decide it.
+-- Tests of equality decide equality.
 use Rattle.std.proofs.Common.{◌≡◌, ℕ, Bool, true, false, refl, arith, Option, None, Some}
 use Rattle.std.proofs.lemmas.Grind.{common_steps}
 use Rattle.topology.specs.declared.frame.Frame.{Frame}

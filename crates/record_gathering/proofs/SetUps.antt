@@ -1,4 +1,4 @@
--- A network that is set up as a world stands, stands so.
+-- A network that is set up to match a world matches it.
 use Rattle.std.proofs.Common.{◌≡◌, ◌∙◌, ap, sym, refl, subst, arith, ℕ, zero, suc, ◌+◌, ◌<◌, ◌≤◌, ◌==◌, ◌&&◌, ◌||◌, Bool, true, false, List, [], ◌∷◌, ◌++◌, length, map, replicate, append_assoc, IsTrue, ◌⊎◌, inl, inr, nat_lt}
 use Rattle.std.proofs.lemmas.Bool.{cases_eq}
 use Rattle.std.proofs.lemmas.Grind.{common_steps}
@@ -102,7 +102,7 @@ is-below v n l = grind (arith, common_steps)
 
 -- ---- what is set
 
--- the states of the first nodes, so many, are set
+-- the states of the first k nodes are set
 record AreStatesSet (w m : World) (k : ℕ) (new : World) : Type 0 where
   pub done : (v : ℕ) → v < k → AreSame (site w v).neighbours (new.node v) (w.node v)
   pub links : new.link ≡ m.link

@@ -1,4 +1,5 @@
--- A node's whole state is noted: the node stands in it then, and there is damage only if it did not before.
+-- A node's whole state is noted: then the node is in that state, and there is damage only if it was not
+-- before.
 use Rattle.std.proofs.Common.{◌≡◌, ◌≢◌, ◌∙◌, ℕ, ◌+◌, ◌<◌, ◌≤◌, Bool, true, false, ◌&&◌, ◌||◌, nat_lt, nat_le, List, [], ◌∷◌, ◌++◌, length, map, refl, ap, sym, subst, arith, append_assoc, IsTrue, Option, None, Some, inl, inr}
 use Rattle.std.proofs.lemmas.Bool.{cond_both, cases_eq}
 use Rattle.std.proofs.lemmas.Grind.{common_steps}
@@ -61,7 +62,7 @@ waits-noted w v (t ∷ ts) queue rest few =
 few-wait : (lease : ℕ) (d : DeskState) → IsTrue (desk_fits lease d) → 0 + length d.waiting ≤ 64
 few-wait lease d fits = grind (arith, common_steps)
 
--- ---- a node that stood so before
+-- ---- a node that was in that state before
 
 module _ (w : World) (v : ℕ) (s : LocalState) where
   ports-quiet : (us queue : List ℕ) (rest : List StatePart) → AllByRecursion (λ u. AreSameAt u (w.node v) s) us
@@ -218,7 +219,7 @@ some-is : {X : Type 0} (o : Option X) → is_none o ≡ false → is_some o ≡ 
 some-is None h = absurd cc
 some-is (Some x) h = refl
 
--- harms that are all refused lead nowhere
+-- harms that are all refused change nothing
 harms-idle : (os : List (Option Harm)) (m : World) → has_damage m (harms_in os) ≡ false → run m (harms_in os) ≡ m
 harms-idle [] m h = refl
 harms-idle (None ∷ os) m h = harms-idle os m h
@@ -232,7 +233,7 @@ harms-idle (Some x ∷ os) m h =
 ends : (m : World) (v : ℕ) → v < m.net.nodes → is_none (refusal m (Damage (harm.Desk v None 0 false))) ≡ true
 ends m v here = grind (arith, common_steps)
 
--- a part without damage leads nowhere
+-- a part without damage changes nothing
 part-idle : (m : World) (queue : List ℕ) (v : ℕ) (p : StatePart) → v < m.net.nodes
     → has_damage m (part_events m queue v p) ≡ false → run m (part_events m queue v p) ≡ m
 part-idle m queue v (part.Start network node) here h = refl
@@ -258,7 +259,8 @@ part-idle m queue v part.Whole here h = refl
 
 module _ (join : RunsJoin) (split : UndamagedSplits) (nodes : JoinedAreNodes) (w : World) (v : ℕ) (s : LocalState)
     (range : IsWorldInRange w) (here : v < w.net.nodes) where
-  -- a part that came first without damage stood so, and what comes after it is read where it was
+  -- if the first part brings no damage, the node was already as it says, and what comes after it is read in
+  -- the same world
   part-said : (queue : List ℕ) (p : StatePart) (ps : List StatePart) → IsPartInRange w queue v p
       → IsUndamaged w (parts_events w queue v (p ∷ ps))
       → StandsAs queue (w.node v) p × IsUndamaged w (parts_events w (queue_after_part queue p) v ps)

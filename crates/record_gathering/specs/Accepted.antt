@@ -1,4 +1,4 @@
--- The events of a list that are not refused, each where the ones before it led.
+-- The events of a list that are not refused, each in the world to which the ones before it led.
 use Rattle.std.specs.Prelude.{if◌then◌else◌, is_some, List, [], ◌∷◌}
 use Rattle.configuration.specs.run_model.World.{World}
 use Rattle.configuration.specs.run_model.Step.{refusal, step}

@@ -19,7 +19,7 @@ use Rattle.configuration.specs.run_model.declared.event.Harm.TheVariants as harm
 use Rattle.record_gathering.specs.Differences.{harms_in, own_harm, port_harms, frame_harms, desk_events}
 use Rattle.record_gathering.specs.Frames.{is_under_way, in_front}
 
--- the oldest items of the link from u to v are lost, so many
+-- this many of the oldest items of the link from u to v are lost
 abbrev pub losses : ℕ → ℕ → ℕ → List Event
 losses u v count = replicate count (Lose u v 0)
 
@@ -72,7 +72,8 @@ deed_events w v (deed.Parts neighbour) = Damage (harm.Part v neighbour) ∷ []
 deed_events w v (deed.Connects neighbour) = []
 deed_events w v (deed.Disconnects neighbour) = []
 
--- v stands so: harms where the world's node stands otherwise. `queue` is what waits, as noted before.
+-- What a part of v's state becomes: harms wherever the world's node differs from it. `queue` is
+-- what waits, as noted before.
 abbrev pub part_events : World → List ℕ → ℕ → StatePart → List Event
 part_events w queue v (part.Start network node) = []
 part_events w queue v (part.Own distance parent) =

@@ -26,14 +26,14 @@ abbrev pub edge_harm : Bool → Edge → Harm
 edge_harm true e = harm.Join e.0 e.1
 edge_harm false e = harm.Part e.0 e.1
 
--- the edges that a network does not have join it, or part
+-- those of the edges that a network does not have join, or part
 abbrev pub lacking : Bool → Network → List Edge → List Fact
 lacking joins net [] = []
 lacking joins net (e ∷ es) =
     if are_joined net.edges e.0 e.1 then lacking joins net es else Written (edge_harm joins e) ∷ lacking joins net es
 
--- the edges by which a network becomes another one; twice, as an edge for which no pair of links is left
--- may join once another one has parted
+-- the changes of edges that turn a network into another one; twice, as an edge for which no pair of
+-- links is left may join once another edge has parted
 abbrev pub edge_changes : Network → Network → List Fact
 edge_changes net other = lacking true net other.edges ++ lacking false other net.edges
 
@@ -44,7 +44,7 @@ edge_facts net other = edge_changes net other ++ edge_changes net other
 abbrev pub state_facts : ℕ → Site → LocalState → List Fact
 state_facts network site s = map (State site.id) (state_parts network site s)
 
--- those of the first nodes, so many
+-- the states of the nodes below this number
 abbrev pub states_below : ℕ → World → ℕ → List Fact
 states_below network w zero = []
 states_below network w (suc v) = states_below network w v ++ state_facts network (site w v) (w.node v)
@@ -53,12 +53,12 @@ states_below network w (suc v) = states_below network w v ++ state_facts network
 abbrev pub link_facts : World → ℕ → ℕ → List Fact
 link_facts w u v = map (λ (item : Item). Written (harm.Item u v item)) (w.link u v)
 
--- from u to the first nodes, so many
+-- what is under way from u to the nodes below this number
 abbrev pub links_from : World → ℕ → ℕ → List Fact
 links_from w u zero = []
 links_from w u (suc v) = links_from w u v ++ link_facts w u v
 
--- from the first nodes, so many, to all nodes
+-- what is under way from the nodes below this number to all nodes
 abbrev pub links_below : World → ℕ → List Fact
 links_below w zero = []
 links_below w (suc u) = links_below w u ++ links_from w u w.net.nodes
@@ -71,12 +71,12 @@ facts_of network net w =
 
 -- ---- what they become
 
--- a part of a state becomes harms wherever the node stands otherwise
+-- what a fact becomes; a part of a state becomes harms wherever the node differs from it
 abbrev pub fact_events : World → List (List ℕ) → Fact → List Event
 fact_events w queues (State v p) = accepted w (entry_events w (queue_of queues v) v (noted.State p))
 fact_events w queues (Written h) = accepted w (Damage h ∷ [])
 
--- the tickets that were noted to wait after it
+-- the tickets that are noted to wait after a fact
 abbrev pub queues_with : List (List ℕ) → Fact → List (List ℕ)
 queues_with queues (State v p) = queues_after queues v (noted.State p)
 queues_with queues (Written h) = queues
@@ -91,8 +91,8 @@ abbrev pub set_queues : List (List ℕ) → List Fact → List (List ℕ)
 set_queues queues [] = queues
 set_queues queues (f ∷ fs) = set_queues (queues_with queues f) fs
 
--- The events that set a network, as it starts with so many spare pairs of links, as a world stands. None
--- that the network refuses is among them.
+-- The events that bring a network, as it starts with this many spare pairs of links, into the state
+-- of a world. None that the network refuses is among them.
 abbrev pub set_up : ℕ → Network → ℕ → World → List Event
 set_up network net pairs w =
     set_events (world_with_spares net pairs) (replicate net.nodes []) (facts_of network net w)

@@ -11,7 +11,8 @@ earlier None turn = turn
 earlier (Some first) turn =
     if is_no_later first.rank first.instant turn.rank turn.instant then first else turn
 
--- the first of those in front of v and of v's next entry, of which each may be none
+-- the earlier of two, of which each may be none: the first among the nodes before v, and v with its
+-- next entry
 abbrev pub with_head : World → ℕ → Option Entry → Option First → Option First
 with_head w v None first = first
 with_head w v (Some e) first =

@@ -1,4 +1,4 @@
--- What the events that entries become say, and where they lead.
+-- What the events that entries become mean, and where they lead.
 use Rattle.std.specs.Prelude.{◌≡◌, ◌≢◌, ℕ, ◌<◌, IsTrue, if◌then◌else◌, List, [], ◌∷◌, ◌++◌, drop}
 use Rattle.topology.specs.declared.frame.Frame.{Frame}
 use Rattle.flight_records.specs.declared.entry.Noted.{Noted}
@@ -19,14 +19,14 @@ use Rattle.record_gathering.specs.Fields.{fields_of, no_fields, Differs, AreAll}
 use Rattle.record_gathering.specs.Frames.{is_under_way}
 use Rattle.record_gathering.specs.Standing.{StandsAs, IsPartInRange, IsOfNeighbour, IsSameBeside}
 
--- The events that are not refused lead where all lead, none of them is refused there, and they have
--- damage exactly if all have.
+-- The events that are not refused lead to the same world as all of them; none is refused if they
+-- alone happen; and there is damage among them exactly if there is damage among all.
 pub record AcceptedIsEnough : Type 0 where
   pub leads : (w : World) (es : List Event) → run w (accepted w es) ≡ run w es
   pub none_refused : (w : World) (es : List Event) → accepted w (accepted w es) ≡ accepted w es
   pub damage : (w : World) (es : List Event) → has_damage w (accepted w es) ≡ has_damage w es
 
--- If a node stands as a part of its state was noted, the part becomes no event. A frame that is under
+-- If a node is as a part of its state was noted, the part becomes no event. A frame that is under
 -- way is taken without damage, and one that the node's port sends is sent without damage.
 pub record HarmsMeanDifferences : Type 0 where
   pub parts : (w : World) (queue : List ℕ) (v : ℕ) (p : StatePart) → StandsAs queue (w.node v) p
@@ -36,8 +36,8 @@ pub record HarmsMeanDifferences : Type 0 where
   pub sent : (w : World) (v u : ℕ) (f : Frame) → frame_of ((w.node v).port u) ≡ f
       → IsUndamaged w (sent_events w v u f)
 
--- A field that is named stands otherwise than was noted. None is named of a part of a node's state exactly
--- if the node stands so; of a port, if it is one to a neighbour.
+-- A field that is named differs from what was noted. For a part of a node's state, no field is
+-- named exactly if the node is as noted; for a port, this holds if it leads to a neighbour.
 pub record FieldsMeanDifferences : Type 0 where
   pub said : (w : World) (queue : List ℕ) (v : ℕ) (n : Noted) → AreAll (Differs w queue v n) (fields_of w queue v n)
   pub quiet : (w : World) (queue : List ℕ) (v : ℕ) (p : StatePart) → StandsAs queue (w.node v) p
@@ -45,7 +45,7 @@ pub record FieldsMeanDifferences : Type 0 where
   pub whole : (w : World) (queue : List ℕ) (v : ℕ) (p : StatePart) → v < w.net.nodes → IsOfNeighbour w v p
       → fields_of w queue v (noted.State p) ≡ no_fields → StandsAs queue (w.node v) p
 
--- a part of v's state that is in range: v stands so afterwards, and all else is as it was
+-- after a part of v's state that is in range: v is as the part says, and all else is as it was
 pub record IsReached (w : World) (queue : List ℕ) (v : ℕ) (p : StatePart) (new : World) : Type 0 where
   pub stands : StandsAs queue (new.node v) p
   pub beside : IsSameBeside p (w.node v) (new.node v)
@@ -53,8 +53,9 @@ pub record IsReached (w : World) (queue : List ℕ) (v : ℕ) (p : StatePart) (n
   pub links : new.link ≡ w.link
   pub network : new.net ≡ w.net
 
--- After a part of a node's state, the node stands as it was noted. After a frame that was taken, the
--- node is as one that took that frame; after one that was sent, that frame is the newest on its link.
+-- After a part of a node's state, the node is as it was noted. After a frame that was taken, the
+-- node is as if it had taken that frame; after one that was sent, that frame is the newest on its
+-- link.
 pub record ReplaysFollowRecords : Type 0 where
   pub parts : (w : World) (queue : List ℕ) (v : ℕ) (p : StatePart) → IsWorldInRange w
       → v < w.net.nodes → IsPartInRange w queue v p
@@ -67,7 +68,8 @@ pub record ReplaysFollowRecords : Type 0 where
       → (run w (sent_events w v u f)).link v u
       ≡ (if has_room w v u then w.link v u else drop 1 (w.link v u)) ++ item.Frame f ∷ []
 
--- What facts become in two parts, they become together. And none of these events is refused.
+-- Facts that are set in two parts become the same events as facts that are set together. None of
+-- these events is refused.
 pub record FactsJoin : Type 0 where
   pub events : (w : World) (queues : List (List ℕ)) (xs ys : List Fact)
       → set_events w queues (xs ++ ys)

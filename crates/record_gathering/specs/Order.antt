@@ -22,7 +22,7 @@ is_sent (noted.Deed d) = is_sent_deed d
 abbrev pub rank : World → ℕ → Entry → ℕ
 rank w v e = if is_ready w v e.noted then 0 else if is_sent e.noted then 1 else 2
 
--- a rank and an instant are no later than others
+-- a rank and an instant are no later than another rank and instant
 abbrev pub is_no_later : ℕ → ℕ → ℕ → ℕ → Bool
 is_no_later rank instant other later =
     nat_lt rank other || (rank == other && nat_le instant later)
@@ -31,8 +31,8 @@ is_no_later rank instant other later =
 abbrev pub head_of : List (Option Entry) → ℕ → Option Entry
 head_of heads v = slice_index_or heads v None
 
--- Of the first n records, the next entry of the one that is named is of the least rank, and of those the
--- earliest; none is named where all are read to their ends.
+-- Among the next entries of the first n records, that of the record that is named has the least
+-- rank, and is the earliest of that rank; none is named if all are read to their ends.
 abbrev pub IsNext : World → List (Option Entry) → ℕ → Option ℕ → Type 0
 IsNext w heads n None = (u : ℕ) → u < n → head_of heads u ≡ None
 IsNext w heads n (Some v) =

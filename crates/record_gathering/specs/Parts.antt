@@ -1,4 +1,4 @@
--- What a part of a node's state says of where the node stands.
+-- What a part of a node's state says of the state of the node.
 use Rattle.std.specs.Prelude.{ℕ, ◌<◌, if◌then◌else◌}
 use Rattle.topology.specs.Network.{are_joined}
 use Rattle.flight_records.specs.declared.entry.StatePart.{StatePart}

@@ -22,7 +22,7 @@ queue_after_part queue (part.Waits ticket) = with_ticket queue ticket
 queue_after_part queue (part.Loan lent left served) = queue
 queue_after_part queue part.Whole = queue
 
--- and after an entry
+-- a queue after an entry of its node's record
 abbrev pub queue_after : List ℕ → Noted → List ℕ
 queue_after queue (noted.State p) = queue_after_part queue p
 queue_after queue (noted.Deed d) = queue

@@ -1,4 +1,4 @@
--- Where the events lead that set a network up as a world stands.
+-- Where the events lead that set up a network in the state of a world.
 use Rattle.std.specs.Prelude.{◌≡◌, ℕ, ◌<◌, IsTrue, [], replicate}
 use Rattle.topology.specs.Network.{Network, IsAcceptedNetwork, are_joined}
 use Rattle.node_follower.specs.Following.{AreSame}
@@ -8,7 +8,7 @@ use Rattle.configuration.specs.run_model.Start.{world_with_spares}
 use Rattle.configuration.specs.run_model.Run.{run}
 use Rattle.record_gathering.specs.Facts.{edge_facts, set_events, set_up}
 
--- each node is in the state in which it is in a world, and each link holds what it holds there
+-- each node is in the same state as in a world, and each link holds what it holds there
 pub record IsSameAs (w new : World) : Type 0 where
   pub nodes : (v : ℕ) → v < w.net.nodes → AreSame (site w v).neighbours (new.node v) (w.node v)
   pub links : (u v : ℕ) → IsTrue (are_joined w.net.edges u v) → new.link u v ≡ w.link u v
@@ -22,9 +22,9 @@ abbrev pub with_edges_of : Network → ℕ → World → World
 with_edges_of net pairs w =
     run (world_with_spares net pairs) (set_events (world_with_spares net pairs) (replicate net.nodes []) (edge_facts net w.net))
 
--- A network was set up as a world in range, of the same nodes, root, capacity and lease. If the same nodes
--- are joined once its edges were set, it stands as that world; and they are joined, if that world has the
--- network's own edges.
+-- A network is set up like a world in range, with the same nodes, root, capacity and lease. If the
+-- same nodes are joined once its edges are set, it is in the state of that world. The same nodes
+-- are joined if the network of that world is the network itself.
 pub record SetUpsAreReached : Type 0 where
   pub reached : (network pairs : ℕ) (net : Network) (w : World) → IsAcceptedNetwork net → IsWorldInRange w
       → IsSameFrame net w.net → HasEdgesOf w (with_edges_of net pairs w)

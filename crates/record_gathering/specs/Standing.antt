@@ -1,4 +1,4 @@
--- When a node stands as a part of its state was noted, and which parts are in range.
+-- When a node is as a part of its state was noted, and which parts are in range.
 use Rattle.std.specs.Prelude.{◌≡◌, ◌≢◌, ℕ, ◌&&◌, nat_lt, nat_le, IsTrue, List}
 use Rattle.topology.specs.Network.{are_joined}
 use Rattle.topology.specs.Ranges.{ranges_of, parent_fits}
@@ -9,7 +9,7 @@ use Rattle.configuration.specs.node_core.lock_desk.Desk.{desk_fits}
 use Rattle.configuration.specs.data_link.Port.{port_fits}
 use Rattle.configuration.specs.run_model.World.{World}
 
--- the node stands so; `queue` is what was noted to wait
+-- the node is as the part says; `queue` is what was noted to wait
 abbrev pub StandsAs : List ℕ → LocalState → StatePart → Type 0
 StandsAs queue s (part.Start network node) = Unit {0}
 StandsAs queue s (part.Own distance parent) = (s.distance ≡ distance) × (s.parent ≡ parent)
@@ -20,7 +20,7 @@ StandsAs queue s (part.Loan lent left served) =
     s.desk ≡ record { waiting = queue; lent = lent; left = left; served = served }
 StandsAs queue s part.Whole = Unit {0}
 
--- a node v of the world may stand so
+-- a node v of the world may be as the part says
 abbrev pub IsPartInRange : World → List ℕ → ℕ → StatePart → Type 0
 IsPartInRange w queue v (part.Start network node) = Unit {0}
 IsPartInRange w queue v (part.Own distance parent) =

@@ -1,4 +1,4 @@
--- A node's whole state is noted, part after part: the events that it becomes, and where they lead.
+-- The events that a node's whole state becomes, noted part after part, and where they lead.
 use Rattle.std.specs.Prelude.{◌≡◌, ◌≢◌, ℕ, ◌<◌, List, [], ◌∷◌, ◌++◌}
 use Rattle.flight_records.specs.declared.entry.StatePart.{StatePart}
 use Rattle.node_follower.specs.Following.{AreSame}
@@ -21,15 +21,15 @@ parts_events w queue v (p ∷ ps) =
 abbrev pub state_events : World → List ℕ → ℕ → ℕ → LocalState → List Event
 state_events w queue v network s = parts_events w queue v (state_parts network (site w v) s)
 
--- v stands in this state, and all else is as it was
+-- v is in this state, and all else is as it was
 pub record IsStateReached (w : World) (v : ℕ) (s : LocalState) (new : World) : Type 0 where
   pub same : AreSame (site w v).neighbours (new.node v) s
   pub others : (x : ℕ) → x ≢ v → new.node x ≡ w.node x
   pub links : new.link ≡ w.link
   pub network : new.net ≡ w.net
 
--- After a node's whole state was noted, the node stands in it. If it stood so before, there is no event;
--- and if there is no damage, it stood so before.
+-- After a node's whole state was noted, the node is in it. If it was in it before, there is no
+-- event; and if there is no damage, it was in it before.
 pub record WholeStatesAreReached : Type 0 where
   pub reached : (w : World) (queue : List ℕ) (v network : ℕ) (s : LocalState) → IsWorldInRange w
       → v < w.net.nodes → IsNodeInRange (site w v) s

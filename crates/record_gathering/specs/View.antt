@@ -1,5 +1,5 @@
--- What contracts see of a gathering: the world, as the entries so far led it, and the queues that are
--- noted now, by their nodes.
+-- What contracts see of a gathering: the world, in the state to which the entries so far led it,
+-- and the queues that are being noted, by node.
 use Rattle.std.specs.Prelude.{ℕ, List}
 use Rattle.configuration.specs.ConfigurationView.{ConfigurationView, world_of}
 use Rattle.configuration.specs.run_model.World.{World}

@@ -1,4 +1,4 @@
-//! Where a node of the world stands otherwise than was noted, as harms.
+//! How a node of the world differs from what was noted, as harms.
 ghost use Rattle.std.specs.Prelude.{◌≡◌, ◌<◌, if◌then◌else◌, is_ok};
 ghost use Rattle.configuration.specs.node_core.View.{site_in, state_of};
 ghost use Rattle.configuration.specs.node_core.lock_desk.Desk.{DeskState};
@@ -13,14 +13,14 @@ use configuration::{Harm, Node};
 use std::alloc::Allocator;
 use topology::Frame;
 
-/// A harm, unless the two are the same.
+/// The harm, unless what it would change is already the same.
 fn unless(is_same: bool, harm: Harm) -> Option<Harm>
     ensures { result ≡ unless is_same harm }
 {
     if is_same { None } else { Some(harm) }
 }
 
-/// The harm by which a node has this distance and this parent, unless it has.
+/// The harm that gives a node this distance and this parent, unless it already has them.
 pub fn own_harm<A: Allocator>(
     id: u16,
     node: &Node<A>,
@@ -40,7 +40,7 @@ pub fn own_harm<A: Allocator>(
     )
 }
 
-/// The harms by which a node's port stands as one that was noted, as far as it does not.
+/// The harms that make a node's port equal to one that was noted, as far as it differs.
 pub fn port_harms<A: Allocator>(id: u16, node: &Node<A>, port: &PortNoted) -> [Option<Harm>; 4]
     requires { port.now.neighbour < (site_in node.now).ranges.nodes }
     ensures { result ≡ port_harms id port.now.neighbour (state_of node.now)
@@ -82,7 +82,7 @@ pub fn port_harms<A: Allocator>(id: u16, node: &Node<A>, port: &PortNoted) -> [O
     ]
 }
 
-/// The harms after which a node sends this frame to a neighbour, if it would send another one.
+/// The harms after which a node sends this frame to a neighbour, if it would send a different one.
 pub fn frame_harms<A: Allocator>(
     id: u16,
     node: &Node<A>,
@@ -119,7 +119,7 @@ pub fn same_truth(one: bool, other: bool) -> bool
     if one { other } else { !other }
 }
 
-/// The harm by which a loan is another one, unless it is.
+/// The harm that turns the loan `now` into `loan`, unless they are the same.
 pub fn loan_harm(id: u16, now: &LoanNoted, loan: &LoanNoted) -> Option<Harm>
     ensures { result ≡ loan_harm id now.now.lent now.now.left now.now.served loan.now.lent
         loan.now.left loan.now.served }

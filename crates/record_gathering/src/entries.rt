@@ -50,7 +50,7 @@ fn has_room<A: Allocator + Copy>(world: &Configuration<A>, from: u16, to: u16) -
     world.under_way(from, to) < usize::from(world.net().capacity())
 }
 
-/// One more event.
+/// Adds an event.
 fn add<B: Allocator>(events: &mut Vec<Event, B>, event: Event) -> Result<(), AllocError>
     ensures { OnOk result (events.new.items ≡ events.old.items ++ event ∷ []) }
 {
@@ -58,7 +58,7 @@ fn add<B: Allocator>(events: &mut Vec<Event, B>, event: Event) -> Result<(), All
     Ok(())
 }
 
-/// The harms among some.
+/// Adds the harms among these, as events.
 fn add_harms<B: Allocator>(
     events: &mut Vec<Event, B>,
     harms: &[Option<Harm>],
@@ -71,7 +71,7 @@ fn add_harms<B: Allocator>(
     Ok(())
 }
 
-/// A harm, if there is one.
+/// Adds a harm, if there is one, as an event.
 fn add_harm<B: Allocator>(events: &mut Vec<Event, B>, harm: &Option<Harm>) -> Result<(), AllocError>
     ensures { OnOk result (events.new.items ≡ events.old.items ++ harms_in (harm.now ∷ [])) }
 {
@@ -81,7 +81,7 @@ fn add_harm<B: Allocator>(events: &mut Vec<Event, B>, harm: &Option<Harm>) -> Re
     Ok(())
 }
 
-/// The oldest items of a link are lost, so many.
+/// Adds the losses of the `count` oldest items of a link.
 fn add_losses<B: Allocator>(
     events: &mut Vec<Event, B>,
     from: u16,
@@ -96,8 +96,9 @@ fn add_losses<B: Allocator>(
     Ok(())
 }
 
-/// A frame was taken: all that was in front of it is lost. One that nobody sent stands alone on the link
-/// until it is taken; then what was under way is put there again.
+/// Adds what becomes of a frame that was taken. All that was in front of it is lost. A frame that
+/// nobody sent stands alone on the link until it is taken; then what was under way is put there
+/// again.
 fn add_taken<A: Allocator + Copy, B: Allocator>(
     world: &Configuration<A>,
     passage: &Passage,
@@ -122,7 +123,7 @@ fn add_taken<A: Allocator + Copy, B: Allocator>(
     add_items(world, from, to, events)
 }
 
-/// What is under way on a link is put there.
+/// Adds the harms that put on a link what is under way on it.
 fn add_items<A: Allocator + Copy, B: Allocator>(
     world: &Configuration<A>,
     from: u16,
@@ -141,7 +142,8 @@ fn add_items<A: Allocator + Copy, B: Allocator>(
     Ok(())
 }
 
-/// A link accepted a frame: its sender's port sends it. A link that is full loses its oldest item.
+/// Adds what becomes of a frame that a link accepted: its sender's port sends it. A link that is
+/// full loses its oldest item.
 fn add_sent<A: Allocator + Copy, B: Allocator>(
     world: &Configuration<A>,
     passage: &Passage,
@@ -162,7 +164,7 @@ fn add_sent<A: Allocator + Copy, B: Allocator>(
     add(events, Event::Send { from, to })
 }
 
-/// A node did this.
+/// Adds what becomes of a deed of a node.
 fn add_deed<A: Allocator + Copy, B: Allocator>(
     world: &Configuration<A>,
     node: u16,
@@ -187,7 +189,7 @@ fn add_deed<A: Allocator + Copy, B: Allocator>(
     }
 }
 
-/// These tickets leave.
+/// Adds the events by which these tickets leave.
 fn add_leaves<B: Allocator>(
     node: u16,
     tickets: &[u16],
@@ -207,7 +209,7 @@ fn add_leaves<B: Allocator>(
     Ok(())
 }
 
-/// These tickets ask.
+/// Adds the events by which these tickets ask.
 fn add_asks<B: Allocator>(
     node: u16,
     tickets: &[u16],
@@ -227,14 +229,14 @@ fn add_asks<B: Allocator>(
     Ok(())
 }
 
-/// No loan, as it stands after a harm.
+/// No loan, as a harm leaves the desk.
 const NO_LOAN: LoanNoted = LoanNoted {
     lent: None,
     left: 0,
     served: false,
 };
 
-/// A desk stands so, with these tickets that wait.
+/// Adds the events that bring a desk into this state, with these tickets waiting.
 fn add_desk<A: Allocator + Copy, B: Allocator>(
     world: &Configuration<A>,
     node: u16,
@@ -268,7 +270,7 @@ fn add_desk<A: Allocator + Copy, B: Allocator>(
     add_harm(events, &loan_harm(node, &NO_LOAN, loan))
 }
 
-/// A port stands so.
+/// Adds the harms that bring a port into this state.
 fn add_port<A: Allocator + Copy, B: Allocator>(
     world: &Configuration<A>,
     node: u16,
@@ -284,7 +286,7 @@ fn add_port<A: Allocator + Copy, B: Allocator>(
     add_harms(events, &port_harms(node, world.node(node), port))
 }
 
-/// A part of a node's state is noted.
+/// Adds what becomes of a noted part of a node's state.
 fn add_part<A: Allocator + Copy, B: Allocator>(
     world: &Configuration<A>,
     queue: &[u16],
@@ -306,7 +308,7 @@ fn add_part<A: Allocator + Copy, B: Allocator>(
     }
 }
 
-/// What an entry of a node's record becomes, after the events that are there.
+/// Adds what an entry of a node's record becomes to the events that are there.
 pub fn add_entry<A: Allocator + Copy, B: Allocator>(
     world: &Configuration<A>,
     queue: &[u16],
@@ -336,8 +338,8 @@ pub fn is_ready<A: Allocator + Copy>(world: &Configuration<A>, node: u16, noted:
     }
 }
 
-/// Whether a frame that was taken may come next: one like it is under way. One that cannot be on its link
-/// always may.
+/// Whether a frame that was taken may come next: whether an equal one is under way. A frame that
+/// cannot be on its link may always come next.
 pub fn is_taken_ready<A: Allocator + Copy>(world: &Configuration<A>, passage: &Passage) -> bool
     ensures { result ≡ is_deed_ready (world_of world.now) passage.now.to
         (Takes passage.now.from passage.now.frame) }
@@ -345,8 +347,8 @@ pub fn is_taken_ready<A: Allocator + Copy>(world: &Configuration<A>, passage: &P
     !is_of_link(world, passage) || place_of(world, passage).is_there
 }
 
-/// Whether a frame that was sent may come next: there is room for it. One that cannot be on its link
-/// always may.
+/// Whether a frame that was sent may come next: whether there is room for it. A frame that cannot
+/// be on its link may always come next.
 fn is_sent_ready<A: Allocator + Copy>(world: &Configuration<A>, passage: &Passage) -> bool
     ensures { result ≡ is_deed_ready (world_of world.now) passage.now.from
         (Sends passage.now.to passage.now.frame) }

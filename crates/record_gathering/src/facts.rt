@@ -1,4 +1,5 @@
-//! The facts of a world: what a world that begins as the network starts is set up by.
+//! The facts of a world. Set in a world that begins as the network starts, they bring it into the
+//! same state.
 ghost use Rattle.std.specs.Prelude.{◌≡◌, ◌<◌, ◌++◌, ◌∷◌, [], OnOk, map};
 ghost use Rattle.flight_records.specs.declared.entry.StatePart.TheVariants.{Waits};
 ghost use Rattle.node_follower.specs.Parts.{port_part};
@@ -28,7 +29,7 @@ pub enum Fact {
     Written(Harm),
 }
 
-/// One more fact.
+/// Adds a fact.
 fn add<B: Allocator>(facts: &mut Vec<Fact, B>, fact: Fact) -> Result<(), AllocError>
     ensures { OnOk result (facts.new.items ≡ facts.old.items ++ fact ∷ []) }
 {
@@ -36,7 +37,7 @@ fn add<B: Allocator>(facts: &mut Vec<Fact, B>, fact: Fact) -> Result<(), AllocEr
     Ok(())
 }
 
-/// An edge joins, or parts, unless a network has it.
+/// Adds the fact that an edge joins, or parts, unless a network has it.
 fn add_change<N: Allocator + Copy, B: Allocator>(
     net: &Net<N>,
     edge: (u16, u16),
@@ -57,7 +58,7 @@ fn add_change<N: Allocator + Copy, B: Allocator>(
     }
 }
 
-/// The edges that a network does not have join, or part.
+/// Adds the facts that those edges join, or part, that a network does not have.
 fn add_lacking<N: Allocator + Copy, B: Allocator>(
     net: &Net<N>,
     edges: &[(u16, u16)],
@@ -73,7 +74,7 @@ fn add_lacking<N: Allocator + Copy, B: Allocator>(
     Ok(())
 }
 
-/// The edges by which a network becomes another one.
+/// Adds the changes of edges that turn a network into another one.
 fn add_changes<N: Allocator + Copy, M: Allocator + Copy, B: Allocator>(
     net: &Net<N>,
     other: &Net<M>,
@@ -86,8 +87,8 @@ fn add_changes<N: Allocator + Copy, M: Allocator + Copy, B: Allocator>(
     add_lacking(other, net.edges(), false, facts)
 }
 
-/// The edges by which a network becomes another one, after these facts. All of it stands there twice, as
-/// an edge for which no pair of links is left may join once another one has parted.
+/// Adds the changes of edges that turn a network into another one to these facts. They are all
+/// added twice: an edge for which no pair of links is left may join once another edge has parted.
 pub fn add_edges<N: Allocator + Copy, M: Allocator + Copy, B: Allocator>(
     net: &Net<N>,
     other: &Net<M>,
@@ -99,7 +100,7 @@ pub fn add_edges<N: Allocator + Copy, M: Allocator + Copy, B: Allocator>(
     add_changes(net, other, facts)
 }
 
-/// The ports of a node.
+/// Adds the ports of a node.
 fn add_ports<A: Allocator, B: Allocator>(
     id: u16,
     node: &Node<A>,
@@ -120,7 +121,7 @@ fn add_ports<A: Allocator, B: Allocator>(
     Ok(())
 }
 
-/// The tickets that wait at a node.
+/// Adds the tickets that wait at a node.
 fn add_queue<A: Allocator, B: Allocator>(
     id: u16,
     node: &Node<A>,
@@ -141,7 +142,7 @@ fn add_queue<A: Allocator, B: Allocator>(
     Ok(())
 }
 
-/// The whole state of a node, part after part, after these facts. `network` is the number of its
+/// Adds the whole state of a node, part after part, to these facts. `network` is the number of its
 /// network.
 pub fn add_state<A: Allocator, B: Allocator>(
     network: u32,
@@ -185,7 +186,7 @@ pub fn add_state<A: Allocator, B: Allocator>(
     )
 }
 
-/// What is under way from a node to another one.
+/// Adds what is under way from one node to another.
 fn add_link<A: Allocator + Copy, B: Allocator>(
     world: &Configuration<A>,
     from: u16,
@@ -204,7 +205,8 @@ fn add_link<A: Allocator + Copy, B: Allocator>(
     Ok(())
 }
 
-/// What is under way from a node to each other one, after these facts; the oldest on each link first.
+/// Adds what is under way from a node to each other node to these facts; the oldest on each link
+/// first.
 pub fn add_links<A: Allocator + Copy, B: Allocator>(
     world: &Configuration<A>,
     from: u16,

@@ -1,4 +1,4 @@
-//! Which fields of a node of the world stand otherwise than was noted.
+//! Which fields of a node of the world differ from what was noted.
 ghost use Rattle.std.specs.Prelude.{◌≡◌, ◌<◌, if◌then◌else◌};
 ghost use Rattle.configuration.specs.ConfigurationView.{world_of};
 ghost use Rattle.configuration.specs.node_core.View.{site_in, state_of};
@@ -43,18 +43,18 @@ pub enum Field {
     Left,
     /// Whether a loan ended since the last full tick.
     Served,
-    /// A frame that it took from a neighbour: none like it was under way.
+    /// A frame that it took from a neighbour: no equal one was under way.
     Taken { neighbour: u16 },
 }
 
-/// A field, unless it stands as was noted.
+/// The field, unless it is as it was noted.
 fn differing(is_same: bool, field: Field) -> Option<Field>
     ensures { result ≡ differing is_same field }
 {
     if is_same { None } else { Some(field) }
 }
 
-/// Of a node's distance and parent, those that are other ones.
+/// Those of a node's distance and parent that differ.
 fn own_fields<A: Allocator>(
     node: &Node<A>,
     distance: u16,
@@ -71,7 +71,7 @@ fn own_fields<A: Allocator>(
     ]
 }
 
-/// Of a node's port, and of the machine that comes in from there, what is otherwise.
+/// What differs in a node's port, and in the machine that comes in from there.
 fn port_fields<A: Allocator>(node: &Node<A>, port: &PortNoted) -> [Option<Field>; 5]
     requires { port.now.neighbour < (site_in node.now).ranges.nodes }
     ensures { result ≡ port_fields port.now.neighbour (state_of node.now)
@@ -96,7 +96,7 @@ fn port_fields<A: Allocator>(node: &Node<A>, port: &PortNoted) -> [Option<Field>
     ]
 }
 
-/// Of a node's port to a neighbour, what is otherwise than in a frame that it sent there.
+/// What in a node's port to a neighbour differs from a frame that it sent there.
 fn frame_fields<A: Allocator>(node: &Node<A>, to: u16, frame: &Frame) -> [Option<Field>; 5]
     requires { to < (site_in node.now).ranges.nodes }
     ensures { result ≡ frame_fields to ((state_of node.now).port to) frame.now }
@@ -113,7 +113,7 @@ fn frame_fields<A: Allocator>(node: &Node<A>, to: u16, frame: &Frame) -> [Option
     ]
 }
 
-/// Of a node's desk, what is otherwise, if these tickets wait.
+/// What differs at a node's desk if these tickets wait.
 fn loan_fields<A: Allocator>(node: &Node<A>, queue: &[u16], loan: &LoanNoted) -> [Option<Field>; 5]
     ensures { result ≡ loan_fields (state_of node.now).desk queue.now loan.now.lent loan.now.left
         loan.now.served }
@@ -127,7 +127,7 @@ fn loan_fields<A: Allocator>(node: &Node<A>, queue: &[u16], loan: &LoanNoted) ->
     ]
 }
 
-/// A frame that was taken, unless one like it is under way or it cannot be on its link.
+/// A frame that was taken, unless an equal one is under way or it cannot be on its link.
 fn taken_fields<A: Allocator + Copy>(
     world: &Configuration<A>,
     passage: &Passage,
@@ -145,7 +145,7 @@ fn taken_fields<A: Allocator + Copy>(
     ]
 }
 
-/// Of a part of a node's state, what is otherwise.
+/// What differs from a noted part of a node's state.
 fn part_fields<A: Allocator + Copy>(
     world: &Configuration<A>,
     queue: &[u16],
@@ -163,7 +163,7 @@ fn part_fields<A: Allocator + Copy>(
     }
 }
 
-/// Of what a node did, what could not come of where it stands.
+/// The fields of a node that do not match what it did.
 fn deed_fields<A: Allocator + Copy>(
     world: &Configuration<A>,
     node: u16,
@@ -180,7 +180,7 @@ fn deed_fields<A: Allocator + Copy>(
     }
 }
 
-/// The fields of a node that stand otherwise than an entry of its record says; at most five.
+/// The fields of a node that differ from what an entry of its record says; at most five.
 pub fn fields_of<A: Allocator + Copy>(
     world: &Configuration<A>,
     queue: &[u16],

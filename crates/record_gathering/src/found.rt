@@ -5,7 +5,8 @@ ghost use Rattle.record_gathering.specs.Counts.{with_events, with_entry, any_wri
 
 use configuration::{Event, Harm};
 
-/// How many of the events that entries became are of which kind. A count stays at its greatest value.
+/// How many events of each kind the entries became. A count that has reached its greatest value
+/// stays there.
 #[derive(Clone, Copy)]
 pub struct EventCounts {
     /// How many events there are.
@@ -18,7 +19,7 @@ pub struct EventCounts {
     pub forged: u64,
 }
 
-/// One more.
+/// The count with one more; at its greatest value it stays as it is.
 fn one_more(count: u64) -> u64
     ensures { result ≡ one_more count }
 {
@@ -26,7 +27,7 @@ fn one_more(count: u64) -> u64
 }
 
 impl EventCounts {
-    /// Nothing.
+    /// Counts of no events.
     pub fn new() -> EventCounts
         ensures { result ≡ nothing }
     {
@@ -47,8 +48,9 @@ impl EventCounts {
         }
     }
 
-    /// Counts these events too, which one entry became. A frame that nobody sent is one, and nothing is lost
-    /// for it, as what was under way is put on its link again.
+    /// Counts these events too, which one entry became. If a frame that nobody sent is among them,
+    /// it counts as one, and nothing counts as lost, since what was under way is put on its link
+    /// again.
     pub fn count_entry(&mut self, events: &[Event])
         ensures { self.new ≡ with_entry self.old events.now }
     {
@@ -98,7 +100,7 @@ pub fn any_written(events: &[Event]) -> bool
     found
 }
 
-/// Whether an event does, or one before it did.
+/// Whether an event writes a frame or noise to a link, or one before it did.
 fn is_one_written(found: bool, event: &Event) -> bool
     ensures { result ≡ (found || is_written event.now) }
 {

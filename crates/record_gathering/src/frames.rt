@@ -8,7 +8,7 @@ use configuration::{Configuration, Item};
 use std::alloc::Allocator;
 use topology::{Frame, Payload};
 
-/// A frame on the link from a node to another one.
+/// A frame on the link from one node to another.
 #[derive(Clone, Copy)]
 pub struct Passage {
     pub from: u16,
@@ -58,7 +58,7 @@ fn is_frame(frame: &Frame, item: &Item) -> bool
     }
 }
 
-/// Where the earliest item is that is this frame, on its link.
+/// The place on its link of the earliest item that is this frame.
 pub fn place_of<A: Allocator + Copy>(world: &Configuration<A>, passage: &Passage) -> FramePlace
     requires from_in { passage.now.from < (world_of world.now).net.nodes }
     requires to_in { passage.now.to < (world_of world.now).net.nodes }

@@ -1,4 +1,4 @@
-//! A world, as the entries of records led it.
+//! A world, in the state to which the entries of records led it.
 ghost use Rattle.std.specs.Prelude.{◌≡◌, ◌≤◌, OnOk, OnErr, IfOk, [], ◌∷◌, length, replicate, take};
 ghost use Rattle.configuration.specs.ConfigurationView.{world_of};
 ghost use Rattle.configuration.specs.run_model.Run.{run};
@@ -24,11 +24,11 @@ use std::alloc::{AllocError, Allocator, Global};
 use std::marker::Model;
 use topology::Net;
 
-/// A world, as the entries so far led it.
+/// A world, in the state to which the entries so far led it.
 #[derive(Drop)]
 pub struct Gathering<A: Allocator + Copy = Global> {
     world: Configuration<A>,
-    /// The tickets that wait, by their nodes, of the states that are noted now.
+    /// The tickets that wait in the states that are being noted, by node.
     queues: Vec<Queue, A>,
 }
 
@@ -40,7 +40,7 @@ impl<A: Allocator + Copy> Model for Gathering<A> {
     ghost view = { λ g. record { configuration = g.world; queues = g.queues.items } };
 }
 
-/// No queues, one for each node.
+/// Empty queues, one for each node.
 fn new_queues<A: Allocator + Copy>(alloc: A, nodes: u16) -> Result<Vec<Queue, A>, AllocError>
     ensures { IfOk result (λ queues. queues.items ≡ replicate nodes []) }
 {
@@ -51,8 +51,8 @@ fn new_queues<A: Allocator + Copy>(alloc: A, nodes: u16) -> Result<Vec<Queue, A>
     Ok(queues)
 }
 
-/// Lets events happen, one after the other, and moves those to the front that are not refused. How
-/// many those are.
+/// Lets events happen, one after the other, and moves those that are not refused to the front.
+/// Returns how many these are.
 fn happen<A: Allocator + Copy>(world: &mut Configuration<A>, events: &mut [Event]) -> usize
     ensures kept { take result events.new ≡ accepted (world_of world.old) events.old }
     ensures world { world_of world.new ≡ run (world_of world.old) events.old }
@@ -81,8 +81,8 @@ fn keep_accepted<A: Allocator + Copy, B: Allocator>(
 }
 
 impl<A: Allocator + Copy> Gathering<A> {
-    /// A network as it starts, with so many spare pairs of links, at most 256, for edges that join
-    /// it. `AllocError` comes only if memory is refused.
+    /// A network as it starts, with this many spare pairs of links, at most 256, for edges that
+    /// join it. `AllocError` is returned only if memory is refused.
     pub fn new(alloc: A, net: &Net, pairs: u16) -> Result<Gathering<A>, AllocError>
         requires { pairs ≤ 256 }
         ensures { IfOk result (λ g. (gathered g ≡ world_with_spares net.now pairs)
@@ -100,18 +100,19 @@ impl<A: Allocator + Copy> Gathering<A> {
         &self.world
     }
 
-    /// Whether an entry of a node's record may come next. A frame that was taken may, if an equal one
-    /// is under way, and one that was sent, if there is room for it; all else may always.
+    /// Whether an entry of a node's record may come next. A frame that was taken may come next if
+    /// an equal one is under way, and a frame that was sent if there is room for it. All other
+    /// entries may always come next, and so may a frame that cannot be on its link.
     pub fn is_ready(&self, node: u16, noted: &Noted) -> bool
         ensures { result ≡ is_ready (gathered self.now) node noted.now }
     {
         is_ready(&self.world, node, noted)
     }
 
-    /// Of the next entries of all nodes' records, by their nodes, the node whose entry comes next;
-    /// none if all are read to their ends. Entries that are ready come first, then frames that were
-    /// sent on links that are full, and last frames that were taken and are not under way; of those
-    /// of one kind the earliest.
+    /// The node whose entry comes next. `heads` are the next entries of all nodes' records, by
+    /// node. None if all records are read to their ends. Entries that are ready come first, then
+    /// frames that were sent on links that are full, and last frames that were taken and are not
+    /// under way; within a kind, the earliest comes first.
     pub fn next_node(&self, heads: &[Option<Entry>]) -> Option<u16>
         ensures { IsNext (gathered self.now) heads.now (gathered self.now).net.nodes result }
     {
@@ -128,8 +129,9 @@ impl<A: Allocator + Copy> Gathering<A> {
         }
     }
 
-    /// The fields of a node that stand otherwise than the next entry of its record says; at most five. A
-    /// frame that it took counts as one if none like it is under way.
+    /// The fields of a node that differ from what the next entry of its record says; at most five.
+    /// A frame that it took counts as one if it may be on its link and no equal one is under way
+    /// there.
     pub fn fields(&self, node: u16, noted: &Noted) -> [Option<Field>; 5]
         ensures { result ≡ fields_of (gathered self.now) (queue_of self.now.queues node) node
             noted.now }
@@ -147,7 +149,7 @@ impl<A: Allocator + Copy> Gathering<A> {
         keep_accepted(&mut self.world, events);
     }
 
-    /// What waits at a node after an entry of its record.
+    /// Brings the queue of a node up to date after an entry of its record.
     fn note_queue(&mut self, node: u16, noted: &Noted)
         ensures queues { self.new.queues ≡ queues_after self.old.queues node noted.now }
         ensures world { self.new.configuration ≡ self.old.configuration }
@@ -157,9 +159,9 @@ impl<A: Allocator + Copy> Gathering<A> {
         }
     }
 
-    /// An entry of a node's record, in its long form, comes next. It becomes events, which happen in
-    /// the world; these are all that the list has afterwards. The entry of a number that no node has
-    /// becomes none.
+    /// Takes the next entry of a node's record, in its long form. It becomes events, which happen
+    /// in the world; afterwards the list holds exactly these. If no node has the number `node`, the
+    /// entry becomes no event.
     ///
     /// # Errors
     /// If memory runs out; then nothing has happened.
@@ -172,7 +174,7 @@ impl<A: Allocator + Copy> Gathering<A> {
         ensures events { OnOk result (events.new.items
             ≡ accepted (gathered self.old)
             (entry_events (gathered self.old) (queue_of self.old.queues node) node noted.now)) }
-        // The list leads the world on.
+        // The events of the list lead the world to its new state.
         ensures world { OnOk result (gathered self.new
             ≡ run (gathered self.old) events.new.items) }
         ensures queues { OnOk result (self.new.queues
@@ -186,8 +188,8 @@ impl<A: Allocator + Copy> Gathering<A> {
         Ok(())
     }
 
-    /// A harm is done. It becomes an event, unless it is refused, which is all that the list has
-    /// afterwards.
+    /// Does a harm. It becomes an event, unless it is refused; afterwards the list holds nothing
+    /// else.
     ///
     /// # Errors
     /// If memory runs out; then nothing has happened.
@@ -209,8 +211,8 @@ impl<A: Allocator + Copy> Gathering<A> {
         Ok(())
     }
 
-    /// A fact of another world holds here, too, from now on. It becomes events, which happen in this
-    /// world; these are all that the list has afterwards. What is refused here does not become true.
+    /// Makes a fact of another world hold here too. It becomes events, which happen in this world;
+    /// afterwards the list holds exactly these. What is refused here does not become true.
     ///
     /// # Errors
     /// If memory runs out; then nothing has happened.
@@ -221,7 +223,7 @@ impl<A: Allocator + Copy> Gathering<A> {
     ) -> Result<(), AllocError>
         ensures events { OnOk result (events.new.items
             ≡ fact_events (gathered self.old) self.old.queues fact.now) }
-        // The list leads the world on.
+        // The events of the list lead the world to its new state.
         ensures world { OnOk result (gathered self.new
             ≡ run (gathered self.old) events.new.items) }
         ensures queues { OnOk result (self.new.queues

@@ -14,13 +14,13 @@ pub fn accepted_is_enough()
     ensures { AcceptedIsEnough }
 {}
 
-/// No damage is shown if what was noted before leads to what was noted next.
+/// There is no damage if what was noted before leads to what was noted next.
 pub fn harms_mean_differences()
     ensures { HarmsMeanDifferences }
 {}
 
-/// A field that is named as another one is another one; and if none is named, the node stands as was
-/// noted. Whoever is shown where damage is stands on it.
+/// A field that is named as different is different; and if none is named, the node is as it was
+/// noted. Showing a reader the places of damage rests on this.
 pub fn fields_mean_differences()
     ensures { FieldsMeanDifferences }
 {}
@@ -34,9 +34,9 @@ pub fn replays_follow_records()
     configuration_laws::runs();
 }
 
-/// A node whose whole state is noted stands in it then: each of its fields, its desk, and its port to
-/// each neighbour. There is damage in the list of events exactly if it stood otherwise before; and then
-/// nothing else changes. Whoever looks for damage in a recording stands on it.
+/// A node whose whole state is noted is in that state afterwards: each of its fields, its desk, and
+/// its port to each neighbour. Nothing else changes. There is damage in the list of events exactly
+/// if the node was in a different state before. The search for damage in a recording rests on this.
 pub fn whole_states_are_reached()
     ensures { WholeStatesAreReached }
 {
@@ -45,16 +45,17 @@ pub fn whole_states_are_reached()
     configuration_laws::in_range();
 }
 
-/// Facts that are set in two parts lead where they lead together, and none of what they become is
-/// refused. Whoever sets up a world piece by piece stands on it.
+/// Facts that are set in two parts lead to the same world as facts that are set together, and none
+/// of the events that they become is refused. Setting up a world piece by piece rests on this.
 pub fn facts_join()
     ensures { FactsJoin }
 {
     configuration_laws::runs();
 }
 
-/// A network that is set up as a world stands, stands so: each node is in its state, and each link holds
-/// its items. Whoever replays a list of events that begins in the midst stands on it.
+/// A network that is set up like a world is in the state of that world: each node is in its state,
+/// and each link holds its items. This holds if the same nodes are joined once the edges are set.
+/// The replay of a list of events that begins in the middle of a run rests on this.
 pub fn set_ups_are_reached()
     ensures { SetUpsAreReached }
 {

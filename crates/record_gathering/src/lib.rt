@@ -2,10 +2,10 @@
 //!
 //! A [`Gathering`] has a world, which begins as the network starts. It is given the entries of all
 //! nodes' records, in an order in which each frame is taken after it was sent, as far as there is
-//! one. Each entry becomes events of the world: a deed of a node is that deed of the world's node,
-//! and a state that is noted is harms wherever the world's node stands otherwise. So whoever plays
-//! the events finds each node in the states that were noted, and a harm only if what was noted
-//! before does not lead there.
+//! such an order. Each entry becomes events of the world. A deed of a node becomes that deed of the
+//! world's node. A state that is noted becomes harms wherever the world's node differs from it. So
+//! a reader who replays the events finds each node in the states that were noted, and finds a harm
+//! only if what was noted before does not lead there.
 //!
 //! ```
 //! let mut gathering = Gathering::new(alloc, &net, 0)?;
@@ -13,16 +13,18 @@
 //! gathering.notes(1, &Noted::Deed(Deed::Ticks), &mut events)?;     // tick 1
 //! ```
 //!
-//! A frame that was taken is the earliest equal one that is under way: those in front of it are lost.
-//! [`Gathering::is_ready`] says whether there is one. If nobody sent it, since it was forged or since
-//! a part of a record is missing, a harm puts it on the link.
+//! A frame that was taken is the earliest equal one that is under way: those in front of it are
+//! lost. [`Gathering::is_ready`] says whether there is one. If there is none, because the frame was
+//! forged or because a part of a record is missing, a harm puts it on the link.
 //!
-//! Before an entry becomes events, [`Gathering::fields`] says which fields of the node stand otherwise.
+//! Before an entry becomes events, [`Gathering::fields`] says which fields of the node differ from
+//! it.
 //!
-//! The facts of a world, which [`facts`] lists, set up another gathering as that world stands:
-//! [`Gathering::sets`] has each of them become events. So a list of events can begin in the midst.
+//! The facts of a world, which [`facts`] lists, set up another gathering in the state of that
+//! world: [`Gathering::sets`] turns each of them into events. So a list of events can begin in the
+//! middle of a run.
 //!
-//! The trap: that a frame is lost is known only when a later one is taken.
+//! The trap: the loss of a frame shows only when a later frame is taken.
 #![tactic(auto)]
 
 mod differences;

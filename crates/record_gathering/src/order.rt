@@ -16,8 +16,9 @@ fn is_sent(noted: &Noted) -> bool
     matches!(noted, Noted::Deed(Deed::Sends { .. }))
 }
 
-/// What comes first: entries that are ready; then frames that were sent on links that are full; last
-/// frames that were taken and are not under way.
+/// The rank of an entry, the lowest of which comes first: 0 for an entry that is ready, 1 for a
+/// frame that was sent on a link that is full, and 2 for a frame that was taken and is not under
+/// way.
 fn rank<A: Allocator + Copy>(world: &Configuration<A>, node: u16, entry: &Entry) -> u8
     ensures { result ≡ rank (world_of world.now) node entry.now }
 {
@@ -30,14 +31,14 @@ fn rank<A: Allocator + Copy>(world: &Configuration<A>, node: u16, entry: &Entry)
     }
 }
 
-/// Whether a rank and an instant are no later than others.
+/// Whether a rank and an instant are no later than another rank and instant.
 fn is_no_later(rank: u8, instant: u64, other: u8, later: u64) -> bool
     ensures { result ≡ is_no_later rank instant other later }
 {
     rank < other || (rank == other && instant <= later)
 }
 
-/// A node whose next entry comes before those of the nodes in front of it.
+/// The node whose next entry comes first among those of the nodes so far.
 #[derive(Clone, Copy)]
 struct First {
     node: u16,
@@ -45,8 +46,8 @@ struct First {
     instant: u64,
 }
 
-/// The node whose next entry comes next, of the next entries of all nodes' records, by their nodes;
-/// none if all are read to their ends.
+/// The node whose entry comes next. `heads` are the next entries of all nodes' records, by node.
+/// None if all records are read to their ends.
 pub fn next_node<A: Allocator + Copy>(
     world: &Configuration<A>,
     heads: &[Option<Entry>],
@@ -67,7 +68,8 @@ fn head_of(heads: &[Option<Entry>], node: u16) -> Option<Entry>
     heads.get(usize::from(node)).copied().unwrap_or(None)
 }
 
-/// The first of those in front of a node and of its next entry.
+/// The earlier of two: the first among the nodes before this one, and this node with its next
+/// entry.
 fn with_head<A: Allocator + Copy>(
     world: &Configuration<A>,
     node: u16,
@@ -87,7 +89,7 @@ fn with_head<A: Allocator + Copy>(
     Some(earlier(first, turn))
 }
 
-/// The node of the one that was found.
+/// The node of the first, if there is one.
 fn node_of(first: Option<First>) -> Option<u16>
     ensures { result ≡ option_map (λ f. f.node) first }
 {

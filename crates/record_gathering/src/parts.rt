@@ -1,4 +1,4 @@
-//! What a part of a node's state says of where the node stands.
+//! What a part of a node's state says of the state of the node.
 ghost use Rattle.std.specs.Prelude.{◌≡◌, ◌<◌, if◌then◌else◌};
 ghost use Rattle.topology.specs.Network.{are_joined};
 ghost use Rattle.configuration.specs.ConfigurationView.{world_of};
@@ -29,7 +29,7 @@ pub struct LoanNoted {
     pub served: bool,
 }
 
-/// What is noted of where a node stands.
+/// What is noted of a node's state.
 #[derive(Clone, Copy)]
 pub enum PartNoted {
     /// Its distance and parent.
@@ -38,7 +38,7 @@ pub enum PartNoted {
     Port(PortNoted),
     /// Its desk's loan.
     Loan(LoanNoted),
-    /// Nothing.
+    /// No part of its state.
     Nothing,
 }
 

@@ -6,10 +6,13 @@ use arrayvec::ArrayVec;
 use flight_records::{Noted, StatePart};
 use std::marker::Model;
 
+/// The most tickets that wait at a node.
+const MOST_WAITING: usize = 64;
+
 /// The tickets that wait at a node, as noted since the start of its state.
 #[derive(Drop)]
 pub struct Queue {
-    tickets: ArrayVec<u16, 64>,
+    tickets: ArrayVec<u16, MOST_WAITING>,
 }
 
 impl Model for Queue {
@@ -21,7 +24,7 @@ impl Model for Queue {
 }
 
 impl Queue {
-    /// Nobody waits.
+    /// An empty queue.
     pub fn new() -> Queue
         ensures { result ≡ [] }
     {
@@ -37,14 +40,14 @@ impl Queue {
         self.tickets.as_slice()
     }
 
-    /// What waits after an entry.
+    /// Brings the queue up to date after an entry.
     pub fn notes(&mut self, noted: &Noted)
         ensures { self.new ≡ queue_after self.old noted.now }
     {
         match *noted {
             Noted::State(StatePart::Start { .. }) => self.tickets.clear(),
             Noted::State(StatePart::Waits { ticket }) => {
-                // A desk has at most 64; one more is passed over.
+                // A desk has at most 64 tickets; any further one is ignored.
                 let _answer = self.tickets.try_push(ticket);
             }
             _ => {}

@@ -1,12 +1,12 @@
 //! One order of what many nodes did, each by a record of its own.
 //!
 //! What nodes did has an order of its own: a frame is taken after it was sent, and each node did one
-//! thing after the other. Their clocks are not one clock, so instants alone may put a take in front
-//! of its send. A [`Step`] is an entry of a record, as far as its place in the order depends on it:
-//! its instant, and how far another node's record must have come in front of it.
+//! thing after the other. Their clocks are not one clock, so instants alone may put a take before
+//! its send. A [`Step`] is an entry of a record, as far as its place in the order depends on it: its
+//! instant, and how far another node's record must have come before it.
 //!
-//! [`next_ready`] chooses, of the next steps of all records, the earliest that is ready. Whoever
-//! reads the records on, one chosen step after the other, needs to have the next step of each alone:
+//! [`next_ready`] chooses, of the next steps of all records, the earliest that is ready. A reader
+//! that goes on by one chosen step after the other needs only the next step of each record:
 //!
 //! ```
 //! while let Some(node) = next_ready(&heads, &read) {

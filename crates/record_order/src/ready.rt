@@ -17,13 +17,13 @@ pub struct Need {
 pub struct Step {
     /// When it was, in microseconds of its node's clock.
     pub instant: u64,
-    /// What must have come before it, if anything of other nodes.
+    /// What must have come before it in another node's record, if anything.
     pub need: Option<Need>,
 }
 
-/// Of the next step of each record, the node of the earliest that is ready; of those of one instant,
-/// of the node that stands first. `heads` has the next step of each, and none for a record that is
-/// read to its end; `read` says how many steps of each record were read.
+/// The node whose next step is the earliest that is ready; if several have this instant, the first
+/// of these nodes. None if no step is ready. `heads` has the next step of each, and none for a
+/// record that is read to its end; `read` says how many steps of each record were read.
 pub fn next_ready(heads: &[Option<Step>], read: &[usize]) -> Option<usize>
     ensures { IsEarliest read.now heads.now (length heads.now) result }
 {
@@ -41,7 +41,7 @@ fn node_of(first: Option<(usize, u64)>) -> Option<usize>
     first.map(|(node, _)| node)
 }
 
-/// The earlier of two steps, of which each may be none; of two of one instant the first.
+/// The earlier of two steps, of which each may be none; of two of the same instant, the first.
 fn earlier(first: Option<(usize, u64)>, node: usize, instant: Option<u64>) -> Option<(usize, u64)>
     ensures { result ≡ earlier first node instant }
 {
@@ -62,7 +62,7 @@ fn ready_instant(head: &Option<Step>, read: &[usize]) -> Option<u64>
     }
 }
 
-/// Whether as much of the other records was read as a step needs.
+/// Whether as much of another record was read as a step needs.
 fn is_met(need: Option<Need>, read: &[usize]) -> bool
     ensures { result ≡ is_met read.now need }
 {

@@ -21,14 +21,14 @@ has_ended (Some more) = more ≡ []
 abbrev pub IsAtHand : Option (List ℕ) → List ℕ → Type 0
 IsAtHand rest held = (121 ≤ length held) ⊎ has_ended rest
 
--- a source was asked for more: yes if an entry is at hand, or the source has ended; else there is more
--- at hand than before
+-- a source was asked for more: if true, an entry is at hand, or the source has ended; if false, there
+-- is more at hand than before
 abbrev pub IsAsked : Bool → Option (List ℕ) → List ℕ → List ℕ → Type 0
 IsAsked true rest old new = IsAtHand rest new
 IsAsked false rest old new = length old < length new
 
--- what is read of the bytes at hand, after an entry of the instant `last`; what is left of them; and the
--- instant of the entry that was read last
+-- what is read from the bytes at hand, after an entry of the instant `last`; what is left of them; and
+-- the instant of the entry that was read last
 abbrev pub IsReadOf : ℕ → Result Entry Stop → List ℕ → List ℕ → ℕ → Type 0
 IsReadOf last (Ok e) held left now = (entry_at last held ≡ Ok (e, left)) × (now ≡ e.instant)
 IsReadOf last (Err End) held left now = (held ≡ []) × (left ≡ held) × (now ≡ last)
@@ -38,8 +38,8 @@ IsReadOf last (Err Invalid) held left now =
     (entry_at last held ≡ Err NoEntry) × (left ≡ held) × (now ≡ last)
 IsReadOf last (Err Failed) held left now = ⊥
 
--- The same of all bytes that are still to be read, before and after. Of a source that does not say its
--- bytes nothing is said.
+-- The same for all bytes that are still to be read, before and after. Nothing is said about the bytes
+-- of a source that does not say them.
 abbrev pub ReadsNext : ℕ → Result Entry Stop → Option (List ℕ) → Option (List ℕ) → ℕ → Type 0
 ReadsNext last (Ok e) None after now = (after ≡ None) × (now ≡ e.instant)
 ReadsNext last (Ok e) (Some bytes) after now =
@@ -52,7 +52,7 @@ ReadsNext last (Err Invalid) (Some bytes) after now =
     (after ≡ Some bytes) × (now ≡ last) × (entry_at last bytes ≡ Err NoEntry)
 ReadsNext last (Err Failed) (Some bytes) after now = (after ≡ Some bytes) × (now ≡ last)
 
--- a reader answers that its source failed only if the source's count of failures rose
+-- a reader reports that its source failed only if the source's count of failures rose
 abbrev pub FailsAsSource : Result Entry Stop → ℕ → ℕ → Type 0
 FailsAsSource (Ok e) failures more = failures ≤ more
 FailsAsSource (Err End) failures more = failures ≤ more

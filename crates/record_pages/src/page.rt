@@ -49,7 +49,7 @@ impl<A: Allocator> UnreadBytes<A> {
         &self.bytes[self.start..]
     }
 
-    /// The first bytes are read, so many.
+    /// Counts the first `count` bytes as read.
     pub fn pass(&mut self, count: usize)
         requires { count ≤ length self.old }
         ensures { self.new ≡ drop count self.old }
@@ -57,7 +57,8 @@ impl<A: Allocator> UnreadBytes<A> {
         self.start += count;
     }
 
-    /// More bytes follow, into room that is there: at most a page, after less than an entry.
+    /// Adds more bytes, into room that is reserved: with those that are unread, at most a page and
+    /// an entry.
     pub fn add(&mut self, more: &[u8])
         requires { length self.old + length more.now ≤ 4217 }
         ensures { self.new ≡ self.old ++ more.now }
@@ -68,7 +69,7 @@ impl<A: Allocator> UnreadBytes<A> {
     }
 }
 
-/// Removes the first bytes, so many.
+/// Removes the first `count` bytes.
 #[tactic(auto, using(crate::proofs::Fronts::moved_front))]
 fn remove_front<A: Allocator>(bytes: &mut Vec<u8, A>, count: usize)
     requires { count ≤ vec_len bytes.old }
@@ -80,7 +81,7 @@ fn remove_front<A: Allocator>(bytes: &mut Vec<u8, A>, count: usize)
     bytes.truncate(left);
 }
 
-/// Adds bytes at the end, into room that is there.
+/// Adds bytes at the end, into room that is reserved.
 fn append<A: Allocator>(bytes: &mut Vec<u8, A>, more: &[u8])
     requires { vec_len bytes.old + length more.now ≤ vec_capacity bytes.old }
     ensures items { bytes.new.items ≡ bytes.old.items ++ more.now }

@@ -35,7 +35,7 @@ impl<S: Source + Drop, A: Allocator> PageReader<S, A> {
     /// The next entry, in the form in which it was written.
     ///
     /// # Errors
-    /// Why there is none. Then the reader stands where it stood.
+    /// Why there is none. Then the reader is where it was.
     pub fn next(&mut self) -> Result<Entry, Stop>
         // As if all bytes that the source has still to give were at hand.
         ensures read { ReadsNext self.old.reader result
@@ -68,8 +68,8 @@ impl<S: Source + Drop, A: Allocator> PageReader<S, A> {
         Ok(())
     }
 
-    /// Asks the source once for bytes, unless an entry is at hand. Whether one is, or the source has
-    /// ended.
+    /// Asks the source once for bytes, unless an entry is at hand. Returns true if one was, or if
+    /// the source has ended; false if it gave bytes.
     fn ask(&mut self) -> Result<bool, Failed>
         ensures same { to_come (S.rest self.new.source) self.new.page
             ≡ to_come (S.rest self.old.source) self.old.page }
@@ -86,7 +86,7 @@ impl<S: Source + Drop, A: Allocator> PageReader<S, A> {
         Ok(count == 0)
     }
 
-    /// Asks the source once for bytes. How many it gave.
+    /// Asks the source once for bytes. Returns how many it gave.
     #[tactic(auto, using(crate::proofs::Fronts::given, crate::proofs::Fronts::gave_none))]
     fn fill_once(&mut self) -> Result<usize, Failed>
         requires { length self.old.page < 121 }

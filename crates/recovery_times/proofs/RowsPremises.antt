@@ -1,4 +1,4 @@
--- Premises by words, times of networks, and what is refused; by hand.
+-- Premises by words, times of networks, and words that are invalid; by hand.
 use Rattle.std.proofs.Common.{◌≡◌, ◌∷◌, None, Some, [], Ok, Err, map, refl, codes}
 use Rattle.std.specs.Fmt.{digits}
 use Rattle.topology.specs.Network.{Network}

@@ -3,7 +3,8 @@ use Rattle.std.specs.Prelude.{◌≡◌, ◌+◌, ◌≤◌}
 use Rattle.recovery_times.specs.declared.premises.Premises.{Premises}
 use Rattle.recovery_times.specs.Times.{window_of}
 
--- a loan that lasts no longer than a frame is repeated and on its way leaves the window as it is
+-- a loan that lasts no longer than the time after which a frame is repeated plus the time for which
+-- it is on its way leaves the window as it is
 abbrev pub ShortLoansCostNothing : Type 0
 ShortLoansCostNothing =
     (p : Premises) → p.loan ≤ p.repeat + p.delay → window_of p ≡ window_of (record p { loan = 0 })

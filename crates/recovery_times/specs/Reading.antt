@@ -25,7 +25,7 @@ abbrev pub after_point : List ℕ → Option (List ℕ)
 after_point [] = None
 after_point (byte ∷ bytes) = if byte == 46 then Some bytes else after_point bytes
 
--- its microseconds: none if there is no point
+-- its microseconds: 0 if there is no point
 abbrev pub part_of : Option (List ℕ) → Option ℕ
 part_of None = Some 0
 part_of (Some digits) = thousandths_of digits

@@ -22,7 +22,7 @@ abbrev pub or_fault : TimeFault → (ℕ → Result Premises TimeFault) → Opti
 or_fault fault next None = Err fault
 or_fault fault next (Some micros) = next micros
 
--- the premises that the words say, or the first option whose word is refused; turns and repeated
+-- the premises that the words say, or the first option whose word is invalid; turns and repeated
 -- frames take some time
 abbrev pub premises_of : PremiseWords → Result Premises TimeFault
 premises_of w =

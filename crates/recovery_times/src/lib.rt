@@ -1,9 +1,9 @@
 //! How long a network may take to recover and to lend, from how fast its nodes and links are.
 //!
-//! After the last fault a network serves within so many sweeps. If each node gets its turns, frames
-//! arrive and loans end, each window of time holds a sweep. So a number of sweeps is a time.
-//! [`Premises`] holds what is believed of the machine, and gives the window and the times. That a
-//! window holds a sweep is a law of the crate `processes`.
+//! After the last fault a network serves within a known number of sweeps. If each node gets its
+//! turns, frames arrive and loans end, each window of time holds a sweep. So a number of sweeps is
+//! a time. [`Premises`] holds what is believed of the machine, and gives the window and the times.
+//! That a window holds a sweep is a law of the crate `processes`.
 //!
 //! ```
 //! let premises = Premises::usual();           // turns each 2.2 ms, 0.1 ms on the way, no loan
@@ -14,7 +14,7 @@
 //! ```
 //!
 //! Times are whole microseconds. A reader shows them in milliseconds, rounded up, since a bound that
-//! is rounded down is none.
+//! is rounded down is no bound.
 //!
 //! The trap: a window is no measure of how fast a network is. It is what the premises allow at
 //! worst.

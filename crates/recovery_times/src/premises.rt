@@ -10,7 +10,7 @@ use topology::{Net, laws as topology_laws};
 pub struct Premises {
     /// Each stretch of this length holds a whole turn of each node.
     pub turn: u32,
-    /// A frame is taken at the latest in the first turn that begins so long after it was sent.
+    /// A frame is taken at the latest in the first turn that begins this long after it was sent.
     pub delay: u32,
     /// The longest loan, from the grant to the leave, as its node sees it; 0 if nobody borrows.
     pub loan: u32,

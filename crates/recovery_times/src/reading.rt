@@ -12,7 +12,7 @@ const HOUR: u32 = 3_600_000_000;
 const HOUR_IN_MILLIS: u32 = 3_600_000;
 
 /// The microseconds of a time in milliseconds, at most an hour: a decimal number with no sign and no
-/// zero in front of other digits, and after it perhaps a point and one to three digits.
+/// zero in front of other digits, optionally followed by a point and one to three digits.
 pub fn micros_of(word: &[u8]) -> Option<u32>
     ensures time { result ≡ micros_of word.now }
     ensures within { IfSome result (λ micros. micros ≤ 3600000000) }

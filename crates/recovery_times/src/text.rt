@@ -28,7 +28,7 @@ pub fn times_text<A: Allocator + Copy>(
     Ok(text)
 }
 
-/// Adds a line of words and of microseconds in tenths of a millisecond.
+/// Adds a line of words and of a time in microseconds, shown in tenths of a millisecond.
 fn push_tenths(text: &mut String, words: &str, micros: u64) -> Result<(), AllocError>
     ensures { OnOk result (string_bytes text.new
         ≡ string_bytes text.old ++ tenths_line words.now micros) }
@@ -38,7 +38,7 @@ fn push_tenths(text: &mut String, words: &str, micros: u64) -> Result<(), AllocE
     writeln!(text, "{words} {whole}.{tenth} ms")
 }
 
-/// Adds a line of words and of microseconds in whole milliseconds.
+/// Adds a line of words and of a time in microseconds, shown in whole milliseconds.
 fn push_millis(text: &mut String, words: &str, micros: u64) -> Result<(), AllocError>
     ensures { OnOk result (string_bytes text.new
         ≡ string_bytes text.old ++ millis_line words.now micros) }

@@ -20,7 +20,7 @@ pub struct PremiseWords<'a> {
     pub repeat: Option<&'a str>,
 }
 
-/// The option whose word is refused: it is no time, or not in the option's range. Printed, it is
+/// The option whose word is invalid: it is no time, or not in the option's range. Printed, it is
 /// what the message says after the program's name.
 #[derive(Clone, Copy, Debug, Drop)]
 pub enum TimeFault {
@@ -57,7 +57,7 @@ impl PremiseWords<'_> {
     /// The premises that the words say.
     ///
     /// # Errors
-    /// The first option, in the order of the fields, whose word is refused.
+    /// The first option, in the order of the fields, whose word is invalid.
     pub fn read(&self) -> Result<Premises, TimeFault>
         ensures { result ≡ premises_of self.now }
     {

@@ -1,4 +1,4 @@
--- The registers of a node: what it keeps of every other node, by that node's id.
+-- The registers of a node: what it keeps about every other node, by that node's id.
 use Rattle.std.specs.Prelude.{◌≡◌, ℕ, ◌<◌, ◌≤◌, Bool, IsTrue, if◌then◌else◌, List, length, All, Contains, slice_index_or, slice_index}
 use Rattle.std.specs.List.Sorted.{IsStrictlyIncreasing}
 use Rattle.data_link.specs.topology.declared.frame.Ranges.{Ranges}
@@ -12,12 +12,12 @@ pub record RegistersView : Type 0 where
   pub ports : List PortView
   pub values : List ℕ
 
--- the port to w; past the last node the one that a node starts with
+-- the port to w; beyond the last node, the port that a node starts with
 abbrev pub port_of : RegistersView → ℕ → PortState
 port_of r w =
     (slice_index_or r.ports w (record { ranges = r.ranges; state = default_port r.ranges })).state
 
--- the value of the machine that comes in from w; past the last node 0
+-- the value of the machine that comes in from w; beyond the last node, 0
 abbrev pub value_of : RegistersView → ℕ → ℕ
 value_of r w = slice_index r.values w
 

@@ -12,11 +12,11 @@
 //! This is no node: nothing here knows a distance, a tree or a tour, and the payload that a port
 //! stages is handed in.
 //!
-//! The trap: the place of a node that is no neighbour may be read, and reads as a port does that
-//! knows nothing yet.
+//! The trap: the place of a node that is no neighbour may be read, and reads like a port that knows
+//! nothing yet.
 //!
 //! `new` reserves all places. No other call takes memory (that is tested, and not part of the
-//! contracts); none changes more than one port, but for `rewire`.
+//! contracts); none but `rewire` changes more than one port.
 #![tactic(auto)]
 
 mod registers;

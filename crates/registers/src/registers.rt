@@ -17,8 +17,8 @@ use data_link::{Frame, Heard, Net, OutOfRange, Payload, Port, Ranges, laws as da
 use std::alloc::{AllocError, Allocator, Global};
 use std::marker::Model;
 
-/// What a node keeps of every other node: a port to it, and the value of the machine that comes in
-/// from it.
+/// What a node keeps about every other node: a port to it, and the value of the machine that comes
+/// in from it.
 #[derive(Drop)]
 pub struct Registers<A: Allocator = Global> {
     ranges: Ranges,
@@ -57,7 +57,7 @@ impl<A: Allocator + Copy> Registers<A> {
         requires { id < net.now.nodes }
         ensures ranges { IfOk result (λ r. r.ranges ≡ ranges_of net.now) }
         ensures neighbours { IfOk result (λ r. r.neighbours ≡ neighbours_of net.now id) }
-        // Each port is as a port starts, also one of a node that is no neighbour.
+        // Each port is as at the start, also that of a node that is no neighbour.
         ensures ports { IfOk result (λ r. port_of r ≡ (λ w. default_port (ranges_of net.now))) }
         ensures values { IfOk result (λ r. value_of r ≡ (λ w. 0)) }
     {
@@ -78,7 +78,7 @@ impl<A: Allocator> Registers<A> {
     /// The ranges of all fields, those of the network.
     pub fn ranges(&self) -> Ranges
         ensures ranges { result ≡ self.now.ranges }
-        // All that holds of registers: one port and one value a node, all in range.
+        // All that holds for registers: one port and one value for each node, all in range.
         ensures registers { IsRegisters self.now }
     {
         self.ranges
@@ -271,7 +271,7 @@ impl<A: Allocator> Registers<A> {
     }
 }
 
-/// Writes ids over those of the list.
+/// Replaces the ids of the list by these.
 fn write_ids<A: Allocator>(list: &mut Vec<u16, A>, ids: &[u16])
     requires { length ids.now ≤ vec_capacity list.old }
     ensures ids { list.new.items ≡ ids.now }
@@ -290,7 +290,7 @@ fn is_among(neighbours: &[u16], id: u16) -> bool
     neighbours.iter().any(|neighbour| *neighbour == id)
 }
 
-/// Makes each port as at the start that is no neighbour's.
+/// Resets each port that is no neighbour's to what it was at the start.
 fn reset_others(ports: &mut [Port], nodes: u16, neighbours: &[u16])
     requires { length ports.old ≡ nodes }
     ensures length { length ports.new ≡ length ports.old }
@@ -306,7 +306,7 @@ fn reset_others(ports: &mut [Port], nodes: u16, neighbours: &[u16])
     }
 }
 
-/// Makes each value 0 that comes in from no neighbour.
+/// Sets each value that comes in from no neighbour to 0.
 fn clear_others(values: &mut [u16], nodes: u16, neighbours: &[u16])
     requires { length values.old ≡ nodes }
     ensures length { length values.new ≡ length values.old }
@@ -322,7 +322,7 @@ fn clear_others(values: &mut [u16], nodes: u16, neighbours: &[u16])
     }
 }
 
-/// The ids, with room for as many as there are nodes.
+/// The ids, in a list with room for `nodes` of them.
 fn with_room<A: Allocator>(alloc: A, nodes: u16, ids: &[u16]) -> Result<Vec<u16, A>, AllocError>
     ensures ids { IfOk result (λ copied. copied.items ≡ ids.now) }
     ensures room { IfOk result (λ copied. nodes ≤ vec_capacity copied) }
@@ -332,7 +332,7 @@ fn with_room<A: Allocator>(alloc: A, nodes: u16, ids: &[u16]) -> Result<Vec<u16,
     Ok(copied)
 }
 
-/// A port for each node, that knows nothing yet.
+/// For each node, a port that knows nothing yet.
 fn default_ports<A: Allocator, N: Allocator + Copy>(
     alloc: A,
     net: &Net<N>,

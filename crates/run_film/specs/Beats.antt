@@ -12,13 +12,13 @@ pub record Film : Type 0 where
   pub later : List Still
   pub pace : FilmPace
 
--- those of the code
+-- the film that the code shows
 abbrev pub film_of : Shown → Film
 film_of shown = record { opening = shown.opening.now; later = shown.later.now; pace = shown.pace }
 
 -- for how many beats the still at a place is shown, where 0 is the first: the beats in equal parts,
--- the first stills one more if they do not come out even; ten more for the first still, and those
--- that hold the last
+-- with one more for the first stills if the parts do not come out even; ten more for the first
+-- still, and for the last one those that hold it
 abbrev pub beats_at : Film → ℕ → ℕ
 beats_at film place =
     (film.pace.beats / (length film.later + 1)
@@ -38,7 +38,7 @@ beats_of film = replicate (beats_at film 0) film.opening ++ later_beats film 1 f
 abbrev pub joins_in : Film → ℕ → ℕ → Bool
 joins_in film v w = are_joined film.opening.edges v w || list_any (λ still. are_joined still.edges v w) film.later
 
--- the last of some stills, or this one
+-- the last of some stills, or this one if there are none
 abbrev pub last_or : Still → List Still → Still
 last_or still [] = still
 last_or still (next ∷ stills) = last_or next stills

@@ -24,6 +24,6 @@ cursor_shown stage pace = record {
   }) pace ∷ [];
 }
 
--- the cursor stands over what else stands below the graph
+-- the cursor is drawn over all else that is below the graph
 abbrev pub IsCounted : List Grouped → Stage → FilmPace → Type 0
 IsCounted groups stage pace = (front : List Grouped) × (groups ≡ front ++ (cursor_shown stage pace ∷ []))

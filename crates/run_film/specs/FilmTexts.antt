@@ -17,8 +17,8 @@ use Rattle.run_film.specs.Beats.{Film, beats_at}
 use Rattle.run_film.specs.Films.{ShowsFilm}
 use Rattle.run_film.specs.Pages.{ShowsPage}
 
--- Of the moments of a run that a window holds, from the start of a network on, a reel stands for all,
--- in their order: the first is shown as it was, and then come the reel's stills.
+-- A reel stands for all moments of a run that a window holds, from the start of a network on, in their
+-- order: the first is shown as it was, and then come the reel's stills.
 pub record IsReelOf (net : Network) (window : Window) (es : List Event) (reel : ReelView) : Type 0 where
   pub moments : List Still
   pub ended : ℕ
@@ -33,9 +33,9 @@ film_at reel pace opening = record { opening = opening; later = reel.stills; pac
 abbrev pub IsEachShown : ReelView → FilmPace → Type 0
 IsEachShown reel pace = (opening : Still) (place : ℕ) → place ≤ length reel.stills → 1 ≤ beats_at (film_at reel pace opening) place
 
--- A text shows a run: it spells, with tags that nest, what shows a reel of the run; if the window holds
--- no moment, no still. `Shows` says when it shows a film, `spelling` how it is spelled, and `Nests` when
--- its tags nest.
+-- A text shows a run: with tags that nest, it spells what shows a reel of the run, or no still if the
+-- window holds no moment. `Shows` says when it shows a film, `spelling` how it is spelled, and `Nests`
+-- when its tags nest.
 pub record IsShowing {M : Type 0} (Shows : M → Film → Network → Type 0) (spelling : M → List ℕ) (Nests : List ℕ → Type 0)
     (net : Network) (window : Window) (es : List Event) (text : List ℕ) : Type 0 where
   pub reel : ReelView

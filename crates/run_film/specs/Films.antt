@@ -8,12 +8,12 @@ use Rattle.run_film.specs.Beats.{Film, joins_in}
 use Rattle.run_film.specs.Symbols.{is_framed, HasSymbols}
 use Rattle.run_film.specs.Tracks.{track_shown, waits_in}
 
--- a part of a film stands somewhere in a list of groups
+-- a part of a film is somewhere in a list of groups
 abbrev pub IsPlayed : List Grouped → (ℕ → ℕ → Grouped) → Type 0
 IsPlayed groups part = (x y : ℕ) × (before after : List Grouped) × (groups ≡ before ++ (part x y ∷ after))
 
--- The film shows a node: how it stands, the distance and the parent that it has, to whom it lends, and
--- what strikes it, each beat by beat.
+-- The film shows a node: how it stands, the distance and the parent that it has, the ticket that it lends to,
+-- and what strikes it, each beat by beat.
 pub record ShowsNode (groups : List Grouped) (film : Film) (v : ℕ) : Type 0 where
   pub mark : IsPlayed groups (track_shown (Mark v) film)
   pub distance : IsPlayed groups (track_shown (Distance v) film)
@@ -45,7 +45,7 @@ pub record ShowsParts (groups : List Grouped) (film : Film) (net : Network) : Ty
   pub sweeps : IsPlayed groups (track_shown Sweeps film)
   pub damage : IsPlayed groups (track_shown Damage film)
 
--- it shows them, and the symbols of its nodes, its edges, its arrows and its frames are there
+-- it shows all these parts, and the symbols of its nodes, its edges, its arrows and its frames are there
 pub record ShowsFilm (groups : List Grouped) (film : Film) (net : Network) : Type 0 where
   pub parts : ShowsParts groups film net
   pub symbols : HasSymbols groups film net
@@ -56,11 +56,11 @@ pub record ShowsFilm (groups : List Grouped) (film : Film) (net : Network) : Typ
 abbrev pub drawn : List Group → List Grouped
 drawn groups = map grouped_of groups
 
--- all groups that were there stay, in front of others
+-- all groups that were there stay, and any others come after them
 abbrev pub Keeps : List Grouped → List Grouped → Type 0
 Keeps old new = (added : List Grouped) × (new ≡ old ++ added)
 
--- groups are added after others: those of a node, but for its parent's arrow
+-- groups are added after others: those of a node, except the arrow to its parent
 pub record AddsNode (old new : List Grouped) (film : Film) (v : ℕ) : Type 0 where
   pub x : ℕ
   pub y : ℕ

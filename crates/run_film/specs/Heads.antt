@@ -1,4 +1,4 @@
--- What stands first in a film.
+-- What comes first in a film.
 use Rattle.std.specs.Prelude.{◌≡◌, ℕ, ◌+◌, if◌then◌else◌, List, [], ◌∷◌, ◌++◌, codes, decimal}
 use Rattle.svg_drawing.specs.Drawn.{Given, Shown as Drawn, numbered, note_shown}
 use Rattle.svg_drawing.specs.declared.px.Px.{Px}

@@ -21,8 +21,8 @@ event_said_by events None = codes "The start: "
 abbrev pub event_said : Still → List ℕ
 event_said still = event_said_by still.events still.event
 
--- what is counted in a still: the nodes that have not their true places, the privileged and the
--- lending ones, and the sweeps
+-- what is counted in a still: the nodes that do not have their true places, the privileged nodes,
+-- the lending nodes, and the sweeps
 abbrev pub counts_said : Still → List ℕ
 counts_said still =
     (if still.damaged then codes "damage, " else [])
@@ -37,19 +37,19 @@ step_shown still beats = record {
   text = event_said still ++ counts_said still;
 }
 
--- those of the stills from a place on
+-- the sentences of the stills from a place on
 abbrev pub later_steps : Film → ℕ → List Still → List Drawn
 later_steps film place [] = []
 later_steps film place (still ∷ stills) = step_shown still (beats_at film place) ∷ later_steps film (place + 1) stills
 
--- those of the first still and of some after it, in their order
+-- the sentences of the first still and of some stills after it, in their order
 abbrev pub steps_to : Film → List Still → Grouped
 steps_to film stills = record {
   element = record { name = codes "ol"; attributes = given (codes "id") (codes "steps") ∷ given (codes "hidden") (codes "hidden") ∷ []; text = [] };
   inside = step_shown film.opening (beats_at film 0) ∷ later_steps film 1 stills;
 }
 
--- those of all stills
+-- the sentences of all stills
 abbrev pub steps_shown : Film → Grouped
 steps_shown film = steps_to film film.later
 
@@ -57,11 +57,11 @@ steps_shown film = steps_to film film.later
 abbrev pub HoldsSteps : List Grouped → Film → Type 0
 HoldsSteps groups film = (front : List Grouped) × (groups ≡ front ++ (steps_shown film ∷ []))
 
--- what stands in front of the film is the head of the page, alone
+-- what comes before the film is the head of the page, alone
 abbrev pub IsPageHead : List Grouped → Type 0
 IsPageHead groups = map (λ g. g.element) groups ≡ note_shown (codes "head") [] ∷ []
 
--- a page shows a network as the film does, and says each still
+-- a page shows a network as the film does, and has a sentence for each still
 pub record ShowsPage (page : Document) (film : Film) (net : Network) : Type 0 where
   pub head : IsPageHead (map grouped_of page.before.items)
   pub plays : ShowsFilm (scene_shown page.scene) film net

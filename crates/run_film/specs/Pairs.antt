@@ -1,4 +1,4 @@
--- What a film has for each two nodes.
+-- What a film has for each pair of nodes.
 use Rattle.std.specs.Prelude.{ℕ, ◌<◌, Bool, true, ◌&&◌, nat_lt, IsTrue, List, codes}
 use Rattle.topology.specs.Network.{Network}
 use Rattle.svg_drawing.specs.Grouped.{Grouped}
@@ -18,7 +18,7 @@ is_seen paired.Arrow film v w = parents_in film v w
 is_seen paired.Frames film v w = true
 is_seen paired.Waiting film v w = waits_in film v w
 
--- groups show it
+-- groups show this for two nodes
 abbrev pub ShowsPaired : Paired → List Grouped → Film → ℕ → ℕ → Type 0
 ShowsPaired paired.Edge groups film v w = IsPlayed groups (track_shown (track.Edge w v) film)
 ShowsPaired paired.Lines groups film v w = HasEdge groups w v
@@ -26,7 +26,7 @@ ShowsPaired paired.Arrow groups film v w = IsDefined groups (pair_code (codes "a
 ShowsPaired paired.Frames groups film v w = HasFrame groups film v w
 ShowsPaired paired.Waiting groups film v w = IsPlayed groups (track_shown (track.Waiting v w) film)
 
--- they show it for each two nodes of a network that have it in some still
+-- groups show this for each pair of nodes of a network that has it in some still
 abbrev pub ShowsPairs : Paired → List Grouped → Film → Network → Type 0
 ShowsPairs kind groups film net =
     (v : ℕ) → v < net.nodes → (w : ℕ) → w < net.nodes → IsTrue (is_seen kind film v w) → ShowsPaired kind groups film v w

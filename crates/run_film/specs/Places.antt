@@ -6,7 +6,7 @@ use Rattle.svg_drawing.specs.Lengths.{px}
 use Rattle.svg_drawing.specs.declared.canvas.Point.{Point}
 use Rattle.run_film.specs.declared.stage.Stage.{Stage}
 
--- where the root stands, and what stands at no place
+-- the left end of the root's row, and the place of an id that is no node's
 abbrev pub root_place : Point
 root_place = record { x = record { 0 = 0 }; y = record { 0 = 136 } }
 
@@ -14,8 +14,8 @@ root_place = record { x = record { 0 = 0 }; y = record { 0 = 136 } }
 abbrev pub place_in : Stage → ℕ → Point
 place_in stage v = slice_index_or stage.places v root_place
 
--- Each node stands as many rows below the root's row as its true distance is, and the rows are equally
--- far apart; and no film is ten million high.
+-- Each node stands as many rows below the root's row as its true distance is, and the rows are equally far apart.
+-- No node stands as far down as ten million.
 pub record IsStage (net : Network) (stage : Stage) : Type 0 where
   pub rise : ℕ
   pub some : 80 ≤ rise
@@ -44,8 +44,8 @@ quarter a b = px (px (a * 3) + b) / 2 / 2
 abbrev pub corner : ℕ → ℕ → ℕ
 corner a b = if nat_lt a b then px (a + 24) else a - 24
 
--- how far across the line from a node to another has come where a dot turns that travels half of it: a straight
--- one a quarter, a bent one is at its corner
+-- how far from the left a dot turns that travels half of the line from a node to another: a quarter of the way
+-- along a straight line, or at the corner of a bent one
 abbrev pub IsBetween : ℕ → ℕ → ℕ → Type 0
 IsBetween a b x = (x ≡ quarter a b) ⊎ (x ≡ corner a b)
 
@@ -67,8 +67,8 @@ is_narrow stage = nat_lt stage.stride.0 64
 abbrev pub half_width : Stage → ℕ
 half_width stage = if is_wide stage then 49 else 28
 
--- Words of this half of a width, whose line begins 10 above this place and ends 3 below it, keep clear of a
--- node with its signs, which reaches 21 to each side.
+-- Words of this half-width, whose line begins 10 above this place and ends 3 below it, keep clear of a node with
+-- its signs, which reaches 21 to each side.
 abbrev pub is_clear_of : Point → Point → ℕ → Bool
 is_clear_of node at half =
     nat_lt (node.y.0 + 31) at.y.0 || nat_lt (at.y.0 + 24) node.y.0

@@ -1,4 +1,4 @@
--- Of what symbols are made.
+-- What symbols are made of.
 use Rattle.std.specs.Prelude.{ℕ, List, [], ◌∷◌, codes}
 use Rattle.svg_drawing.specs.Drawn.{Shown as Drawn, numbered}
 use Rattle.svg_drawing.specs.declared.canvas.Point.{Point}

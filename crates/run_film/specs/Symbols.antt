@@ -1,4 +1,4 @@
--- Which symbols a film defines, so that each that a part shows is there.
+-- Which symbols a film defines, so that each symbol that a part shows is there.
 use Rattle.std.specs.Prelude.{◌≡◌, ℕ, ◌<◌, ◌≤◌, Bool, ◌||◌, ◌&&◌, ◌==◌, nat_le, false, IsTrue, List, [], ◌∷◌, ◌++◌, Option, None, Some, codes, decimal}
 use Rattle.std.specs.List.{list_any}
 use Rattle.topology.specs.Network.{Network}
@@ -13,17 +13,17 @@ use Rattle.run_film.specs.Beats.{Film, joins_in}
 use Rattle.run_film.specs.Shapes.{symbol_shown}
 use Rattle.run_film.specs.Tracks.{is_named, look_in, pair_code, waits_in}
 
--- a symbol of this name stands among groups
+-- a symbol of this name is among groups
 abbrev pub IsDefined : List Grouped → List ℕ → Type 0
 IsDefined groups name =
     (inside : List Drawn) × (before after : List Grouped)
     × (groups ≡ before ++ (record { element = symbol_shown name; inside = inside } ∷ after))
 
--- a node has another for its parent in a still
+-- a node has another as its parent in a still
 abbrev pub has_parent : Still → ℕ → ℕ → Bool
 has_parent still v parent = is_named (look_in still v).own.parent parent
 
--- it has in some still of a film
+-- a node has another as its parent in some still of a film
 abbrev pub parents_in : Film → ℕ → ℕ → Bool
 parents_in film v parent = has_parent film.opening v parent || list_any (λ still. has_parent still v parent) film.later
 
@@ -37,21 +37,21 @@ pub record HasMarks (groups : List Grouped) : Type 0 where
   pub strike : IsDefined groups (codes "z")
   pub damage : IsDefined groups (codes "y")
 
--- those of the distances, up to the number of nodes
+-- the symbols of the distances, up to the number of nodes
 abbrev pub HasDistances : List Grouped → Network → Type 0
 HasDistances groups net = (d : ℕ) → d ≤ net.nodes → IsDefined groups (codes "d" ++ decimal d)
 
--- those of the arrows to each parent that a node has in some still
+-- the symbols of the arrows to each parent that a node has in some still
 abbrev pub HasArrows : List Grouped → Film → Network → Type 0
 HasArrows groups film net =
     (v : ℕ) → v < net.nodes → (w : ℕ) → w < net.nodes → IsTrue (parents_in film v w) → IsDefined groups (pair_code (codes "a") v w)
 
--- those of an edge, thin and strong
+-- the symbols of an edge, thin and strong
 pub record HasEdge (groups : List Grouped) (v w : ℕ) : Type 0 where
   pub thin : IsDefined groups (pair_code (codes "e") v w)
   pub strong : IsDefined groups (pair_code (codes "b") v w)
 
--- those of the edges that some still has
+-- the symbols of the edges that some still has
 abbrev pub HasEdges : List Grouped → Film → Network → Type 0
 HasEdges groups film net =
     (w : ℕ) → w < net.nodes → (v : ℕ) → v < w → IsTrue (joins_in film v w) → HasEdge groups v w
@@ -67,18 +67,18 @@ is_done Taken (Some (Take a b)) u v = (a == u) && (b == v)
 is_done Lost (Some (Lose a b item)) u v = (a == u) && (b == v)
 is_done _ _ u v = false
 
--- the last event of some still does it
+-- the last event of some still does this
 abbrev pub done_in : Film → FrameDeed → ℕ → ℕ → Bool
 done_in film deed u v = is_done deed film.opening.event u v || list_any (λ still. is_done deed still.event u v) film.later
 
--- how the name of its symbol begins
+-- how the name of the symbol of such a deed begins
 abbrev pub deed_code : FrameDeed → List ℕ
 deed_code Sent = codes "o"
 deed_code Taken = codes "i"
 deed_code Lost = codes "x"
 
--- those of frames from a node to another: of what the last events of stills do with them, and of one that waits
--- in some still
+-- the symbols of frames from a node to another: of what the last events of stills do with them, and of one that
+-- waits in some still
 pub record HasFrame (groups : List Grouped) (film : Film) (u v : ℕ) : Type 0 where
   pub deeds : (deed : FrameDeed) → IsTrue (done_in film deed u v) → IsDefined groups (pair_code (deed_code deed) u v)
   pub waiting : IsTrue (waits_in film u v) → IsDefined groups (pair_code (codes "m") u v)

@@ -16,7 +16,7 @@ use Rattle.run_film.specs.declared.track.Track.{Track}
 use Rattle.run_film.specs.declared.track.Track.TheVariants.{Mark, Distance, Parent, Ticket, Strike, Damage as Damaged, Sweeps, Edge, Frame, Waiting}
 use Rattle.run_film.specs.Beats.{Film, beats_of, last_of}
 
--- what a still shows of a node; nothing at an id that is none
+-- what a still shows of a node; nothing for an id that is no node's
 abbrev pub nothing : Look
 nothing = record { own = record { distance = 0; parent = None }; settled = true; privileged = false; lent = None }
 
@@ -27,7 +27,7 @@ abbrev pub lent_or : Option ℕ → List ℕ → List ℕ
 lent_or (Some ticket) other = codes "#l"
 lent_or None other = other
 
--- the symbol of a node that lends, that is privileged, that has its true place, or that has not
+-- the symbol of a node that lends, that is privileged, that has its true place, or that does not have it
 abbrev pub mark_code : Look → List ℕ
 mark_code look = lent_or look.lent (if look.privileged then codes "#g" else if look.settled then codes "#p" else codes "#w")
 
@@ -66,12 +66,12 @@ ticket_code None = codes "#n"
 abbrev pub pair_code : List ℕ → ℕ → ℕ → List ℕ
 pair_code name u v = name ++ (decimal u ++ (codes "-" ++ decimal v))
 
--- a node is another's parent
+-- this parent is a given node
 abbrev pub is_named : Option ℕ → ℕ → Bool
 is_named None v = false
 is_named (Some w) v = w == v
 
--- the true parent of a node in a still; none at an id that is none
+-- the true parent of a node in a still; none for an id that is no node's
 abbrev pub nowhere : Place
 nowhere = record { distance = 0; parent = None }
 
@@ -107,7 +107,7 @@ sends _ u v = false
 abbrev pub is_waiting : Still → ℕ → ℕ → Bool
 is_waiting still u v = nat_lt (if sends still.event u v then 1 else 0) (frames_between still u v)
 
--- it waits in some still of a film
+-- a frame waits in some still of a film
 abbrev pub waits_in : Film → ℕ → ℕ → Bool
 waits_in film u v = is_waiting film.opening u v || list_any (λ still. is_waiting still u v) film.later
 
@@ -128,11 +128,11 @@ value_of (Edge v w) still = edge_code (are_joined still.edges v w) (is_strong st
 value_of Frame still = frame_code still.event
 value_of (Waiting u v) still = waiting_code (is_waiting still u v) u v
 
--- those of stills, each after a semicolon
+-- the symbols for stills, each after a semicolon
 abbrev pub more_values : Track → List Still → List ℕ
 more_values track stills = flat_map (λ still. codes ";" ++ value_of track still) stills
 
--- those of stills, with semicolons between them
+-- the symbols for stills, with semicolons between them
 abbrev pub values_of : Track → List Still → List ℕ
 values_of track [] = []
 values_of track (still ∷ stills) = value_of track still ++ more_values track stills
@@ -149,8 +149,8 @@ abbrev pub repeated_shown : Drawn → FilmPace → Drawn
 repeated_shown play pace =
     with_given (with_given play (given (codes "dur") (decimal (milliseconds pace) ++ codes "ms"))) (given (codes "repeatCount") (codes "indefinite"))
 
--- A part of a film: a symbol at a place, that of the last still; and an animation that shows, one beat
--- after the other, that of the beat's still.
+-- A part of a film: the symbol for the last still, at a place; and an animation that shows, beat by beat, the
+-- symbol for the beat's still.
 abbrev pub track_shown : Track → Film → ℕ → ℕ → Grouped
 track_shown track film x y = record {
   element = record {

@@ -1,4 +1,4 @@
-//! Below the graph: how many nodes are privileged and lend, beat by beat.
+//! Below the graph: how many nodes are privileged, and how many lend, beat by beat.
 ghost use Rattle.std.specs.Prelude.{◌≡◌, IfOk, map};
 ghost use Rattle.svg_drawing.specs.Grouped.{grouped_of};
 ghost use Rattle.run_film.specs.Curves.{cursor_shown, IsCounted};
@@ -65,11 +65,11 @@ const HEIGHT: u32 = 60;
 /// The frame of the curves.
 #[derive(Clone, Copy)]
 struct Chart {
-    /// The line at no node.
+    /// The height that stands for a count of 0.
     ground: Px,
     /// How wide all beats are.
     width: Px,
-    /// How high a node is.
+    /// How much higher a curve is for each node.
     node: Px,
 }
 
@@ -137,7 +137,7 @@ fn chart_of(stage: &Stage, shown: Shown<'_>) -> Chart {
     }
 }
 
-/// Where as many beats are over.
+/// How far from the left a curve is once this many beats are over.
 fn curve_x_at(chart: Chart, shown: Shown<'_>, beats: usize) -> u32 {
     let wide = u64::from(chart.width.0).saturating_mul(beats as u64);
     let all = shown.pace().all().max(1) as u64;
@@ -145,7 +145,7 @@ fn curve_x_at(chart: Chart, shown: Shown<'_>, beats: usize) -> u32 {
     (LEFT + Px(x.min(100_000) as u32)).0
 }
 
-/// A curve: each still as high as its count is, and as wide as it has beats.
+/// A curve: each still is as high as its count, and as wide as it has beats.
 fn curve_line(
     alloc: Global,
     chart: Chart,

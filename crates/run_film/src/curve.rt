@@ -1,4 +1,4 @@
-//! The line from a node to another, so that it goes through no third one.
+//! The line from a node to another, drawn so that it goes through no third node.
 ghost use Rattle.std.specs.Prelude.{◌≡◌, ◌+◌, ◌-◌, ◌/◌, IfOk, max, string_bytes};
 ghost use Rattle.svg_drawing.specs.Lengths.{px};
 ghost use Rattle.run_film.specs.Places.{place_in, IsWay, IsWayFrom, IsWayFromMiddle};
@@ -8,7 +8,7 @@ use crate::stage::Stage;
 use std::alloc::{AllocError, Global};
 use svg_drawing::{Point, Px};
 
-/// How far from the middle of a node its widest sign reaches, to each side: the frame of one that lends.
+/// How far from the middle of a node its widest sign reaches, to each side: the frame of a node that lends.
 pub const REACH: Px = Px(21);
 
 /// How far beside a node a bent line has its corner: nearer than any neighbour's sign.
@@ -23,7 +23,7 @@ const CLEAR: Px = Px(25);
 struct Bent {
     /// The corner beside the node that it leaves.
     near: Point,
-    /// The corner beside the node to which it comes.
+    /// The corner beside the node that it reaches.
     far: Point,
 }
 
@@ -34,8 +34,8 @@ pub fn apart(a: Px, b: Px) -> Px
     Px((a - b).0.max((b - a).0))
 }
 
-/// Whether the straight line between two places passes the signs beside both: those between two neighbours in
-/// a row do, and those from row to row that are steep enough.
+/// Whether the straight line between two places passes by the signs beside both: a line between two neighbours
+/// in a row does, and so does one from row to row that is steep enough.
 fn is_straight(stage: &Stage, from: Point, to: Point) -> bool {
     let across = apart(from.x, to.x);
     let down = apart(from.y, to.y);
@@ -58,7 +58,7 @@ fn bend_of(stage: &Stage, from: Point, to: Point) -> Option<Bent> {
     })
 }
 
-/// The corner beside a place of the line to another.
+/// The corner, beside a place, of the line from there to another place.
 fn corner_of(stage: &Stage, from: Point, to: Point) -> Point
     ensures { result.x.0 ≡ corner from.x.0 to.x.0 }
 {
@@ -75,13 +75,13 @@ fn corner_of(stage: &Stage, from: Point, to: Point) -> Point
     }
 }
 
-/// How much lower a line within a row goes, so that those of different lengths are told apart.
+/// How much lower a line within a row goes, so that lines of different lengths can be distinguished.
 fn lane(stage: &Stage, from: Point, to: Point) -> Px {
     let strides = apart(from.x, to.x).0 / stage.stride.0.max(1);
     Px(3) * (strides % 4) as usize
 }
 
-/// How far across the corner beside a place stands.
+/// How far from the left the corner beside a place is.
 fn corner(a: Px, b: Px) -> Px
     ensures { result.0 ≡ corner a.0 b.0 }
 {
@@ -121,8 +121,8 @@ pub fn middle_of(stage: &Stage, v: u16, w: u16) -> Point
     }
 }
 
-/// Where a frame waits that is under way from a node to another: past the middle of the line, so that those of
-/// both directions are told apart, and the head of an arrow hides neither.
+/// Where a frame waits that is under way from a node to another: past the middle of the line, so that the frames
+/// of both directions can be distinguished, and the head of an arrow hides neither.
 pub fn waiting_place(stage: &Stage, v: u16, w: u16) -> Point
     ensures { result.x.0 ≡ past_middle (place_in stage.now v).x.0 (place_in stage.now w).x.0 }
 {
@@ -168,7 +168,7 @@ pub fn whole(alloc: Global, stage: &Stage, v: u16, w: u16) -> Result<String, All
     format!(in alloc; "M{x} {y}{}{end} {low}", between.as_str())
 }
 
-/// What stands between the two ends of that line.
+/// The steps between the two ends of that line.
 fn whole_between(
     alloc: Global,
     stage: &Stage,
@@ -215,7 +215,7 @@ pub fn first_quarter(alloc: Global, stage: &Stage, v: u16, w: u16) -> Result<Str
     format!(in alloc; "M{x} {y}L{end} {low}")
 }
 
-/// The way from the middle of the line from a node to another to where a dot turns that comes to that one.
+/// The way from the middle of the line between two nodes to where a dot turns that comes to the second.
 pub fn last_quarter(alloc: Global, stage: &Stage, v: u16, w: u16) -> Result<String, AllocError>
     ensures { IfOk result (λ text. IsWayFromMiddle (place_in stage.now v) (place_in stage.now w) (string_bytes text)) }
 {
@@ -224,21 +224,21 @@ pub fn last_quarter(alloc: Global, stage: &Stage, v: u16, w: u16) -> Result<Stri
     format!(in alloc; "M{x} {y}L{end} {low}")
 }
 
-/// The line between two nodes, as the straight parts that it nearly is.
+/// The line between two nodes, as the straight parts that come close to it.
 #[derive(Clone, Copy)]
-pub struct Line {
+pub struct EdgeLine {
     /// Where it begins.
     pub start: Point,
-    /// Its corner near that place; the same if it is straight.
+    /// Its corner near that place; that place itself if the line is straight.
     pub near: Point,
-    /// Its corner near its end; the same if it is straight.
+    /// Its corner near its end; the end itself if the line is straight.
     pub far: Point,
     /// Where it ends.
     pub end: Point,
 }
 
 /// The line between two nodes.
-pub fn line_of(stage: &Stage, v: u16, w: u16) -> Line
+pub fn line_of(stage: &Stage, v: u16, w: u16) -> EdgeLine
     ensures start { result.start ≡ place_in stage.now v }
     ensures end { result.end ≡ place_in stage.now w }
 {
@@ -247,7 +247,7 @@ pub fn line_of(stage: &Stage, v: u16, w: u16) -> Line
         None => (start, end),
         Some(bent) => (bent.near, bent.far),
     };
-    Line {
+    EdgeLine {
         start,
         near,
         far,

@@ -1,5 +1,5 @@
-//! The frames: each is a dot that travels along the half of its edge on which an event shows it, and rests in the
-//! middle while it is under way.
+//! The frames: each is a dot that travels along the half of its edge on which an event shows it, and rests near
+//! the middle while it is under way.
 ghost use Rattle.std.specs.Prelude.{◌≡◌, IfOk, OnOk, IsTrue, codes};
 ghost use Rattle.std.specs.List.{list_any};
 ghost use Rattle.svg_drawing.specs.Grouped.{grouped_of};
@@ -24,7 +24,7 @@ use std::alloc::{AllocError, Global};
 use std::fmt::Write;
 use svg_drawing::{Element, Group, Point};
 
-/// For how many beats a dot travels at most; then it rests where it has come to.
+/// The most beats for which a dot travels; then it rests at the end of its way.
 const MOST_TRAVELLED: usize = 10;
 
 /// What an event does with a frame.
@@ -38,7 +38,8 @@ pub enum FrameDeed {
     Lost,
 }
 
-/// What the last event of some still does with a frame, if the network is small enough to show it.
+/// Adds the symbols of what the last event of some still does with a frame, if the network is small enough to
+/// show it.
 pub fn put_frame_symbols(material: Material<'_>, groups: &mut Vec<Group>) -> Result<(), AllocError>
     ensures frames { OnOk result (IsTrue (is_framed material.entry.net.now)
         → HasFrames (drawn groups.new.items) (film_of material.entry.shown) material.entry.net.now) }
@@ -50,8 +51,9 @@ pub fn put_frame_symbols(material: Material<'_>, groups: &mut Vec<Group>) -> Res
     Ok(())
 }
 
-/// The frames from a node to another: one that is sent goes to the middle of the edge, one
-/// that is taken comes from there, one that waits rests there, and a cross stands there if one is lost.
+/// Adds the symbols of the frames from a node to another: one that is sent goes to the middle of the edge, one
+/// that is taken comes from there, one that waits rests just past it, and a cross stands in the middle if one is
+/// lost.
 pub fn put_frames_between(
     material: Material<'_>,
     groups: &mut Vec<Group>,
@@ -68,7 +70,7 @@ pub fn put_frames_between(
     Ok(())
 }
 
-/// What is done with a frame from a node to another, if the last event of some still does it.
+/// Adds the symbol of what is done with a frame from a node to another, if the last event of some still does it.
 fn put_frame(
     material: Material<'_>,
     groups: &mut Vec<Group>,
@@ -144,7 +146,7 @@ fn sent_frame(material: Material<'_>, from: u16, to: u16) -> Result<Group, Alloc
     frame(material, travel, name.as_str(), steps.as_str())
 }
 
-/// A frame that is taken: it goes from the middle of the line from a node to another to that one.
+/// A frame that is taken: it goes from the middle of the line between two nodes to the second.
 fn taken_frame(material: Material<'_>, from: u16, to: u16) -> Result<Group, AllocError>
     ensures { IfOk result (λ group. (grouped_of group).element ≡ symbol_shown (pair_code (codes "i") from to)) }
 {
@@ -160,8 +162,8 @@ fn taken_frame(material: Material<'_>, from: u16, to: u16) -> Result<Group, Allo
     frame(material, travel, name.as_str(), steps.as_str())
 }
 
-/// A frame as a dot at the end of the way that it has come. It travels while the film plays, and stands
-/// between if nothing plays.
+/// A frame as a dot at the end of the way that it has come. It travels while the film plays, and stands where it
+/// turns if nothing plays.
 fn frame(
     material: Material<'_>,
     travel: Travel,
@@ -225,7 +227,7 @@ impl Travel {
         repeated(alloc, play, shown)
     }
 
-    /// When it begins, is between, and ends, in each of these stills, as parts of the film.
+    /// When the dot begins, turns and ends, in each of these stills, as parts of the film.
     fn key_times(self, alloc: Global, shown: Shown<'_>) -> Result<String, AllocError> {
         let mut text = format!(in alloc; "0")?;
         let mut done = shown.beats_at(0);
@@ -265,7 +267,7 @@ impl Travel {
         is_done(self.deed, still.event, self.from, self.to)
     }
 
-    /// Adds the way that it has come at its beginning, between, and at its end.
+    /// Adds the way that it has come at its beginning, at its turn, and at its end.
     fn push_ways(self, text: &mut String) -> Result<(), AllocError> {
         text.push_str(";")?;
         self.push_way(text, self.start, self.start)?;
@@ -282,7 +284,7 @@ impl Travel {
     }
 }
 
-/// Adds when a dot begins, is between, and ends, in a still of so many beats after so many.
+/// Adds when a dot begins, turns and ends, in a still of `beats` beats that comes after `done` beats.
 fn push_times(
     text: &mut String,
     shown: Shown<'_>,
@@ -300,7 +302,7 @@ fn push_times(
     )
 }
 
-/// Adds which part of the film is over after so many halves of a beat.
+/// Adds which part of the film is over after `halves` halves of a beat.
 fn push_time(text: &mut String, shown: Shown<'_>, halves: usize) -> Result<(), AllocError> {
     let all = (shown.pace().all().max(1) as u64).saturating_mul(2);
     let part = (halves as u64).saturating_mul(100_000) / all.max(1);

@@ -1,4 +1,4 @@
-//! What stands first: title, style, ground and legend.
+//! What comes first: title, style, background and legend.
 ghost use Rattle.std.specs.Prelude.{◌≡◌, IfOk, codes, map, string_bytes};
 ghost use Rattle.svg_drawing.specs.Drawn.{given_of, note_shown};
 ghost use Rattle.svg_drawing.specs.Grouped.{grouped_of};
@@ -12,7 +12,7 @@ use run_recording::MOST_FRAMED;
 use std::alloc::{AllocError, Global};
 use svg_drawing::{Attribute, Element, Group, Point, Px};
 
-/// A ground round the words, so that no line goes through them; and the colours of dark pages.
+/// A background round the words, so that no line goes through them; and the colours of dark pages.
 const STYLE: &str = "\
 text.ink { paint-order: stroke; stroke: #ffffff; stroke-linejoin: round; stroke-width: 4px }
 @media (prefers-color-scheme: dark) {
@@ -37,7 +37,7 @@ text, .ink { fill: #e8eaec }
 /// How high the drawing is below the graph.
 pub const BELOW: Px = Px(150);
 
-/// What a film says of its run.
+/// What a film says about its run.
 #[derive(Clone, Copy)]
 pub struct FilmHead {
     /// How many nodes there are.
@@ -48,7 +48,7 @@ pub struct FilmHead {
     pub refused: u64,
     /// How many stills are shown.
     pub stills: usize,
-    /// Whether weighty moments had to be joined.
+    /// Whether moments that count had to be joined.
     pub crowded: bool,
 }
 
@@ -69,8 +69,8 @@ pub fn attributes(alloc: Global, stage: &Stage) -> Result<Vec<Attribute>, AllocE
     Ok(holder.attributes)
 }
 
-/// What stands first: the title and what the run was, which a screen reader says; and below all else
-/// the ground, with these words, how the stills stand for the run, and the legend.
+/// What comes first: the title and what the run was, which a screen reader says; and, beneath all
+/// else, the background, with these words, how the stills stand for the run, and the legend.
 pub fn head(alloc: Global, stage: &Stage, said: FilmHead) -> Result<Vec<Group>, AllocError>
     ensures { IfOk result (λ groups. IsHeaded (map grouped_of groups.items) said) }
 {
@@ -104,7 +104,7 @@ fn run_said(alloc: Global, said: FilmHead) -> Result<String, AllocError>
     format!(in alloc; "{events} events, {refused} lines refused")
 }
 
-/// What follows the title.
+/// All that comes first, except the title.
 fn under_title(alloc: Global, stage: &Stage, said: FilmHead) -> Result<Vec<Group>, AllocError> {
     let title = title_said(alloc, said)?;
     let was = run_said(alloc, said)?;
@@ -121,10 +121,11 @@ fn under_title(alloc: Global, stage: &Stage, said: FilmHead) -> Result<Vec<Group
     Ok(groups)
 }
 
-/// What the numbers, the lines and the signs mean that the legend does not draw.
+/// What the numbers and the lines mean, which the legend does not show.
 const KEY: &str = "in a node: its distance; arrow: to its parent; thick: the true tree";
 
-/// Draws what they mean, beside the title.
+/// Draws what the numbers, the lines and the signs mean that the legend does not show, beside the
+/// title.
 fn put_key(alloc: Global, groups: &mut Vec<Group>, said: FilmHead) -> Result<(), AllocError> {
     let signs = if said.nodes <= MOST_FRAMED {
         "lightning: damage; dot: a frame under way; cross: one that is lost"
@@ -136,12 +137,12 @@ fn put_key(alloc: Global, groups: &mut Vec<Group>, said: FilmHead) -> Result<(),
     Ok(())
 }
 
-/// A line of that.
+/// A line of what is drawn beside the title.
 fn key_line(alloc: Global, y: Px, text: &str) -> Result<Group, AllocError> {
     Ok(Group::alone(alloc, words(alloc, Point { x: Px(300), y }, text)?))
 }
 
-/// An element that says something of the film.
+/// An element that says something about the film.
 fn said_note(alloc: Global, name: &'static str, text: &str) -> Result<Group, AllocError>
     ensures { IfOk result (λ group. grouped_of group ≡ alone (note_shown name.now text.now)) }
 {
@@ -169,7 +170,7 @@ fn stills_said(alloc: Global, said: FilmHead) -> Result<String, AllocError>
     }
 }
 
-/// The ground.
+/// The background.
 fn film_ground(alloc: Global, stage: &Stage) -> Result<Group, AllocError> {
     let ground = Element::new(alloc, "rect")
         .with(alloc, "class", "ground")?
@@ -179,7 +180,7 @@ fn film_ground(alloc: Global, stage: &Stage) -> Result<Group, AllocError> {
     Ok(Group::alone(alloc, ground))
 }
 
-/// A sign of the legend: its symbol, and what it means.
+/// The signs of the legend: of each, its symbol, its place from the left, and what it means.
 const SIGNS: [(&str, u32, &str); 4] = [
     ("#p", 34, "distance and parent true"),
     ("#w", 252, "one of them wrong"),

@@ -1,9 +1,9 @@
 //! A run of a network as a film: a drawing that plays, and a page that holds it.
 //!
-//! [`film`] draws the stills that a recording has kept: the network as a graph, the root at the top
-//! and each node as far below as its true distance; in each node the distance that it has, and an
-//! arrow towards the parent that it has. It plays by the animation elements of SVG, without any
-//! script; what plays nothing shows the last still:
+//! [`film`] draws the stills that a recording has kept. The network is a graph, with the root at the
+//! top and each node as far below as its true distance. In each node is the distance that it has, and
+//! an arrow points towards the parent that it has. The film plays by the animation elements of SVG,
+//! without any script; a program that plays no animation shows the last still:
 //!
 //! ```
 //! let recording = record_film(alloc, &net, &mut source, FilmPace::of(&net, 20).most(), Window::ALL)?;
@@ -14,7 +14,7 @@
 //! Each still is shown for some *beats*, a part of a second each. What changes from still to still
 //! is a [`Track`]: its values, beat by beat.
 //!
-//! The trap: nodes stand where the network that is given has them, also after edges join and go.
+//! The trap: nodes stand where the network that is given has them, even after edges join and part.
 #![tactic(auto)]
 
 mod counts;

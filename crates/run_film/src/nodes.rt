@@ -17,7 +17,7 @@ use run_recording::MOST_FRAMED;
 use std::alloc::{AllocError, Global};
 use svg_drawing::{Group, Point, Px};
 
-/// Where symbols stand that are drawn at their places.
+/// Where symbols are put that are already drawn at their places.
 pub const ORIGIN: Point = Point { x: Px(0), y: Px(0) };
 
 /// Draws a part of the film at a place.
@@ -60,7 +60,7 @@ pub fn put_said(material: Material<'_>, groups: &mut Vec<Group>) -> Result<(), A
     Ok(())
 }
 
-/// Draws the nodes, and below them the arrow of each towards its parent.
+/// Draws the nodes, and beneath them the arrow of each towards its parent.
 pub fn put_nodes(material: Material<'_>, groups: &mut Vec<Group>) -> Result<(), AllocError>
     ensures nodes { OnOk result (ShowsNodes (drawn groups.new.items) (film_of material.entry.shown) material.entry.net.now) }
     ensures keeps { OnOk result (Keeps (drawn groups.old.items) (drawn groups.new.items)) }
@@ -99,7 +99,7 @@ fn node_name(alloc: Global, stage: &Stage, v: u16) -> Result<Group, AllocError> 
     Ok(Group::alone(alloc, text))
 }
 
-/// Where it begins.
+/// Where the name of a node begins.
 fn name_place(stage: &Stage, v: u16) -> Point {
     let Point { x, y } = stage.at(v);
     if stage.is_narrow() {

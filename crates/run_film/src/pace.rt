@@ -1,4 +1,4 @@
-//! For how long each still is shown.
+//! How long each still is shown.
 ghost use Rattle.std.specs.Prelude.{◌≡◌, ◌+◌, ◌-◌, ◌≤◌, max};
 ghost use Rattle.run_film.specs.Beats.{beats_at, film_of, joins_in, last_of};
 ghost use Rattle.std.specs.List.{list_any};
@@ -14,19 +14,19 @@ const OPENING: usize = 10;
 /// For how many seconds the last still is held.
 const HELD: u32 = 3;
 
-/// The most beats of a film, but for those that hold the first still and the last.
+/// The most beats of a film, except those that hold the last still.
 const MOST_BEATS: u16 = 600;
 
 /// The most changes of nodes from beat to beat, so that a film stays below 1 MB.
 const MOST_CHANGES: u16 = 10_000;
 
-/// The most bytes of what changes from beat to beat, so that one with many edges does too.
+/// The most bytes of what changes from beat to beat, so that a film with many edges stays below it too.
 const MOST_BYTES: usize = 700_000;
 
 /// How many beats a film has, and how long it plays.
 #[derive(Clone, Copy, Debug)]
 pub struct FilmPace {
-    /// The beats, but for those that hold the first still and the last.
+    /// The beats, except those that hold the first still and the last.
     beats: u16,
     /// For how many beats the last still is held, besides its own.
     closing: u16,
@@ -35,8 +35,8 @@ pub struct FilmPace {
 }
 
 impl FilmPace {
-    /// The pace of a film of so many seconds, 2 to 600: ten beats a second, but for long films and
-    /// large networks fewer.
+    /// The pace of a film of `seconds` seconds, 2 to 600: ten beats a second, but fewer for long films and large
+    /// networks.
     pub fn of(net: &Net, seconds: u16) -> FilmPace
         ensures seconds { result.seconds ≡ seconds }
         ensures some { 10 ≤ result.beats }
@@ -67,7 +67,7 @@ impl FilmPace {
         usize::from(self.beats) + (OPENING + usize::from(self.closing))
     }
 
-    /// For how many thousandths of a second it plays, with the last still held.
+    /// For how many thousandths of a second it plays, including the time for which it holds the last still.
     pub fn milliseconds(self) -> u32
         ensures { result ≡ milliseconds self }
     {
@@ -75,8 +75,8 @@ impl FilmPace {
     }
 }
 
-/// How many beats have room in these bytes: in each beat a node has about 24, an edge 9, and the frames that wait
-/// on it 16.
+/// How many beats have room in `MOST_BYTES`: in each beat a node has about 24 bytes, an edge 9, and the frames
+/// that wait on it 16.
 fn beats_within(net: &Net) -> u16 {
     let nodes = usize::from(net.nodes()).saturating_mul(24);
     let edge = if net.nodes() <= MOST_FRAMED { 25 } else { 9 };
@@ -157,8 +157,8 @@ impl<'a> Shown<'a> {
         self.opening.joins(v, w) || any_joins(self.later, v, w)
     }
 
-    /// For how many beats the still at a place is shown; 0 is the first. All stills have the same
-    /// number, or one more, and the first and the last are held.
+    /// For how many beats the still at a place is shown; 0 is the first. All stills have the same number, or one
+    /// more, and the first and the last are held longer.
     pub fn beats_at(self, place: usize) -> usize
         ensures { result ≡ beats_at (film_of self.entry) place }
     {

@@ -149,7 +149,7 @@ input { flex: 1 1 20em; min-width: 10em }
 #told { bottom: 0; margin: 0; min-height: 5em }
 ";
 
-/// What stands in front of the film.
+/// What comes before the film.
 pub fn page_head(alloc: Global) -> Result<Vec<Group>, AllocError>
     ensures { IfOk result (λ groups. IsPageHead (map grouped_of groups.items)) }
 {
@@ -175,7 +175,7 @@ fn page_head_group(alloc: Global) -> Result<Group, AllocError>
         .holding(style)
 }
 
-/// What stands after the film: the controls, the sentence of the step that is shown, those of all
+/// What comes after the film: the controls, the sentence of the step that is shown, those of all
 /// steps, and the script.
 pub fn controls(alloc: Global, shown: Shown<'_>) -> Result<Vec<Group>, AllocError>
     ensures { IfOk result (λ groups. HoldsSteps (map grouped_of groups.items) (film_of shown.entry)) }
@@ -185,7 +185,7 @@ pub fn controls(alloc: Global, shown: Shown<'_>) -> Result<Vec<Group>, AllocErro
     Ok(groups)
 }
 
-/// What the sentence of the step that is shown has.
+/// The attributes of the sentence of the step that is shown.
 const SAID: [Fixed; 3] = [
     Fixed("id", "told"),
     Fixed("role", "status"),
@@ -210,7 +210,7 @@ fn button(alloc: Global, name: &str, text: &str) -> Result<Element, AllocError> 
         .saying(text)
 }
 
-/// What the slider has.
+/// The attributes of the slider.
 const SLIDER: [Fixed; 5] = [
     Fixed("id", "slider"),
     Fixed("type", "range"),
@@ -219,7 +219,7 @@ const SLIDER: [Fixed; 5] = [
     Fixed("aria-label", "Step"),
 ];
 
-/// What the element that holds the controls has.
+/// The attributes of the element that holds the controls.
 const BAR: [Fixed; 2] = [Fixed("role", "group"), Fixed("aria-label", "Film")];
 
 /// The controls.
@@ -276,7 +276,7 @@ fn push_event(text: &mut String, still: &Still) -> Result<(), AllocError>
     }
 }
 
-/// Adds what is counted.
+/// Adds what is counted in a still.
 fn push_counts(text: &mut String, still: &Still) -> Result<(), AllocError>
     ensures { OnOk result (string_bytes text.new ≡ string_bytes text.old ++ counts_said still.now) }
 {

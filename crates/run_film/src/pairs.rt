@@ -1,4 +1,4 @@
-//! What a film has for each two nodes.
+//! What a film has for each pair of nodes.
 ghost use Rattle.std.specs.Prelude.{◌≡◌, ◌<◌, ℕ, OnOk, IsTrue};
 ghost use Rattle.run_film.specs.Beats.{film_of};
 ghost use Rattle.run_film.specs.Films.{drawn, Keeps};
@@ -17,20 +17,20 @@ use svg_drawing::Group;
 /// What two nodes may have in a still.
 #[derive(Clone, Copy)]
 pub enum Paired {
-    /// The edge from the second to the first, whose id is greater, drawn.
+    /// The edge from the second node to the first, whose id is greater, as a drawing.
     Edge,
-    /// The symbols of that edge: a thin line, and a strong one for the time in which it is one of the
+    /// The symbols of that edge: a thin line, and a strong one for the time when it is part of the
     /// true tree.
     Lines,
     /// The symbol of the arrow from the first to the second, its parent.
     Arrow,
     /// The symbols of the frames from the first to the second.
     Frames,
-    /// The frames that wait on their way from the first to the second, drawn.
+    /// The frames that wait on their way from the first to the second, as a drawing.
     Waiting,
 }
 
-/// Adds this for each two nodes that have it in some still.
+/// Adds this for each pair of nodes that has it in some still.
 pub fn put_pairs(
     material: Material<'_>,
     groups: &mut Vec<Group>,
@@ -45,7 +45,7 @@ pub fn put_pairs(
     Ok(())
 }
 
-/// Adds this for a node and each other.
+/// Adds this for a node and each other node, if they have it in some still.
 fn put_pairs_of(
     material: Material<'_>,
     groups: &mut Vec<Group>,

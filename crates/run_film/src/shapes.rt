@@ -1,4 +1,4 @@
-//! Of what symbols are made.
+//! What symbols are made of.
 ghost use Rattle.std.specs.Prelude.{◌≡◌, [], IfOk};
 ghost use Rattle.svg_drawing.specs.Drawn.{shown_of};
 ghost use Rattle.svg_drawing.specs.Grouped.{grouped_of};

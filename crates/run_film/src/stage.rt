@@ -13,10 +13,10 @@ const LEAST_WIDTH: u32 = 720;
 /// The height at which the root stands.
 const ROOT: Px = Px(136);
 
-/// From which distance of two neighbours on there is room for words between them.
+/// The least distance of two neighbours that leaves room for words between them.
 const WIDE: u32 = 112;
 
-/// Below which there is no room for a number.
+/// The least distance of two neighbours that leaves room for a number between them.
 const NARROW: u32 = 64;
 
 /// Where the nodes of a network stand: each as far below the root as its true distance, and those of
@@ -55,7 +55,7 @@ fn row_of(net: &Net, v: u16) -> usize
     }
 }
 
-/// The longest of the rows.
+/// How many nodes the longest row has; at least 1.
 fn longest(lengths: &[usize; MOST_NODES]) -> usize {
     let mut most = 1;
     for length in lengths.as_slice() {
@@ -64,13 +64,13 @@ fn longest(lengths: &[usize; MOST_NODES]) -> usize {
     most
 }
 
-/// How far two neighbours of a row are apart, if the longest row has so many nodes.
+/// How far two neighbours of a row are apart, if the longest row has `most` nodes.
 fn stride_of(most: usize) -> Px {
     Px((1100 / most.max(1)).min(132).max(48) as u32)
 }
 
-/// How far two rows are apart, of so many below the root. Between the signs of two rows there is room for
-/// lines and for two lines of text.
+/// How far two rows are apart, if there are `depth` rows below the root. Between the signs of two rows
+/// there is room for lines and for two lines of text.
 fn rise_of(depth: usize) -> Px
     ensures least { 80 ≤ result.0 }
     ensures most { result.0 ≤ 96 }
@@ -78,8 +78,8 @@ fn rise_of(depth: usize) -> Px
     Px((300 / depth.max(1)).min(96).max(80) as u32)
 }
 
-/// How far below the last row the graph ends: if its nodes stand near each other, their numbers stand below
-/// them, too.
+/// How far below the last row the graph ends: if nodes stand close to one another, their numbers stand
+/// below them, too.
 fn foot_of(stride: Px) -> Px {
     if stride.0 < NARROW { Px(56) } else { Px(40) }
 }

@@ -52,7 +52,7 @@ pub fn put_symbols(material: Material<'_>, groups: &mut Vec<Group>) -> Result<()
     Ok(())
 }
 
-/// Those of tickets and of sweeps, and what stands at the ends of lines.
+/// Adds the symbols of tickets and of sweeps, and what stands at the ends of lines.
 fn put_others(material: Material<'_>, groups: &mut Vec<Group>) -> Result<(), AllocError> {
     let head = form(material.alloc, "M-8 -6L4 0L-8 6z", "blue", "#0b5394")?;
     groups.push(line_end(material.alloc, "h", head)?)?;
@@ -69,8 +69,9 @@ fn symbol_of(alloc: Global, name: &str, element: Element) -> Result<Group, Alloc
     symbol(alloc, name)?.holding(element)
 }
 
-/// The four ways in which a node stands, told apart by their outlines too: settled plain, wrong with
-/// dashes, privileged with two circles, lending in a frame; what strikes a node, damage, and nothing.
+/// Adds the symbols of the four ways in which a node stands, which differ in their outlines too: settled
+/// is plain, wrong has dashes, privileged has two circles, and lending is in a frame. Also adds those of
+/// what strikes a node, of damage, and of nothing.
 fn put_marks(alloc: Global, groups: &mut Vec<Group>) -> Result<(), AllocError>
     ensures marks { OnOk result (HasMarks (drawn groups.new.items)) }
 {
@@ -135,7 +136,7 @@ fn lending(alloc: Global) -> Result<Group, AllocError>
     symbol_of(alloc, "l", lent)?.holding(outline(alloc, FRAME, "framed", "#c3263f", 4)?)
 }
 
-/// The number of each distance that a node may have.
+/// Adds the number of each distance that a node may have.
 fn put_distances(alloc: Global, groups: &mut Vec<Group>, net: &Net) -> Result<(), AllocError>
     ensures distances { OnOk result (HasDistances (drawn groups.new.items) net.now) }
     ensures keeps { OnOk result (Keeps (drawn groups.old.items) (drawn groups.new.items)) }
@@ -146,7 +147,7 @@ fn put_distances(alloc: Global, groups: &mut Vec<Group>, net: &Net) -> Result<()
     Ok(())
 }
 
-/// The number of a distance.
+/// Adds the number of a distance.
 fn put_distance(alloc: Global, groups: &mut Vec<Group>, distance: u16) -> Result<(), AllocError>
     ensures distance { OnOk result (IsDefined (drawn groups.new.items) (codes "d" ++ decimal distance)) }
     ensures keeps { OnOk result (Keeps (drawn groups.old.items) (drawn groups.new.items)) }
@@ -167,21 +168,21 @@ fn distance_text(alloc: Global, distance: u16) -> Result<Group, AllocError>
     symbol_of(alloc, name.as_str(), text)
 }
 
-/// Whether a node has another for its parent in some still.
+/// Whether a node has another as its parent in some still.
 pub fn is_parent(shown: Shown<'_>, v: u16, parent: u16) -> bool
     ensures { result ≡ parents_in (film_of shown.entry) v parent }
 {
     has_parent(shown.opening(), v, parent) || any_has_parent(shown.later(), v, parent)
 }
 
-/// Whether a node has another for its parent in some of these stills.
+/// Whether a node has another as its parent in some of these stills.
 fn any_has_parent(stills: &[Still], v: u16, parent: u16) -> bool
     ensures { result ≡ list_any (λ still. has_parent still v parent) stills.now }
 {
     stills.iter().any(|still| has_parent(still, v, parent))
 }
 
-/// Whether a node has another for its parent in a still.
+/// Whether a node has another as its parent in a still.
 fn has_parent(still: &Still, v: u16, parent: u16) -> bool
     ensures { result ≡ has_parent still.now v parent }
 {
@@ -202,8 +203,8 @@ pub fn arrow(alloc: Global, stage: &Stage, v: u16, parent: u16) -> Result<Group,
     symbol_of(alloc, name.as_str(), line)
 }
 
-/// The lines of the edge between two nodes: a thin one, and a strong one for the time in which it is one
-/// of the true tree.
+/// Adds the lines of the edge between two nodes: a thin one, and a strong one for the time when it is
+/// part of the true tree.
 pub fn put_lines(
     material: Material<'_>,
     groups: &mut Vec<Group>,
@@ -218,7 +219,7 @@ pub fn put_lines(
     Ok(())
 }
 
-/// The line of an edge, under a name that begins so.
+/// The line of an edge, under a name that begins with `start`.
 fn edge(
     material: Material<'_>,
     start: &str,
@@ -237,7 +238,7 @@ fn edge(
     )
 }
 
-/// What each end of a line has.
+/// The attributes of the end of a line.
 const LINE_END: [Fixed; 5] = [
     Fixed("viewBox", "-8 -8 16 16"),
     Fixed("markerWidth", "16"),
@@ -254,7 +255,7 @@ fn line_end(alloc: Global, name: &str, drawn: Element) -> Result<Group, AllocErr
     Group::alone(alloc, element).holding(drawn)
 }
 
-/// The words of each ticket that a node lends to in some still, of the first so many.
+/// Adds the words of each ticket that a node lends to in some still, for the first 256 of them.
 fn put_tickets(material: Material<'_>, groups: &mut Vec<Group>) -> Result<(), AllocError> {
     let mut tickets: Vec<u16> = Vec::new(material.alloc);
     note_tickets(&mut tickets, material.net, material.shown.opening())?;
@@ -282,14 +283,14 @@ fn note_tickets(tickets: &mut Vec<u16>, net: &Net, still: &Still) -> Result<(), 
     Ok(())
 }
 
-/// What each ticket has.
+/// The attributes of each ticket.
 const TICKET: [Fixed; 3] = [
     Fixed("text-anchor", "middle"),
     Fixed("class", "ink"),
     Fixed("fill", "#22262a"),
 ];
 
-/// A ticket, whose words stand to both sides of its place.
+/// A ticket, whose words are centred on its place.
 fn ticket_text(alloc: Global, stage: &Stage, ticket: u16) -> Result<Element, AllocError> {
     let words = if stage.is_wide() {
         format!(in alloc; "lends to {ticket}")?
@@ -301,7 +302,7 @@ fn ticket_text(alloc: Global, stage: &Stage, ticket: u16) -> Result<Element, All
         .saying(words.as_str())
 }
 
-/// The text of each number of sweeps that some still has.
+/// Adds the text of each number of sweeps that some still has.
 fn put_sweeps(material: Material<'_>, groups: &mut Vec<Group>) -> Result<(), AllocError> {
     let mut counts: Vec<u64> = Vec::new(material.alloc);
     counts.push(material.shown.opening().sweeps)?;

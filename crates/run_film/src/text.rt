@@ -11,14 +11,14 @@ use std::alloc::Global;
 use svg_drawing::{spelled_document, spelled_scene};
 use topology::Net;
 
-/// What film a run makes.
+/// Which film is made of a run.
 #[derive(Clone, Copy)]
 pub struct WantedFilm {
     /// For how many seconds it plays, 2 to 600.
     pub seconds: u16,
     /// The moments that are shown.
     pub window: Window,
-    /// Whether it stands in a page, with controls.
+    /// Whether it is in a page, with controls.
     pub page: bool,
 }
 
@@ -31,7 +31,7 @@ pub struct FilmText {
     pub refused: u64,
 }
 
-/// The film of what the events that a source gives lead to on a network.
+/// The film of what the events from a source lead to on a network.
 ///
 /// # Errors
 /// If memory runs out, the source fails, or it gives too many bytes.
@@ -53,7 +53,7 @@ pub fn film_text<S: Source>(
     })
 }
 
-/// The page that holds the film of what the events that a source gives lead to on a network.
+/// The page that holds the film of what the events from a source lead to on a network.
 ///
 /// # Errors
 /// As [`film_text`].

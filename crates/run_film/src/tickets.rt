@@ -2,12 +2,12 @@
 ghost use Rattle.std.specs.Prelude.{◌≡◌, ◌<◌, ℕ, IsTrue};
 ghost use Rattle.run_film.specs.Places.{half_width, is_clear_of, place_in, IsBelow, IsClearOfNodes, IsStage};
 
-use crate::curve::{Line, REACH, apart, line_of};
+use crate::curve::{EdgeLine, REACH, apart, line_of};
 use crate::stage::Stage;
 use svg_drawing::{Point, Px};
 use topology::Net;
 
-/// Into how many parts a straight line is divided at most.
+/// The most parts into which a straight line is divided.
 const PARTS: u32 = 512;
 
 /// Half of the width of the widest words of a ticket: 14 letters of 7, or 8 if nodes stand close to one another.
@@ -49,7 +49,7 @@ fn possible_places(stage: &Stage, half: Px, v: u16) -> [Point; 5] {
     ]
 }
 
-/// The place that is so far from the left and from the upper end.
+/// The place that is this far from the left and from the top.
 fn point(x: Px, y: Px) -> Point {
     Point { x, y }
 }
@@ -66,7 +66,7 @@ fn below(stage: &Stage, v: u16) -> Point
     }
 }
 
-/// Whether words of this half of a width keep clear of all nodes.
+/// Whether words of this half-width keep clear of all nodes.
 fn is_clear_of_nodes(net: &Net, stage: &Stage, at: Point, half: Px) -> bool
     ensures { IsTrue result → IsClearOfNodes net.now stage.now at half.0 }
 {
@@ -78,7 +78,7 @@ fn is_clear_of_nodes(net: &Net, stage: &Stage, at: Point, half: Px) -> bool
     true
 }
 
-/// Whether they keep clear of a node.
+/// Whether such words keep clear of a node.
 fn is_clear_of(node: Point, at: Point, half: Px) -> bool
     ensures { result ≡ is_clear_of node at half.0 }
 {
@@ -88,13 +88,13 @@ fn is_clear_of(node: Point, at: Point, half: Px) -> bool
     high + 31 < low || low + 24 < high || left + reach < right || right + reach < left
 }
 
-/// Whether they keep clear of the line of each edge.
+/// Whether such words keep clear of the line of each edge.
 fn is_clear_of_lines(net: &Net, stage: &Stage, at: Point, half: Px) -> bool {
     net.edges().iter().all(|edge| is_clear_of_line(&line_of(stage, edge.0, edge.1), at, half))
 }
 
-/// Whether they keep clear of a line.
-fn is_clear_of_line(line: &Line, at: Point, half: Px) -> bool {
+/// Whether such words keep clear of a line.
+fn is_clear_of_line(line: &EdgeLine, at: Point, half: Px) -> bool {
     let words = PlacedWords { at, half };
     words.are_clear_of_part(line.start, line.near)
         && words.are_clear_of_part(line.near, line.far)
@@ -121,7 +121,7 @@ impl PlacedWords {
         })
     }
 
-    /// Whether they cover no place of a line, and none near to them.
+    /// Whether they neither cover this place of a line nor come near it.
     fn are_clear_of_point(self, line: Point) -> bool {
         let (at, reach) = (self.at, self.half + Px(4));
         (at.y + Px(7)).0 < line.y.0
@@ -131,7 +131,7 @@ impl PlacedWords {
     }
 }
 
-/// So many parts of the way from a length to another.
+/// The length that is `part` of `parts` equal parts of the way from a length to another.
 fn divided(a: Px, b: Px, part: u32, parts: u32) -> Px {
     let left = parts.saturating_sub(part);
     let sum = a * left as usize + b * part as usize;

@@ -1,4 +1,4 @@
-//! What of a still one element shows, beat by beat.
+//! What one element shows of a still, beat by beat.
 ghost use Rattle.std.specs.Prelude.{◌≡◌, ◌++◌, IfOk, OnOk, replicate, string_bytes};
 ghost use Rattle.svg_drawing.specs.Drawn.{shown_of};
 ghost use Rattle.svg_drawing.specs.Grouped.{grouped_of};
@@ -16,7 +16,7 @@ use std::alloc::{AllocError, Global};
 use std::fmt::Write;
 use svg_drawing::{Element, Group};
 
-/// What of a still an element shows. Each value is the name of a symbol.
+/// What an element shows of a still. Each value is the name of a symbol.
 #[derive(Clone, Copy)]
 pub enum Track {
     /// How a node stands.
@@ -115,7 +115,7 @@ fn true_parent(still: &Still, v: u16) -> Option<u16>
         .parent
 }
 
-/// Whether a node is another's parent.
+/// Whether this parent is a given node.
 pub fn is_named(parent: Option<u16>, v: u16) -> bool
     ensures { result ≡ is_named parent v }
 {
@@ -182,7 +182,7 @@ impl Track {
         }
     }
 
-    /// Adds what it shows of a still, as often as there are beats, each after a semicolon.
+    /// Adds what it shows of a still, once for each beat, each time after a semicolon.
     fn push_beats(self, text: &mut String, still: &Still, beats: usize) -> Result<(), AllocError>
         ensures { OnOk result (string_bytes text.new
             ≡ string_bytes text.old ++ more_values self (replicate beats still.now)) }
@@ -231,7 +231,7 @@ impl Track {
         Ok(text)
     }
 
-    /// The element that shows it at a place: without any play the last still.
+    /// The element that shows it at a place; if nothing plays, it shows the last still.
     pub fn group(self, alloc: Global, shown: Shown<'_>, x: u32, y: u32) -> Result<Group, AllocError>
         ensures { IfOk result (λ group. grouped_of group ≡ track_shown self (film_of shown.entry) x y) }
     {
@@ -249,7 +249,7 @@ impl Track {
     }
 }
 
-/// An animation that goes on as long as the film, and again and again.
+/// An animation that lasts as long as the film, again and again.
 pub fn repeated(alloc: Global, play: Element, shown: Shown<'_>) -> Result<Element, AllocError>
     ensures { IfOk result (λ element. shown_of element ≡ repeated_shown (shown_of play) shown.entry.pace) }
 {

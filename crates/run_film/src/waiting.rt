@@ -51,14 +51,14 @@ pub fn waits_in(shown: Shown<'_>, u: u16, v: u16) -> bool
     is_waiting(shown.opening(), u, v) || any_waits(shown.later(), u, v)
 }
 
-/// Whether one waits in some of these stills.
+/// Whether a frame waits between two nodes in some of these stills.
 fn any_waits(stills: &[Still], u: u16, v: u16) -> bool
     ensures { result ≡ list_any (λ still. is_waiting still u v) stills.now }
 {
     stills.iter().any(|still| is_waiting(still, u, v))
 }
 
-/// The symbol of a frame that waits between two nodes, if one does in some still.
+/// Adds the symbol of a frame that waits between two nodes, if one does so in some still.
 pub fn put_waiting_symbol(
     material: Material<'_>,
     groups: &mut Vec<Group>,

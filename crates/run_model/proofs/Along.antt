@@ -1,6 +1,6 @@
--- Along a run: what each event keeps, the run keeps; and what a full tick of a node brings about,
--- a list with such a tick brings about. No clause can range over all properties of a world, so the
--- crates above cite these two from here.
+-- Along a run: what each event keeps, the run keeps; and what a full tick of a node brings about, a
+-- list with such a tick brings about. No clause can range over all properties of a world, so the
+-- crates above cite these two facts from here.
 use Rattle.std.proofs.Common.{◌≡◌, List, [], ◌∷◌, ℕ, true, false, refl, inl, inr}
 use Rattle.std.proofs.lemmas.Bool.{or_parts, or_cases, or_from, false≢true}
 use Rattle.run_model.specs.World.{World, IsWorldInRange}
@@ -34,7 +34,7 @@ pub kept : (c : Course) (P : World → Type 0) → IsKept c P → (w : World) (e
 kept c P k w [] h p = p
 kept c P k w (e ∷ es) h p = kept c P k (step w e) es (c.later w e es h) (k w e (c.now w e es h) p)
 
--- if P is kept, Q is kept while P holds, and a full tick of v brings Q about while P holds: a
+-- if P is kept, Q is kept while P holds, and a full tick of v brings Q about while P holds, then a
 -- list with a full tick of v brings Q about
 pub ticked : (c : Course) (P Q : World → Type 0) (v : ℕ) → IsKept c P
     → ((w : World) (e : Event) → c.says w e → P w → Q w → Q (step w e))

@@ -26,7 +26,7 @@ at-two P f g k x y here there i =
     at-each (λ j z. P j (at f k x j) z) g k y (subst (λ z. P k z y) (sym (at-here f k x)) here)
     (λ j apart. subst (λ z. P j z (g j)) (sym (at-other f k x j apart)) (there j apart)) i
 
--- what is there already changes nothing
+-- writing what is already there changes nothing
 pub at-same : {X : Type 0} (f : ℕ → X) (k : ℕ) → at f k (f k) ≡ f
 at-same f k = fun_ext (at-each (λ i x. x ≡ f i) f k (f k) refl (λ i _. refl))
 

@@ -72,7 +72,7 @@ quiet-or-ticks only w e v d = elim (cases_Bool (is_some (refusal w e))) [
   | inr n ↦ subst (λ x. IsResting w x v ⊎ IsTicking w x v) (sym (accepted_changes w e n)) (changed-quiet only w e v d (not_refused (refusal w e) n))
 ]
 
--- a tick of a node that is there is not refused
+-- a tick of a node that exists is not refused
 pub tick-ticks : TicksAreAccepted
 tick-ticks w v l =
     let r : is_some (refusal w (Tick v)) ≡ false = grind (arith, nat_tests) in

@@ -37,7 +37,7 @@ ticked-late w (e ∷ xs) ys v h = or_right (is_full_tick w e v) (has_full_tick (
 abbrev pub IsSent : Origin → Type 0
 IsSent origin = IsTrue (is_first_sent (origin ∷ []))
 
--- if each item that was sent inside one stretch was sent inside another, that one hands over such
+-- if each item that was sent inside one stretch was sent inside another, the other hands over such
 -- an item too
 more-sent : (capacity i j : ℕ) (acts : List LinkAct) (few many : List Origin) → IsMarked IsSent few many
     → hands_over_sent capacity i acts few ≡ true → hands_over_sent capacity j acts many ≡ true
@@ -65,7 +65,7 @@ hands-early capacity i (act ∷ xs) ys origins h =
     (λ now. or_left (takes_sent act origins) rest now)
     (λ not_now then. or_right (takes_sent act origins) rest (hands-early capacity (suc i) xs ys later then))
 
--- the marks of a stretch may start over if there are as many items
+-- the marks of a stretch may start over if there are as many marks as items
 fresh-marks : (xs : List Item) (origins : List Origin) → length origins ≡ length xs → map (λ item. Before) xs ≡ map (λ origin. Before) origins
 fresh-marks [] [] e = refl
 fresh-marks [] (o ∷ os) e = absurd (omega (arith, e))
@@ -76,7 +76,7 @@ fresh-marks (x ∷ xs) (o ∷ os) e = ap (λ l. Before ∷ l) (fresh-marks xs os
 abbrev pub IsBeside : List Origin → List Item → Type 0
 IsBeside origins items = IsMarked (λ item. Unit {0}) origins items
 
--- a stretch hands over what its end alone does
+-- a stretch hands over what its end alone hands over
 hands-late : (w : World) (i : ℕ) (xs ys : List Event) (u v : ℕ) (origins : List Origin) → IsEdge w.net u v
     → IsUndamaged w xs → IsBeside origins (w.link u v) → is_renewed (run w xs) ys u v ≡ true
     → hands_over_sent w.net.capacity i (map (link_act u v) (xs ++ ys)) origins ≡ true
@@ -102,7 +102,7 @@ pub renewed-late : (w : World) (xs ys : List Event) (u v : ℕ) → IsEdge w.net
 renewed-late w xs ys u v pair fine h =
     hands-late w 0 xs ys u v (map (λ item. Before) (w.link u v)) pair fine (marked-start (λ item. Unit {0}) (w.link u v)) h
 
--- and one that its beginning renews
+-- and it renews a link that its beginning renews
 pub renewed-early : (w : World) (xs ys : List Event) (u v : ℕ) → is_renewed w xs u v ≡ true → is_renewed w (xs ++ ys) u v ≡ true
 renewed-early w xs ys u v h =
     rw (map-append (link_act u v) xs ys)

@@ -82,7 +82,8 @@ join-forgets = (refl, refl)
 join-keeps_other_ports : ((joined.node 3).port 2).seq ≡ 2
 join-keeps_other_ports = refl
 
--- the network is another one, since its edges are in another order; the neighbours are the same
+-- the network is a different one, since its edges are in a different order; the neighbours are the
+-- same
 not_the_same_network : ¬ (joined.net ≡ square)
 not_the_same_network same =
     let edges : ◌≡◌ {A = List Edge} ((0, 1) ∷ (0, 2) ∷ (2, 3) ∷ (3, 1) ∷ []) ((0, 1) ∷ (0, 2) ∷ (1, 3) ∷ (2, 3) ∷ []) = ap (λ (net : Network). net.edges) same in
@@ -119,7 +120,7 @@ no-part_of_no_node = refl
 no-join_with_itself : refusal marked (Damage (Join 3 3)) ≡ Some OutOfRange
 no-join_with_itself = refl
 
--- either way round
+-- no second edge joins two nodes, either way round
 no-second_edge : (refusal marked (Damage (Join 0 1)) ≡ Some OutOfRange) × (refusal marked (Damage (Join 1 0)) ≡ Some OutOfRange)
 no-second_edge = (refl, refl)
 

@@ -27,7 +27,7 @@ unrenewed : (w : World) (es : List Event) (u v : ℕ) → IsTrue (are_joined w.n
 unrenewed w es u v joined none front back e sweep =
     both_ways (is_renewed w es u v) none (subst (λ l. is_renewed w l u v ≡ true) (sym e) (renewed-early w front back u v (sweep.renewed u v joined)))
 
--- without its last event, the take of node 0
+-- the shortest sweep without its last event, the take of node 0
 abbrev nearly : List Event
 nearly = Tick 0 ∷ Tick 1 ∷ Send 0 1 ∷ Take 0 1 ∷ Send 1 0 ∷ []
 
@@ -39,7 +39,7 @@ one-counted = count-rises start 0 [] nearly (Take 1 0) (omega arith)
 one-sweep : IsSweepCount start least 1
 one-sweep = counted-greatest start 1 least [] are-joined refl one-counted.sweeps one-counted.unfinished
 
--- twice the same is two
+-- the same events twice are two sweeps
 again-is_sweep : IsSweep (run start least) least
 again-is_sweep = record {
   undamaged = refl;
@@ -54,7 +54,7 @@ two-counted = count-rises start 1 least nearly (Take 1 0) (omega arith)
 two-sweeps : IsSweepCount start (least ++ least) 2
 two-sweeps = counted-greatest start 2 (least ++ least) [] are-joined refl two-counted.sweeps two-counted.unfinished
 
--- without the last event it is still one
+-- without the last event it is still one sweep
 not-yet_two : IsSweepCount start (least ++ nearly) 1
 not-yet_two = counted-greatest start 1 least nearly are-joined refl one-counted.sweeps (unrenewed (run start least) nearly 1 0 refl refl)
 

@@ -1,4 +1,4 @@
--- Each refusal, on two nodes and on a square, and the first of two.
+-- Each refusal, on two nodes and on a square, and which of two comes first.
 use Rattle.std.proofs.Common.{◌≡◌, [], ◌∷◌, Some, None, true, false, refl}
 use Rattle.std.specs.List.{range_with_len}
 use Rattle.std.specs.Prelude.{[], ◌∷◌}
@@ -66,8 +66,8 @@ twice = refl
 stranger : refusal (step start (Ask 0 5)) (Leave 0 6) ≡ Some Stranger
 stranger = refl
 
--- the first refusal counts: no node comes before Full and Twice, before Stranger, and before out
--- of range
+-- the first refusal counts: NoNode comes before Full and Twice, before Stranger, and before
+-- OutOfRange
 no-node_before_full : refusal crowd (Ask 2 64) ≡ Some NoNode
 no-node_before_full = refl
 

@@ -35,7 +35,7 @@ alone-after_four = refl
 nobody-after_five : privileged_count (after 5) ≡ 0
 nobody-after_five = refl
 
--- once it has arrived, node 1 is
+-- once it has arrived, node 1 is privileged
 node-1_after_six : is_privileged (after 6) 1 ≡ true
 node-1_after_six = refl
 

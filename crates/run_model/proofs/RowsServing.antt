@@ -62,7 +62,7 @@ serves-with_ports port not_one = record {
   one_lending = one-of_two (λ v. IsTrue (is_lending (with_ports port) v)) (λ a b. false≢true b);
 }
 
--- the calm world: node 0 is privileged alone, and nobody lends
+-- the calm world: only node 0 is privileged, and nobody lends
 pub calm-serves : IsServing calm
 calm-serves = serves-with_ports (λ v. (calm.node v).port) refl
 
@@ -79,11 +79,11 @@ stale-tree_not_reached tree = let same = (tree.copied 1 0 refl).distance in absu
 
 -- ---- worlds that do not serve
 
--- the calm world with another state of one node
+-- the calm world with a different state of one node
 abbrev calm-but : ℕ → LocalState → World
 calm-but v s = record { net = two_nodes; spares = 0; node = λ u. if u == v then s else calm.node u; link = calm.link }
 
--- node 1's machine has another value, so both nodes are privileged
+-- node 1's machine has a different value, so both nodes are privileged
 abbrev pub two_tokens : World
 two_tokens = calm-but 1 (node_with 1 no_desk 1 0 0)
 
@@ -104,7 +104,7 @@ two_loans-do_not_serve s = let same = s.one_lending 0 1 (omega arith) (omega ari
 pub wrong-distance_does_not_serve : ¬ IsServing (calm-but 1 (record (calm.node 1) { distance = 2 }))
 wrong-distance_does_not_serve s = let l : 2 ≤ 1 = (s.distances 1 (omega arith)).least (1 ∷ []) (refl, refl) in absurd (omega (arith, l))
 
--- the root says that it is one away
+-- the root says that it is one step away
 pub wrong-root_does_not_serve : ¬ IsServing (calm-but 0 (record (calm.node 0) { distance = 1 }))
 wrong-root_does_not_serve s = let l : 1 ≤ 0 = (s.distances 0 (omega arith)).least [] refl in absurd (omega (arith, l))
 
@@ -116,6 +116,6 @@ wrong-parent_does_not_serve s = let p : IsTrueParent two_nodes 1 1 = s.parents 1
 pub orphan-does_not_serve : ¬ IsServing (calm-but 1 (record (calm.node 1) { parent = None }))
 orphan-does_not_serve s = false≢true (s.some_parent 1 (omega arith) (λ e. absurd cc))
 
--- the root has one
+-- the root has a parent
 pub root-with_parent_does_not_serve : ¬ IsServing (calm-but 0 (record (calm.node 0) { parent = Some 1 }))
 root-with_parent_does_not_serve s = absurd (let p = s.no_parent in cc)

@@ -89,7 +89,7 @@ other-direction = refl
 tick-that_lends : has_full_tick calm (Ask 0 5 ∷ Tick 0 ∷ Tick 1 ∷ []) 0 ≡ false
 tick-that_lends = refl
 
--- once the loan has ended, it is
+-- once the loan has ended, the tick is full
 tick-after_the_loan : has_full_tick calm (Ask 0 5 ∷ Tick 0 ∷ Leave 0 5 ∷ Tick 0 ∷ []) 0 ≡ true
 tick-after_the_loan = refl
 

@@ -99,7 +99,7 @@ calm-tree_reached = record {
 abbrev pub lending_desk : DeskState
 lending_desk = record { waiting = []; lent = Some 5; left = 0; served = false }
 
--- links and tree are right, but node 1's machine has another value, and both nodes lend
+-- links and tree are right, but node 1's machine has a different value, and both nodes lend
 abbrev pub forged : World
 forged = record {
   net = two_nodes;

@@ -36,7 +36,7 @@ changed-frame w e = record {
   lease = grind (arith, common_steps, handing-network);
 }
 
--- every event leaves them
+-- every event leaves them as they are
 pub step-frame : (w : World) (e : Event) → IsSameFrame w.net (step w e).net
 step-frame w e =
     cond_both (is_some (refusal w e)) w (changed w e) (λ (x : World). IsSameFrame w.net x.net) (λ _. other-edges w.net w.net.edges) (λ _. changed-frame w e)

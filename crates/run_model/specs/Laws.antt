@@ -61,7 +61,7 @@ UndamagedSplits = (w : World) (xs ys : List Event) → IsUndamaged w (xs ++ ys) 
 abbrev pub OwnNodeAlone : Type 0
 OwnNodeAlone = (w : World) (e : Event) (v : ℕ) → is_node_touched e v ≡ false → (step w e).node v ≡ w.node v
 
--- and one that is not a link's own leaves its items
+-- and one that is not a link's own leaves its items unchanged
 abbrev pub OwnLinkAlone : Type 0
 OwnLinkAlone = (w : World) (e : Event) (u v : ℕ) → is_link_touched e u v ≡ false → (step w e).link u v ≡ w.link u v
 

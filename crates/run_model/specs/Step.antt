@@ -59,8 +59,8 @@ harm_place_fault w (harm.Empty u v) = link_fault w u v
 harm_place_fault w (harm.Join u v) = nodes_fault w u v
 harm_place_fault w (harm.Part u v) = link_fault w u v
 
--- what a harm writes is in range; an item also needs room on its link, and an edge two nodes that
--- it may join
+-- what a harm writes is in range; an item also needs room on its link, and a new edge needs two
+-- nodes that it may join
 abbrev pub harm_fits : World → Harm → Bool
 harm_fits w (harm.Own v d p) = nat_le d w.net.nodes && parent_fits w.net.nodes p
 harm_fits w (harm.Counters v u seq last) = counters_fit (ranges_of w.net) seq last
@@ -100,11 +100,11 @@ refusal w (Ask v t) = first_fault (node_fault w v) (first_fault (ticket_fault t)
 refusal w (Leave v t) = first_fault (node_fault w v) (unless (not (is_stranger t (w.node v).desk)) Stranger)
 refusal w (Damage h) = first_fault (harm_place_fault w h) (harm_fault w h)
 
--- the world with another port of v to u
+-- the world with p as the port of v to u
 abbrev pub with_port : World → ℕ → ℕ → PortState → World
 with_port w v u p = with_node w v (record (w.node v) { port = at (w.node v).port u p })
 
--- the world with another desk at v
+-- the world with d as the desk of v
 abbrev pub with_desk : World → ℕ → DeskState → World
 with_desk w v d = with_node w v (record (w.node v) { desk = d })
 
@@ -125,7 +125,8 @@ harmed w (harm.Part u v) = without_edge w u v
 abbrev pub sent : World → ℕ → ℕ → World
 sent w u v = if has_room w u v then with_link w u v (w.link u v ++ Frame (frame_of ((w.node u).port v)) ∷ []) else w
 
--- v takes the oldest of these items, those under way from u to v; nothing if there is none
+-- v takes the oldest of these items, which are under way from u to v; if there is none, nothing
+-- changes
 abbrev pub handed_over : World → ℕ → ℕ → List Item → World
 handed_over w u v [] = w
 handed_over w u v (item ∷ rest) = with_link (with_node w v (taken (site w v) u item (w.node v))) u v rest

@@ -6,8 +6,8 @@ use Rattle.link_model.specs.topology.declared.frame.Payload.{Payload}
 use Rattle.node_core.specs.bfs_tree.Stage.{is_of_stage}
 use Rattle.run_model.specs.World.{World}
 
--- Stage k of the tree: every distance written for a node is exact if its true distance is below
--- k, and at least k elsewhere. It is written in three places: at the node itself, staged at each of
+-- Stage k of the tree: every distance written for a node is exact if its true distance is below k,
+-- and otherwise at least k. It is written in three places: at the node itself, staged at each of
 -- its ports, and copied at each of its neighbours.
 pub record IsTreeAtStage (k : ℕ) (w : World) : Type 0 where
   pub own : (v : ℕ) → v < w.net.nodes → IsTrue (is_of_stage k (distance_of w.net v) (w.node v).distance)

@@ -30,7 +30,7 @@ pub record IsWorldInRange (w : World) : Type 0 where
 abbrev pub site : World → ℕ → Site
 site w v = site_of w.net v
 
--- the world with another state of v
+-- the world with s as the state of v
 abbrev pub with_node : World → ℕ → LocalState → World
 with_node w v s = record w { node = at w.node v s }
 
@@ -38,6 +38,6 @@ with_node w v s = record w { node = at w.node v s }
 abbrev pub at_pair : {X : Type 0} → (ℕ → ℕ → X) → ℕ → ℕ → X → ℕ → ℕ → X
 at_pair f u v x i j = if (i == u) && (j == v) then x else f i j
 
--- the world with other items on the link from u to v
+-- the world with these items on the link from u to v
 abbrev pub with_link : World → ℕ → ℕ → List Item → World
 with_link w u v items = record w { link = at_pair w.link u v items }

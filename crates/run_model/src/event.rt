@@ -68,13 +68,13 @@ pub enum Harm {
         left: u16,
         served: bool,
     },
-    /// One more item on a link, as the newest.
+    /// A link gets one more item, as the newest.
     Item {
         from: u16,
         to: u16,
         item: Item,
     },
-    /// No item on a link any more.
+    /// A link loses all its items.
     Empty {
         from: u16,
         to: u16,
@@ -99,7 +99,7 @@ pub enum EventFault {
     /// There is no node with this id.
     #[error("NoNode")]
     NoNode,
-    /// The two nodes are no neighbours.
+    /// The two nodes are not neighbours.
     #[error("NoLink")]
     NoLink,
     /// The link has no such item.

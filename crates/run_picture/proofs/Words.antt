@@ -9,14 +9,14 @@ use Rattle.run_recording.specs.judge.Judging.{counted_up_to, refused_in}
 use Rattle.run_recording.specs.judge.JudgeView.{AreSweepsSeen}
 use Rattle.run_recording.specs.configuration.ConfigurationView.{world_of}
 use Rattle.run_recording.specs.Recordings.{RecordingView, IsRecorded}
-use Rattle.run_picture.specs.Words.{event_words, node_words, sweep_words, description_words, TellsOf}
+use Rattle.run_picture.specs.Words.{event_words, node_words, sweep_words, description_words, DescribesRun}
 
 refused_twice : (a b : ℕ) → counted_up_to (a + counted_up_to b) ≡ counted_up_to (a + b)
 refused_twice a b = grind (arith, common_steps)
 
 pub says_of : (start : World) (es : List Event) (r : RecordingView) (sweeps : ℕ) (words : List ℕ) → AreSweepsSeen r.judge sweeps
     → words ≡ description_words r.events (counted_up_to (r.unread + r.judge.refused)) (world_of r.judge.configuration) sweeps
-    → IsRecorded start es r → TellsOf start es r.unread words
+    → IsRecorded start es r → DescribesRun start es r.unread words
 says_of start es r sweeps words seen is recorded =
     let judging = recorded.seen.judging in
     let counted = seen start es recorded.seen in

@@ -17,26 +17,26 @@ round_number (suc zero) = 2
 round_number (suc (suc zero)) = 5
 round_number (suc (suc (suc k))) = 10 * round_number k
 
--- ticks that are as many events apart stand at least 70 apart, where a column shows as many moments
--- and is as wide
+-- ticks that are `step` events apart stand at least 70 apart, if a column shows `moments` moments
+-- and is `width` wide
 abbrev pub AreFarApart : ℕ → ℕ → ℕ → Type 0
 AreFarApart moments width step = 70 * moments ≤ step * width
 
--- the step is the first round number at which ticks are far enough apart; it is 10^19 where none
--- before that is one
+-- the step is the first round number at which ticks are far enough apart; it is 10^19 if there is
+-- none before that
 pub record IsRoundStep (moments width step : ℕ) : Type 0 where
   pub which : ℕ
   pub round : step ≡ round_number which
   pub first : (k : ℕ) → k < which → ¬ AreFarApart moments width (round_number k)
   pub far : AreFarApart moments width step ⊎ (step ≡ 10 ^ 19)
 
--- as many numbers, from one on, each a step above the one before it
+-- `count` numbers, from a given one on, each a step above the one before it
 abbrev pub row_from : ℕ → ℕ → ℕ → List ℕ
 row_from step number zero = []
 row_from step number (suc count) = number ∷ row_from step (number + step) count
 
--- where the moment after as many events is shown, if the first column begins with that after
--- `first` events, and each shows as many moments
+-- where the moment after `event` events is shown, if the first column begins with the moment after
+-- `first` events, and each column shows `moments` moments
 abbrev pub number_at : ℕ → ℕ → ℕ → AxisNumber
 number_at first moments event = record { place = (event - first) / moments; event = event }
 
@@ -56,8 +56,8 @@ number_shown page number =
     line_shown (x_of page number.place) (ground_of page) (x_of page number.place) (px (ground_of page + 6)) (whole Ink 1)
     ∷ words_shown (x_of page number.place) (px (ground_of page + 20)) Middle Ink (decimal number.event) ∷ []
 
--- This is the axis of the columns of a page, of which the first begins with the moment after `first`
--- events, and each shows as many moments: its numbers are a round step apart.
+-- This is the axis of the columns of a page; the first of these begins with the moment after
+-- `first` events, and each shows `moments` moments. Its numbers are a round step apart.
 pub record IsAxis (page : Page) (first moments : ℕ) (shown : List Shown) : Type 0 where
   pub step : ℕ
   pub round : IsRoundStep moments page.column.0 step
@@ -65,7 +65,8 @@ pub record IsAxis (page : Page) (first moments : ℕ) (shown : List Shown) : Typ
 
 -- ---- what the steps keep
 
--- the first of a power of ten, twice, and five times it at which ticks are far enough apart, if there is one
+-- the first of a power of ten, its double and five times it at which ticks are far enough apart, if
+-- there is one
 abbrev pub FirstFarApart : ℕ → ℕ → ℕ → Option ℕ → Type 0
 FirstFarApart moments width power (Some step) =
     AreFarApart moments width step

@@ -21,11 +21,12 @@ abbrev pub count_in : Curve → Column → ℕ
 count_in Privileged column = column.privileged
 count_in Lending column = column.lending
 
--- how high a node is, where the curves are 64 high at the most nodes: at least 1, at most 24
+-- the height of one node in the curves, so that they are 64 high at the most nodes; but at least 1,
+-- and at most 24
 abbrev pub node_height : ℕ → ℕ
 node_height most = max (min (64 / max most 1) 24) 1
 
--- the counts of the first column, if there is one
+-- the count of the first column; 0 if there is none
 abbrev pub first_count : List ℕ → ℕ
 first_count [] = 0
 first_count (count ∷ counts) = count
@@ -35,7 +36,7 @@ abbrev pub step_in : Page → ℕ → ℕ → ℕ → List ℕ
 step_in page node place count =
     codes "V" ++ (decimal (level_of page node count) ++ (codes "H" ++ decimal (x_of page (place + 1))))
 
--- so it goes on through these columns, of which the first stands at a place
+-- the curve's steps through these columns, the first of which stands at a given place
 abbrev pub steps_from : Page → ℕ → ℕ → List ℕ → List ℕ
 steps_from page node = over_each (step_in page node)
 
@@ -52,7 +53,8 @@ privileged_pen = whole Gold 3
 abbrev pub lending_pen : Pen
 lending_pen = record { colour = Red; width = 2; dashes = codes "4 2" }
 
--- both curves, where a node is as high: that of the privileged nodes, and over it that of those that lend
+-- both curves, if a node is `node` high: that of the privileged nodes, and over it that of the
+-- nodes that lend
 abbrev pub both_curves : Page → ℕ → List Column → List Shown
 both_curves page node columns =
     path_shown (curve_steps page node (map (count_in Privileged) columns)) privileged_pen
@@ -62,7 +64,7 @@ both_curves page node columns =
 abbrev pub curves_shown : Page → List Column → List Shown
 curves_shown page columns = both_curves page (node_height (most_nodes columns)) columns
 
--- the line at a number of nodes: the one at 1 stands out, for no more may be privileged
+-- the line at a number of nodes: the one at 1 stands out, since no more may be privileged
 abbrev pub level_pen : ℕ → Pen
 level_pen count = if count == 1 then record { colour = Ink; width = 1; dashes = codes "1 3" } else whole Faint 1
 
@@ -84,7 +86,7 @@ names_shown page y =
     ++ (name_shown (px (page.left.0 + 150)) y (codes "lending nodes") lending_pen
     ++ words_shown (right_of page) y End Ink (codes "events since the start") ∷ [])
 
--- the lines at no node, at 1 and at the most, and below them which curve is which
+-- the lines at 0 nodes, at 1 and at the most, and below them which curve is which
 abbrev pub levels_shown : Page → List Column → List Shown
 levels_shown page columns =
     flat_map (level_shown page (node_height (most_nodes columns))) (0 ∷ 1 ∷ most_nodes columns ∷ [])

@@ -1,5 +1,5 @@
--- What stands first in a picture: what it says to who does not see it, its ground, its headline, and
--- below that what the run was.
+-- What comes first in a picture: what it says to readers who do not see it, its ground, its
+-- headline, and below that what the run was.
 use Rattle.std.specs.Prelude.{ℕ, ◌+◌, List, [], ◌∷◌, codes}
 use Rattle.topology.specs.Network.{Network}
 use Rattle.run_recording.specs.judge.Judging.{counted_up_to}
@@ -12,7 +12,7 @@ use Rattle.run_picture.specs.Page.{page_width, page_height}
 use Rattle.run_recording.specs.Recordings.{RecordingView}
 use Rattle.run_picture.specs.Words.{title_words, headline_words, description_words}
 
--- what a recording says of its run
+-- what a recording says about its run
 abbrev pub said_words : RecordingView → List ℕ
 said_words r = description_words r.events (counted_up_to (r.unread + r.judge.refused)) (world_of r.judge.configuration) r.judge.sweeps
 

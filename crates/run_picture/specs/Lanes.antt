@@ -1,4 +1,4 @@
--- The lanes: of each node its marks from left to right.
+-- The lanes: the marks of each node, from left to right.
 use Rattle.std.specs.Prelude.{ℕ, suc, ◌+◌, ◌-◌, ◌*◌, ◌/◌, ◌==◌, if◌then◌else◌, nat_lt, List, [], ◌∷◌, ◌++◌, Option, None, Some, length, map, codes, decimal}
 use Rattle.std.specs.List.{flat_map}
 use Rattle.run_recording.specs.declared.column.Column.{Column}
@@ -18,14 +18,14 @@ use Rattle.run_picture.specs.Words.{ticket_words}
 abbrev pub width_of : Page → Run → ℕ
 width_of page run = px (page.column.0 * run.count)
 
--- the bar along a run, if its mark is as bad
+-- the bar along a run, if its mark has this rank
 abbrev pub bar : Page → ℕ → ℕ → Run → List ℕ
 bar page y bad run =
     if rank run.mark == bad then
     codes "M" ++ (decimal (x_of page run.first) ++ (codes " " ++ (decimal y ++ (codes "h" ++ decimal (width_of page run)))))
     else []
 
--- bars of one colour and height, as a thick line along their middles; nothing where there is no bar
+-- bars of one colour and height, as a thick line along their middles; nothing if there is no bar
 abbrev pub bars_shown : List ℕ → Colour → ℕ → List Shown
 bars_shown steps colour height = if length steps == 0 then [] else path_shown steps (whole colour height) ∷ []
 
@@ -59,8 +59,8 @@ lane_shown page lane runs =
     rect_shown page.left.0 (y_of page lane - ground_height page / 2) (right_of page - page.left.0) (ground_height page) Pale
     ∷ (all_bars_shown page (y_of page lane) (ground_height page) runs ++ flat_map (ticket_shown page (y_of page lane)) runs)
 
--- These are the lanes of these nodes, one below the other from a lane on: each shows the runs of what
--- its node is in these columns.
+-- These are the lanes of these nodes, one below the other from a lane on: each shows the runs of
+-- its node's marks in these columns.
 pub data AreLanes (page : Page) (columns : List Column) : ℕ → List ℕ → List Shown → Type 0 where
   NoLane : {lane : ℕ} → AreLanes page columns lane [] []
   Lane : {lane v : ℕ} {nodes : List ℕ} {others : List Shown} (runs : List Run)

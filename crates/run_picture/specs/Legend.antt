@@ -17,7 +17,7 @@ sign_shown x y Bolt =
 sign_shown x y (Upright colour width) = line_shown (px (x + 8)) (y - 10) (px (x + 8)) y (whole colour width)
 sign_shown x y (Edge colour width) = line_shown x (y - 4) (px (x + 16)) (y - 4) (whole colour width)
 
--- how far after a sign's place its meaning stands
+-- how far to the right of a sign's place its meaning is written
 abbrev pub room_of : Sign → ℕ
 room_of (Upright colour width) = 16
 room_of _ = 22
@@ -53,7 +53,7 @@ sign_meanings =
     ∷ record { sign = Upright Blue 2; words = codes "the guarantee holds from here" }
     ∷ record { sign = Edge Ink 3; words = codes "edge of the tree" } ∷ record { sign = Edge Faint 1; words = codes "other edge" } ∷ []
 
--- the legend, where a column shows as many moments
+-- the legend, if a column shows `width` moments
 abbrev pub legend_shown : ℕ → List Shown
 legend_shown width =
     meanings_shown 16 68 colour_meanings

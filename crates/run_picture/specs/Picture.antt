@@ -24,7 +24,7 @@ use Rattle.svg_drawing.specs.declared.colours.Colour.TheVariants.{Paper}
 use Rattle.svg_drawing.specs.Lengths.{px}
 
 -- what the element that holds a page says: that it is SVG 1.1, how large the page is, and in which
--- letters it is written
+-- font it is written
 abbrev pub attributes_of : ℕ → ℕ → List Given
 attributes_of width height =
     record { name = codes "xmlns"; value = codes "http://www.w3.org/2000/svg" } ∷ record { name = codes "version"; value = codes "1.1" }
@@ -32,14 +32,14 @@ attributes_of width height =
     ∷ record { name = codes "viewBox"; value = codes "0 0 " ++ (decimal width ++ (codes " " ++ decimal height)) }
     ∷ record { name = codes "font-family"; value = codes "sans-serif" } ∷ record { name = codes "font-size"; value = codes "11" } ∷ []
 
--- the same of a page
+-- the same for a page
 abbrev pub page_attributes : Page → List Given
 page_attributes page = attributes_of (page_width page) (page_height page)
 
 -- These elements show a recording on the page of a network, each part over those before it: head,
--- legend, tree, lanes, the curves' levels, the curves, the axis of events, and what stands above the
--- lanes. The lanes are those of the nodes in the order in which the tour of the tree comes to them
--- first.
+-- legend, tree, lanes, the curves' levels, the curves, the axis of events, and what stands above
+-- the lanes. The lanes are those of the nodes in the order in which the tour of the tree first
+-- reaches them.
 pub record ShowsRun (page : Page) (net : Network) (r : RecordingView) (shown : List Shown) : Type 0 where
   pub lanes : List Shown
   pub are_lanes : AreLanes page r.strip.columns 0 (first_visits net) lanes
@@ -59,15 +59,16 @@ pub record IsPicture (net : Network) (r : RecordingView) (drawing : Drawing) : T
   pub attributes : map given_of drawing.attributes.items ≡ page_attributes (page_of net (length r.strip.columns))
   pub elements : ShowsRun (page_of net (length r.strip.columns)) net r (map shown_of drawing.elements.items)
 
--- What had settled at the last moment of the last column, if that is not full: it shows so many moments,
--- and its last one is the end of the run, if the window holds that.
+-- What had settled at the last moment of the last column, if that column is not full. It shows
+-- `left` moments, the last of which is the end of the run. There is nothing if all columns are full
+-- or the window does not hold the end.
 pub data IsLastState (r : RecordingView) (left : ℕ) : List Layers → Type 0 where
   AllFull : left ≡ 0 → IsLastState r left []
   NotHeld : is_held r.window r.ended ≡ false → IsLastState r left []
   AtEnd : (layers : Layers) → 0 < left → is_held r.window r.ended ≡ true
       → AreLayersOf (world_of r.judge.configuration) layers → IsLastState r left (layers ∷ [])
 
--- it is added to the states of full columns
+-- the state of the last column, if there is one, is added to the states of the full columns
 abbrev pub AddsLastState : RecordingView → ℕ → List Layers → List Layers → Type 0
 AddsLastState r left old new = (last : List Layers) × IsLastState r left last × (new ≡ old ++ last)
 
@@ -80,7 +81,7 @@ AreStates r (Some lanes) states = AddsLastState r lanes.left lanes.states states
 abbrev pub AreStatesOf : RecordingView → List Layers → Type 0
 AreStatesOf r states = AreStates r r.lanes states
 
--- what stands below the picture: paper, and on it the lanes of what had settled
+-- what is below the picture: the background, and on it the lanes of what had settled
 abbrev pub below_shown : Page → List Layers → List Shown
 below_shown page states = rect_shown 0 (page_height page) (page_width page) 72 Paper ∷ all_lanes_shown page states
 

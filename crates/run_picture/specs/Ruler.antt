@@ -26,13 +26,13 @@ tick_over page place column =
     if nat_lt 0 column.sweeps then codes "M" ++ (decimal (middle_of page place) ++ (codes " " ++ (decimal 164 ++ codes "v10")))
     else []
 
--- either of them
+-- the mark or the tick, as asked for
 abbrev pub mark_over : RulerMark → Page → ℕ → Column → List ℕ
 mark_over Damage = damage_over
 mark_over Sweep = tick_over
 
--- how many sweeps have ended in these columns, where as many had before them; the count stays at the
--- greatest value of 64 bits
+-- how many sweeps have ended up to the end of these columns, if `before` had ended before them; the
+-- count stops at the greatest value of 64 bits
 abbrev pub ended_in : ℕ → List Column → ℕ
 ended_in before columns = counted_up_to (before + sum_by (λ column. column.sweeps) columns)
 
@@ -40,13 +40,13 @@ ended_in before columns = counted_up_to (before + sum_by (λ column. column.swee
 abbrev pub HasTick : List Column → ℕ → Type 0
 HasTick columns place = IfSome (slice_get columns place) (λ column. 0 < column.sweeps)
 
--- a number stands over the tick of one of the first columns, of which there are as many, and says how
--- many sweeps have ended up to this column
+-- a number stands over the tick of one of the first `upto` columns, and says how many sweeps have
+-- ended up to the end of this column
 abbrev pub IsSweepNumber : ℕ → List Column → ℕ → SweepNumber → Type 0
 IsSweepNumber before columns upto number =
     (number.place < upto) × HasTick columns number.place × (number.ended ≡ ended_in before (take (suc number.place) columns))
 
--- from where on there is room for the next number: 30 right of the one over a column
+-- from where there is room for the next number: 30 to the right of the number over a column
 abbrev pub room_after : Page → ℕ → ℕ
 room_after page place = px (middle_of page place + 30)
 
@@ -56,7 +56,7 @@ HaveRoom page [] = Unit {0}
 HaveRoom page (number ∷ []) = Unit {0}
 HaveRoom page (number ∷ next ∷ numbers) = (room_after page number.place ≤ middle_of page next.place) × HaveRoom page (next ∷ numbers)
 
--- one of the numbers stands over a column, or so near left of it that it leaves no room there
+-- one of the numbers stands over a column, or so near to its left that it leaves no room there
 abbrev pub IsTaken : Page → List SweepNumber → ℕ → Type 0
 IsTaken page [] place = ⊥
 IsTaken page (number ∷ numbers) place =
@@ -64,8 +64,8 @@ IsTaken page (number ∷ numbers) place =
     ⊎ ((number.place < place) × (middle_of page place < room_after page number.place))
     ⊎ IsTaken page numbers place
 
--- These are the numbers over the first columns, of which there are as many: each stands over a tick,
--- with its count of sweeps; they are far enough apart; and where a tick has none, there is no room.
+-- These are the numbers over the first `upto` columns: each stands over a tick, with its count of
+-- sweeps; they are far enough apart; and if a tick has no number, there is no room for one.
 pub record AreNumbers (page : Page) (before : ℕ) (columns : List Column) (upto : ℕ) (numbers : List SweepNumber) : Type 0 where
   pub right : AllByRecursion (IsSweepNumber before columns upto) numbers
   pub apart : HaveRoom page numbers
@@ -90,7 +90,8 @@ ticks_shown page columns = path_shown (over_each (tick_over page) 0 columns) (wh
 abbrev pub sweeps_shown : Page → SweepNumber → Shown
 sweeps_shown page number = words_shown (middle_of page number.place) 162 Middle Ink (decimal number.ended)
 
--- the line of a bound through the middle of a column, from an upper end to the curves' line at no node, and its name left of it
+-- the line of a bound through the middle of a column, from an upper end to the curves' line at 0
+-- nodes, and its name left of it
 abbrev pub guarantee_shown : Page → ℕ → ℕ → List ℕ → List ℕ → List Shown
 guarantee_shown page place top dashes name =
     line_shown (middle_of page place) top (middle_of page place) (ground_of page) (record { colour = Blue; width = 2; dashes = dashes })
@@ -109,7 +110,7 @@ ruler_shown page columns numbers =
     ++ (damage_shown page columns ∷ ticks_shown page columns
     ∷ (map (sweeps_shown page) numbers ++ over_each (guarantees_over page) 0 columns))
 
--- This stands above the lanes, where as many sweeps have ended before the first of these columns.
+-- This stands above the lanes, if `before` sweeps have ended before the first of these columns.
 pub record IsRuler (page : Page) (before : ℕ) (columns : List Column) (shown : List Shown) : Type 0 where
   pub numbers : List SweepNumber
   pub are_numbers : AreNumbers page before columns (length columns) numbers
@@ -123,6 +124,7 @@ has_room page [] place = true
 has_room page (number ∷ []) place = nat_le (room_after page number.place) (middle_of page place)
 has_room page (number ∷ next ∷ numbers) place = has_room page (next ∷ numbers) place
 
--- where as many sweeps end in the number's column, and there is room, the number stands after the others
+-- the numbers, and after them the given one, if `sweeps`, the count of sweeps that end in its
+-- column, is not 0 and there is room for it
 abbrev pub with_number : Page → ℕ → SweepNumber → List SweepNumber → List SweepNumber
 with_number page sweeps number numbers = if nat_lt 0 sweeps && has_room page numbers number.place then numbers ++ number ∷ [] else numbers

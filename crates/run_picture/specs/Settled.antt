@@ -12,7 +12,7 @@ use Rattle.run_picture.specs.declared.layout.settled.Layer.TheVariants.{Links, T
 use Rattle.run_picture.specs.Added.{over_each}
 use Rattle.run_picture.specs.Page.{ground_of, right_of, x_of}
 
--- what stands left of a layer's lane
+-- the name to the left of a layer's lane
 abbrev pub lane_words : Layer → List ℕ
 lane_words Links = codes "links"
 lane_words Tree = codes "tree"
@@ -25,14 +25,14 @@ colour_of Tree = Green
 colour_of Ring = Purple
 colour_of Loans = Vermilion
 
--- a layer's place among the four, from above
+-- a layer's place among the four, from the top
 abbrev pub row_of : Layer → ℕ
 row_of Links = 0
 row_of Tree = 1
 row_of Ring = 2
 row_of Loans = 3
 
--- how high a lane is of which a part stands: 8 if all of it does
+-- the height of a lane if a part of its layer holds: 8 if all of it does
 abbrev pub share : ℕ → ℕ → ℕ
 share part all = min (min part 1000000 * 8 / max all 1) 8
 
@@ -44,7 +44,7 @@ level_in Tree l = if l.tree then 8 else min (share l.stage l.last_stage) 7
 level_in Ring l = if l.ring then 8 else 0
 level_in Loans l = if l.loans then 8 else 0
 
--- where a layer's lane has its lower end: below the axis of events, 14 for each lane
+-- the lower end of a layer's lane: below the axis of events, 14 for each lane
 abbrev pub base_of : Page → Layer → ℕ
 base_of page layer = px (px (ground_of page + 80) + 14 * row_of layer)
 
@@ -62,7 +62,7 @@ settled_steps page base levels =
     codes "M" ++ (decimal page.left.0 ++ (codes " " ++ (decimal base
     ++ (settled_from page base 0 levels ++ (codes "V" ++ (decimal base ++ codes "z"))))))
 
--- the lane of a layer: its ground, over that where it stands, and left of it its name
+-- the lane of a layer: its ground, over that where the layer holds, and to the left its name
 abbrev pub settled_lane_shown : Page → Layer → List Layers → List Shown
 settled_lane_shown page layer states =
     rect_shown page.left.0 (base_of page layer - 8) (right_of page - page.left.0) 8 Pale

@@ -36,8 +36,8 @@ bow_steps x y end_x end_y =
     codes "M" ++ (decimal x ++ (codes " " ++ (decimal y ++ (codes "Q" ++ (decimal (px (max x end_x + bow_width (end_y - y)))
     ++ (codes " " ++ (decimal (px (y + (end_y - y) / 2)) ++ (codes " " ++ (decimal end_x ++ (codes " " ++ decimal end_y))))))))))
 
--- the line of an edge from a node in a lane to one in a lane below: thick and with a corner where the
--- edge is one of the tree, thin and round where it is not
+-- the line of an edge from a node in a lane to one in a lane below: thick and with a corner if the
+-- edge is one of the tree, thin and round if it is not
 abbrev pub line_down : Page → Network → ℕ → ℕ → ℕ → ℕ → Shown
 line_down page net v w upper lower =
     if is_on_tree net v w

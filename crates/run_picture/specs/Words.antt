@@ -23,7 +23,7 @@ size_words net = codes "nodes " ++ (decimal net.nodes ++ (codes ", edges " ++ (d
 abbrev pub limit_words : Network → List ℕ
 limit_words net = codes ", capacity " ++ (decimal net.capacity ++ (codes ", lease " ++ decimal net.lease))
 
--- after how many sweeps it has recovered, by the bound and by the sharp one
+-- after how many sweeps it has recovered, by the bound and by the sharp bound
 abbrev pub bound_words : ℕ → ℕ → List ℕ
 bound_words bound sharp = codes ", sweeps to recover " ++ (decimal bound ++ (codes ", sharp " ++ decimal sharp))
 
@@ -35,12 +35,12 @@ headline_words net = size_words net ++ (limit_words net ++ bound_words (bound_of
 abbrev pub event_words : ℕ → ℕ → List ℕ
 event_words events refused = decimal events ++ (codes " events, " ++ (decimal refused ++ codes " lines refused; "))
 
--- how many nodes are privileged and lend, in the world at the end
+-- how many nodes are privileged and how many lend, in the world at the end
 abbrev pub node_words : World → List ℕ
 node_words end =
     codes "at the end privileged " ++ (decimal (privileged_count end) ++ (codes ", lending " ++ (decimal (lending_count end) ++ codes ", ")))
 
--- how many sweeps have ended since the last damage, of how many that the bound asks for
+-- how many sweeps have ended since the last damage, and how many the bound asks for
 abbrev pub sweep_words : ℕ → ℕ → List ℕ
 sweep_words sweeps bound = codes "sweeps since the last damage " ++ (decimal sweeps ++ (codes " of " ++ decimal bound))
 
@@ -49,9 +49,9 @@ sweep_words sweeps bound = codes "sweeps since the last damage " ++ (decimal swe
 abbrev pub description_words : ℕ → ℕ → World → ℕ → List ℕ
 description_words events refused end sweeps = event_words events refused ++ (node_words end ++ sweep_words sweeps (bound_of end.net))
 
--- The words tell of the run of these events from the start on, where as many lines of its text
--- spelled no event. A count of lines or sweeps stays at the greatest value of 64 bits.
-pub record TellsOf (start : World) (es : List Event) (unread : ℕ) (words : List ℕ) : Type 0 where
+-- The words describe the run of these events from the start on, if `unread` lines of its text
+-- spelled no event. A count of lines or sweeps stops at the greatest value of 64 bits.
+pub record DescribesRun (start : World) (es : List Event) (unread : ℕ) (words : List ℕ) : Type 0 where
   pub sweeps : ℕ
   pub are_sweeps : IsSweepCount start es sweeps
   pub says : words ≡ description_words (length es) (counted_up_to (unread + refused_in start es)) (run start es) (counted_up_to sweeps)

@@ -48,7 +48,7 @@ pub struct Drawn {
 
 /// What makes a picture of a run.
 pub trait Draws: Copy {
-    /// The picture of what the events that a source gives lead to on a network.
+    /// The picture of the run that the events of a source make on a network.
     ///
     /// # Errors
     /// If memory runs out, or the source fails or gives too many bytes.
@@ -74,17 +74,17 @@ impl Draws for Wanted {
     }
 }
 
-/// Prints the picture of what the events of a file, or of standard input for `-`, lead to on the
-/// network of a file. Then it says on standard error why lines were refused that end in a
-/// carriage return. If `shows` says so, a line on standard error shows from the second second on how much of
-/// the events was read.
+/// Prints the picture of the run that the events of a file, or of standard input for `-`, make on
+/// the network of a file. Then, if lines were refused and the events have carriage returns, it says
+/// on standard error why such lines are refused. If `shows` is set, a line on standard error shows
+/// how much of the events was read, once two seconds have passed.
 ///
 /// What is unproved: that the events of a file are the bytes that were read, and that the picture
-/// stands in standard output; neither says what its bytes are.
+/// reached standard output; neither the file nor standard output says what its bytes are.
 ///
 /// # Errors
-/// If no network is read of the file, the events cannot be read or are too long, memory runs
-/// out, or standard output does not take the picture: the first of these that is met. Nothing is
+/// If no network can be read from the file, the events cannot be read or are too long, memory runs
+/// out, or standard output does not take the picture: the first of these that occurs. Nothing is
 /// printed but the whole picture, as far as standard output takes it.
 pub fn run<R: Files + Input + Clock + Print + Eprint + AllocGlobal, D: Draws>(
     rt: &R,
@@ -105,8 +105,8 @@ pub fn run<R: Files + Input + Clock + Print + Eprint + AllocGlobal, D: Draws>(
     Ok(events_status(refused))
 }
 
-/// Prints the picture of what the events that a reader gives lead to, and says then what there is to say
-/// of refused lines. The answer is how many were refused.
+/// Prints the picture of the run that the events of a reader make, and then says what there is to
+/// say about refused lines. Returns how many lines were refused.
 fn print_picture<R: Clock + Print + Eprint + AllocGlobal, E: Read + Drop, D: Draws>(
     rt: &R,
     net: &Net,
@@ -123,7 +123,7 @@ fn print_picture<R: Clock + Print + Eprint + AllocGlobal, E: Read + Drop, D: Dra
     Ok(refused)
 }
 
-/// Writes the picture of what the events that a source gives lead to. The answer is how many lines were
+/// Writes the picture of the run that the events of a source make. Returns how many lines were
 /// refused, or the writer's error.
 ///
 /// # Errors
@@ -139,7 +139,8 @@ pub fn write_picture<S: Source, W: Write, D: Draws>(
     Ok(put(output, drawn.text.as_slice(), drawn.refused))
 }
 
-/// The picture of a recording, as a text: with lanes of what has settled, if it has them.
+/// The picture of a recording, as a text: with lanes of what has settled, if the recording has
+/// them.
 fn picture(alloc: Global, net: &Net, recording: &Recording) -> Result<Vec<u8>, AllocError>
     // It is an XML document whose tags nest.
     ensures { IfOk result (λ text. IsContent text.items) }
@@ -152,7 +153,7 @@ fn picture(alloc: Global, net: &Net, recording: &Recording) -> Result<Vec<u8>, A
     spelled(alloc, &drawing)
 }
 
-/// Writes a text whole, and answers this number then.
+/// Writes the whole text, and then returns the given number.
 fn put<W: Write>(output: &mut W, text: &[u8], refused: u64) -> io::Result<u64>
     ensures text { OnOk result (Appends (W.contents output.old) (W.contents output.new) text.now) }
     ensures ok { IfOk result (λ given. given ≡ refused) }

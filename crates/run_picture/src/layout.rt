@@ -77,7 +77,8 @@ pub fn draw_layered(alloc: Global, net: &Net, recording: &Recording) -> Result<D
 }
 
 /// What had settled at the last moment of each column. If the last column is not full, its last
-/// moment is the end of the run; it has none if the window does not hold that.
+/// moment is the end of the run; if the window does not hold that moment, nothing stands for the
+/// column.
 fn states_of(alloc: Global, recording: &Recording) -> Result<Vec<Layers>, AllocError>
     ensures { IfOk result (λ states. AreStatesOf recording.now states.items) }
 {
@@ -90,8 +91,8 @@ fn states_of(alloc: Global, recording: &Recording) -> Result<Vec<Layers>, AllocE
     Ok(states)
 }
 
-/// Adds what has settled at the end, if so many moments, at least one, stand in no full column and the
-/// window holds the end.
+/// Adds what has settled at the end, if `left`, the number of moments in no full column, is not 0
+/// and the window holds the end.
 fn put_last(states: &mut Vec<Layers>, left: u64, recording: &Recording) -> Result<(), AllocError>
     ensures { OnOk result (AddsLastState recording.now left states.old.items states.new.items) }
 {

@@ -9,12 +9,12 @@
 //! let text = spelled(alloc, &drawing)?;      // bytes of a file that a browser shows
 //! ```
 //!
-//! Only the layout is made here: what is kept of a run is `run_recording`'s, and what a drawing is
-//! `svg_drawing`'s, whose names are offered again. [`command`] is the command `draw`, which prints a
-//! picture of the run that a file of events makes.
+//! Only the layout is made here. What is kept of a run is defined by `run_recording`, and what a
+//! drawing is by `svg_drawing`; their names are re-exported. [`command`] is the command `draw`,
+//! which prints a picture of the run that a file of events makes.
 //!
-//! The trap: the lanes and the tree are those of the network that is given, even if edges join
-//! and go; whether a node's distance and parent are true is asked of the network as it stands.
+//! The trap: the lanes and the tree are those of the given network, even if edges join and part;
+//! but whether a node's distance and parent are true is judged by the network at that moment.
 #![tactic(auto)]
 
 pub mod command;

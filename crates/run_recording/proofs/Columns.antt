@@ -95,7 +95,7 @@ follows_change [] old new change covered changed = tt
 follows_change (a ∷ []) old new change covered changed = arises a.marks old new change covered changed
 follows_change (a ∷ b ∷ columns) old new change covered changed = follows_change (b ∷ columns) old new change covered changed
 
--- the change is the last one if the moment before was kept, and any other if not
+-- the last change is enough if the moment before was kept; if not, all may have changed
 pub follows_where : (columns : List Column) (old new : List Mark) (change : Change) (was_kept : Bool) → (was_kept ≡ true → IsCovered columns old)
     → AreChangedBy change old new → Follows columns (if was_kept then change else All) new
 follows_where columns old new change true covered changed = follows_change columns old new change (covered refl) changed

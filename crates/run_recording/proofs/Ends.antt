@@ -1,4 +1,5 @@
--- What has settled at the ends of columns, with one more moment, and when each two columns become one.
+-- What has settled at the ends of columns, with one more moment, and when every two columns become
+-- one.
 use Rattle.std.proofs.Common.{◌≡◌, ◌∙◌, ap, sym, refl, subst, ℕ, zero, suc, ◌+◌, ◌*◌, ◌/◌, ◌<◌, ◌≤◌, List, [], ◌∷◌, ◌++◌, length, append_assoc, arith}
 use Rattle.std.proofs.lemmas.Grind.{common_steps}
 use Rattle.world.specs.run_model.World.{World}
@@ -24,11 +25,11 @@ ends_full {width = width} w now full seen (Full before end layers {worlds = worl
     subst (λ ws. AreEnds width 0 ws (layers ∷ (states ++ now ∷ []))) (sym (append_assoc before (end ∷ worlds) (w ∷ [])))
     (Full before end layers is was (ends_full w now full seen rest))
 
--- two columns more leave as many moments over
+-- two columns more leave the same number of moments over
 left_less : (columns width : ℕ) → left_after (suc (suc columns)) width ≡ left_after columns width
 left_less columns width = grind (arith, common_steps)
 
--- the same moments, when each two columns become one
+-- the same moments, when every two columns become one
 pub ends_paired : {width : ℕ} {worlds : List World} {states : List Layers} → 0 < width → AreEnds width 0 worlds states
     → AreEnds (width + width) (left_after (length states) width) worlds (seconds states)
 ends_paired some (Left worlds are few) = Left worlds are (omega (arith, some))
@@ -42,11 +43,12 @@ ends_paired {width = width} some (Full before end layers is seen (Full next last
 
 -- ---- their numbers
 
--- so many moments are left at most
+-- at most `width` moments are left over
 pub left_few : (columns width : ℕ) → left_after columns width ≤ width
 left_few columns width = grind (arith, common_steps)
 
--- half as many columns of twice as many moments, and those that are left, are all moments
+-- the moments of half as many columns of twice the width, and those that are left over, are all
+-- moments
 pub all_paired : (columns width : ℕ) → columns / 2 * (width + width) + left_after columns width ≡ columns * width
 all_paired zero width = grind (arith, common_steps)
 all_paired (suc zero) width = grind (arith, common_steps)

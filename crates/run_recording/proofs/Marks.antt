@@ -41,7 +41,7 @@ as_bad_same (a ∷ xs) = ap (λ m. m ∷ worse_marks xs xs) (worse_same a) ∙ a
 pub as_bad_after : (xs ys : List Mark) → AreAsBad (worse_marks xs ys) ys
 as_bad_after xs ys = worse_marks-assoc xs ys ys ∙ ap (worse_marks xs) (as_bad_same ys)
 
--- if one of the later marks changes, only that one is to be compared
+-- if one of the later marks changes, only that one need be compared
 pub as_bad_but_one : (xs ys : List Mark) (v : ℕ) (m d : Mark) → AreAsBad xs ys → v < length xs
     → worse_marks xs (slice_set ys v m) ≡ slice_set xs v (worse (slice_index_or xs v d) m)
 as_bad_but_one [] ys v m d bad there = grind (arith, common_steps)

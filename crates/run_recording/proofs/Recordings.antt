@@ -51,7 +51,7 @@ before_start window start (moment ∷ []) before events sweeps are few = record 
 }
 before_start window start (moment ∷ next ∷ moments) before events sweeps are few = let no : ⊥ = grind (arith, few) in elim no [ ]
 
--- if nothing was shown before an event, what is before it now; else what was
+-- what was before the first moment shown changes with an event only if nothing was shown until then
 before_more : (window : Window) (start : World) (es : List Event) (e : Event) (sweeps ended : ℕ) (moments shown : List Column) (was now : Before)
     → AreMoments window start es sweeps moments → AreMoments window start (es ++ e ∷ []) ended (moments ++ shown) → length shown ≤ 1
     → IsBeforeAny window start es moments was

@@ -35,7 +35,7 @@ as_bad = refl
 as_bad_not-worse : ¬ AreAsBad (Wrong ∷ Wrong ∷ []) (Settled ∷ Privileged ∷ [])
 as_bad_not-worse b = grind (arith, common_steps, b)
 
--- a node that was as bad at most becomes worse
+-- a node that was at most as bad becomes worse
 arises-one : ArisesFrom (Wrong ∷ Wrong ∷ []) (At 1) (Settled ∷ Privileged ∷ [])
 arises-one = (Settled ∷ Wrong ∷ [], refl, (omega arith, refl))
 

@@ -91,14 +91,14 @@ column_not-last = grind arith
 column-worst : worst (column_of Settled 0 1) (column_of Wrong 3 0 ∷ column_of Settled 1 1 ∷ []) ≡ column_of Wrong 3 2
 column-worst = refl
 
--- each two of three become one, and the third stays
+-- of three columns the first two become one, and the third stays
 folds : folded (column_of Wrong 2 1 ∷ column_of Privileged 1 1 ∷ column_of Settled 0 0 ∷ []) ≡ column_of Privileged 2 2 ∷ column_of Settled 0 0 ∷ []
 folds = refl
 
 folds_not-even : is_even (column_of Wrong 2 1 ∷ column_of Privileged 1 1 ∷ column_of Settled 0 0 ∷ []) ≡ false
 folds_not-even = refl
 
--- the last of these shows one moment; of an even number it shows more
+-- the last of these shows one moment; with an even number of columns it shows more
 folds-last : last_folded false 4 1 ≡ 1
 folds-last = refl
 

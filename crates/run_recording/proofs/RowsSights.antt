@@ -95,7 +95,7 @@ under_way-two = refl
 under_way_not-back : sent_between sent 1 0 ≡ 0
 under_way_not-back = refl
 
--- those from 0 to 1 stand at the place 1, and those from 1 to 0 at the place 12
+-- those from 0 to 1 are counted at place 1, and those from 1 to 0 at place 12
 under_way-places : (sent_at sent 1 ≡ 2) × (sent_at sent 12 ≡ 0)
 under_way-places = (refl, refl)
 

@@ -1,4 +1,4 @@
--- Small examples of stills, and some that look like them and are none.
+-- Small examples of stills, and some that look like them but are not.
 use Rattle.std.proofs.Common.{◌≡◌, ◌∙◌, ap, sym, subst, ℕ, Bool, true, false, List, [], ◌∷◌, ◌++◌, None, Some, inl, inr, refl, arith}
 use Rattle.std.proofs.lemmas.List.{append-nil}
 use Rattle.run_recording.specs.declared.still.Still.{Still}
@@ -66,7 +66,7 @@ last-one = refl
 join-calm : MayJoin (still true 3 0 1 ∷ still false 1 0 2 ∷ []) (still false 0 0 3)
 join-calm = inr refl
 
--- a weighty moment is joined with what looks otherwise only if there are too many
+-- a weighty moment is joined with what looks different only if there are too many stills
 join_not-struck : ¬ MayJoin (still true 0 0 1 ∷ []) struck
 join_not-struck (inl like) = let same = like.looks in grind (arith, same)
 join_not-struck (inr calm) = grind (arith, calm)
@@ -78,7 +78,7 @@ join-crowded = inr (refl, omega arith)
 together-last : together (still true 2 0 1) (still false 1 1 2 ∷ still false 0 0 3 ∷ []) ≡ still true 2 1 3
 together-last = refl
 
--- two moments that differ in their counts alone look alike; in an edge, they do not
+-- two moments that differ only in their counts look alike; two that differ in an edge do not
 like-counts : IsLike (still false 1 0 1) (still true 0 0 2)
 like-counts = record { looks = refl; places = refl; edges = refl }
 
@@ -91,7 +91,7 @@ like_not-parted like = let same = like.edges in grind (arith, same)
 stand-calm : StandFor false (still false 1 0 1 ∷ still false 0 0 2 ∷ []) (still false 1 0 2 ∷ [])
 stand-calm = Further (still false 1 0 1) (still false 0 0 2 ∷ []) (λ here. ((λ heavy. record { looks = refl; places = refl; edges = refl }), ((λ heavy. record { looks = refl; places = refl; edges = refl }), tt))) Nothing
 
--- a weighty moment is not shown as another one looks
+-- a weighty moment is not shown by a still that looks different
 faithful_not-struck : ¬ IsFaithful (still true 0 0 2) (struck ∷ still false 0 0 2 ∷ [])
 faithful_not-struck faithful = let same = (faithful.0 refl).looks in grind (arith, same)
 
@@ -101,7 +101,8 @@ one_faithful moments s (Further first later {moments = []} {stills = []} faithfu
     subst (λ ms. IsFaithful (together first later) (first ∷ ms)) (sym (append-nil later)) (faithful refl)
 one_faithful moments s (Further first later {moments = _ ∷ _} {stills = []} faithful never) = elim never [ ]
 
--- so damage is not hidden in the calm that follows, unless it says that there are too many
+-- so damage is not hidden in the calm that follows, unless the reel says that there are too many
+-- stills
 stand_not-hidden : ¬ StandFor false (struck ∷ still false 0 0 2 ∷ []) (still true 0 0 2 ∷ [])
 stand_not-hidden stand = faithful_not-struck (one_faithful _ _ stand)
 
@@ -140,7 +141,7 @@ stand_not-turned crowded stand = let same = ends crowded _ _ 0 stand in grind (a
 shows-opened : Shows (record { opening = Some (still false 0 0 0); stills = still true 0 0 1 ∷ []; limit = 2; crowded = false }) (still false 0 0 0 ∷ still true 0 0 1 ∷ [])
 shows-opened = (refl, Further (still true 0 0 1) [] (λ calm. ((λ heavy. record { looks = refl; places = refl; edges = refl }), tt)) Nothing)
 
--- and no other first one
+-- and no other first moment
 shows_not-another : ¬ Shows (record { opening = Some (still false 0 0 1); stills = []; limit = 2; crowded = false }) (still false 0 0 0 ∷ [])
 shows_not-another shows = let first = shows.0 in grind (arith, first)
 

@@ -71,7 +71,7 @@ added_apart [] new apart other = tt
 added_apart (run ∷ []) new apart other = (other, tt)
 added_apart (run ∷ next ∷ runs) new apart other = (apart.0, added_apart (next ∷ runs) new apart.1 other)
 
--- another run begins
+-- a new run begins
 pub begins : (runs : List Run) (place : ℕ) (m : Mark) → ¬ EndIn m runs
     → AreRunsNext runs place m (runs ++ record { first = place; count = 1; mark = m } ∷ [])
 begins runs place m other marks many runs_are =

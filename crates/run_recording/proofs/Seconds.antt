@@ -1,11 +1,11 @@
--- Every second one is kept, from the second on.
+-- Every second item is kept, from the second on.
 use Rattle.std.proofs.Common.{◌≡◌, ◌∙◌, ap, sym, refl, ℕ, ◌+◌, ◌-◌, ◌*◌, ◌/◌, ◌<◌, ◌≤◌, List, [], ◌∷◌, ◌++◌, length, take, drop, get_or, set, append_assoc, arith}
 use Rattle.std.proofs.lemmas.Grind.{common_steps}
 use Rattle.std.proofs.lemmas.List.{append-nil, at_drop_more, drop_more, take_more_set, drop-set-lt, drop-drop, get_or-drop}
 use Rattle.layers.specs.declared.whole.Layers.{Layers}
 use Rattle.run_recording.specs.Laned.{seconds}
 
--- the next one that is kept
+-- the next item that is kept
 seconds_next : (items : List Layers) (k : ℕ) (d : Layers) → 2 * k + 1 < length items
     → seconds (drop (2 * k) items) ≡ get_or items (2 * k + 1) d ∷ seconds (drop (2 * (k + 1)) items)
 seconds_next items k d within =
@@ -22,7 +22,7 @@ further items now k d same =
     ap (λ n. get_or now n d) there ∙ sym (get_or-drop k now (k + 1) d) ∙ ap (λ xs. get_or xs (k + 1) d) same
     ∙ get_or-drop k items (k + 1) d ∙ ap (λ n. get_or items n d) (sym there)
 
--- one more is kept
+-- one more item is kept
 pub one_kept : (items now : List Layers) (k : ℕ) (x d : Layers) → length now ≡ length items → 2 * k + 1 < length items → x ≡ get_or now (2 * k + 1) d
     → take k now ++ seconds (drop (2 * k) items) ≡ seconds items → drop k now ≡ drop k items
     → take (k + 1) (set now k x) ++ seconds (drop (2 * (k + 1)) items) ≡ seconds items
@@ -38,20 +38,20 @@ pub rest_same : (items now : List Layers) (k : ℕ) (x : Layers) → drop k now 
 rest_same items now k x same =
     drop-set-lt (k + 1) now k x (omega arith) ∙ sym (drop-drop 1 k now) ∙ ap (drop 1) same ∙ drop-drop 1 k items
 
--- of at most one none is kept
+-- of at most one item none is kept
 seconds_few : (items : List Layers) → length items ≤ 1 → seconds items ≡ []
 seconds_few [] few = refl
 seconds_few (a ∷ []) few = refl
 seconds_few (a ∷ b ∷ items) few = let no : ⊥ = grind (arith, few) in elim no [ ]
 
--- after half of them all are kept
+-- if k is half of the number of items, the first k are all that are kept
 pub all_kept : (items now : List Layers) (k : ℕ) → k ≡ length items / 2 → take k now ++ seconds (drop (2 * k) items) ≡ seconds items
     → take k now ≡ seconds items
 all_kept items now k half kept =
     let few : length (drop (2 * k) items) ≤ 1 = grind (arith, common_steps) in
     sym (append-nil (take k now)) ∙ ap (λ xs. take k now ++ xs) (sym (seconds_few (drop (2 * k) items) few)) ∙ kept
 
--- half of them are kept
+-- half of the items are kept
 pub seconds-length : (items : List Layers) → length (seconds items) ≡ length items / 2
 seconds-length [] = refl
 seconds-length (a ∷ []) = refl

@@ -56,7 +56,7 @@ place_there net v d there few =
 pub look_there : (w : World) (v : ℕ) → v < w.net.nodes → look_of w v ≡ look_at w v
 look_there w v there = grind (arith, common_steps)
 
--- ---- functions of ids that differ at one
+-- ---- functions of ids that differ at one id
 
 -- in a range that does not have the id they are the same
 same_map : {X : Type 0} (f g : ℕ → X) (v : ℕ) → ((u : ℕ) → u ≢ v → g u ≡ f u) → (a n : ℕ) → v < a
@@ -66,7 +66,7 @@ same_map f g v same a (suc n) above =
     ap (λ x. x ∷ map g (range_with_len (a + 1) n)) (same a (omega (arith, above)))
     ∙ ap (λ xs. f a ∷ xs) (same_map f g v same (a + 1) n (omega (arith, above)))
 
--- in a range that has it, one list is the other with another item there
+-- in a range that has it, one list is the other with the item there replaced
 changed_map : {X : Type 0} (f g : ℕ → X) (v : ℕ) → ((u : ℕ) → u ≢ v → g u ≡ f u) → (a k n : ℕ) → a + k ≡ v
     → map g (range_with_len a n) ≡ slice_set (map f (range_with_len a n)) k (g v)
 changed_map f g v same a k zero at = grind (arith, common_steps)
@@ -112,7 +112,7 @@ recount_is f g v n same within few =
     let long = length-range_with_len 0 n in
     recount _ _ (f v) (g v) (omega (arith, most, long, few)) (changed_count f g v same 0 v n (omega arith) within)
 
--- ---- a node has another look
+-- ---- the look of a node changes
 
 -- what is equal in each part is equal
 pub sight_is : (a b : NodesSight) → a.places ≡ b.places → a.edges ≡ b.edges → a.looks ≡ b.looks → a.marks ≡ b.marks → a.privileged ≡ b.privileged → a.lending ≡ b.lending → a ≡ b

@@ -17,7 +17,7 @@ same_more xs ys k d e there here same next =
     let more : k + 1 ≡ suc k = omega arith in
     rw more (take-suc xs k d there ∙ ap (λ zs. zs ++ get_or xs k d ∷ []) same ∙ ap (λ z. take k ys ++ z ∷ []) next ∙ sym (take-suc ys k e here))
 
--- and all of them
+-- and two lists that agree on all items are the same
 pub same_all : {X : Type 0} (xs ys : List X) (k : ℕ) → length xs ≡ k → length ys ≡ k → take k xs ≡ take k ys → xs ≡ ys
 same_all xs ys k there here same =
     sym (take-length xs) ∙ ap (λ n. take n xs) there ∙ same ∙ ap (λ n. take n ys) (sym here) ∙ take-length ys
@@ -58,7 +58,7 @@ calm_faithful still first (next ∷ later) calm =
     let parts = calm_parts first (together next later) calm in
     (not_weighty first still parts.0, calm_faithful still next later parts.1)
 
--- what one still shows faithfully, another does that is like it
+-- what one still shows faithfully, any still that is like it shows faithfully, too
 like_faithful : (old new : Still) (moments : List Still) → IsLike old new → IsFaithful old moments → IsFaithful new moments
 like_faithful old new [] like faithful = tt
 like_faithful old new (m ∷ moments) like faithful =
@@ -166,14 +166,14 @@ stands_calm crowded moments stills (Further first later faithful (Further next m
     mutual_calm crowded _ first later next more others after refl faithful (stands_calm crowded others after rest)
     (stands_calm crowded (next ∷ (more ++ others)) (together next more ∷ after) (Further next more fair rest))
 
--- ---- how far it has come
+-- ---- how far a fold has come
 
 -- what a fold makes of some stills is what is written and what it makes of the rest, for which there is room
 abbrev pub IsFoldedSoFar : (List Still → List Still) → List Still → List Still → List Still → ℕ → ℕ → Type 0
 IsFoldedSoFar fold stills written rest first now =
     (fold stills ≡ written ++ fold rest) × (length written + length rest ≤ now) × (now ≡ first)
 
--- ---- how many they are
+-- ---- how many stills there are
 
 folded_few : (stills : List Still) → length (folded true stills) ≤ length stills
 folded_few [] = omega arith
@@ -198,7 +198,7 @@ with_last-length [] m = refl
 with_last-length (a ∷ []) m = refl
 with_last-length (a ∷ b ∷ stills) m = ap suc (with_last-length (b ∷ stills) m)
 
--- what a slice of all stills has become stands in their place
+-- a slice of all stills, written, replaces them
 pub written_back : (stills now : List Still) (count : ℕ) (m : Still) → count ≡ length stills → now ≡ with_last stills m
     → take count (now ++ drop (length now) stills) ≡ with_last stills m
 written_back stills now count m all is =
@@ -234,14 +234,14 @@ last_may (a ∷ stills) m d some may =
 
 -- ---- the first moment
 
--- the reel that shows none is opened by one
+-- a reel that shows no moment is opened by one
 pub opens : (crowded : Bool) (limit : ℕ) (opening : Option Still) (stills moments : List Still) (m : Still) → opening ≡ None
     → Shows (record { opening = opening; stills = stills; limit = limit; crowded = crowded }) moments
     → Shows (record { opening = Some m; stills = stills; limit = limit; crowded = crowded }) (moments ++ m ∷ [])
 opens crowded limit opening stills [] m none (is, empty) = (refl, rw empty Nothing)
 opens crowded limit opening stills (first ∷ moments) m none (is, stand) = let never : ⊥ = grind (arith, none, is) in elim never [ ]
 
--- the reel that is opened stands for one moment more
+-- a reel that was opened stands for one moment more
 pub goes_on : (old new : ReelView) (moments : List Still) (m : Still) → ¬ (old.opening ≡ None) → new.opening ≡ old.opening
     → ((later : List Still) → StandFor old.crowded later old.stills → StandFor new.crowded (later ++ m ∷ []) new.stills)
     → Shows old moments → Shows new (moments ++ m ∷ [])

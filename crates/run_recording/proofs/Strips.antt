@@ -1,4 +1,4 @@
--- Columns with one more moment, and with the same moments when each two become one.
+-- Columns with one more moment, and with the same moments when every two become one.
 use Rattle.std.proofs.Common.{◌≡◌, ◌∙◌, ap, sym, refl, subst, ℕ, suc, ◌+◌, ◌≤◌, ◌<◌, ◌==◌, Bool, true, false, List, [], ◌∷◌, ◌++◌, length, take, drop, append_assoc, arith}
 use Rattle.std.proofs.lemmas.Grind.{common_steps}
 use Rattle.std.proofs.lemmas.List.{append-nil}
@@ -44,7 +44,7 @@ shown_last width last moments columns moment room
     (Further first later is
     (shown_last width last (next ∷ (more ++ others)) (worst next more ∷ columns_after) moment room (Further next more long rest)))
 
--- the same moments, when each two columns become one
+-- the same moments, when every two columns become one
 pub shown_folded : (width : ℕ) (last : ℕ) (moments columns : List Column) → 0 < width
     → AreShown width last moments columns → AreShown (width + width) (last_folded (is_even columns) width last) moments (folded columns)
 shown_folded width last moments columns some None = None
@@ -83,7 +83,7 @@ last_within width last moments columns None = omega arith
 last_within width last moments columns (Last first later is few) = few
 last_within width last moments columns (Further first later {moments = others} {columns = columns_after} is rest) = last_within width last others columns_after rest
 
--- columns folded in pairs are fewer
+-- columns folded in pairs are no more
 pub folded_few : (columns : List Column) → length (folded columns) ≤ length columns
 folded_few [] = omega arith
 folded_few (a ∷ []) = omega arith
@@ -107,17 +107,18 @@ written_back columns now count moment all is =
     let same : length now ≡ length columns = ap length is ∙ with_last-length columns moment in
     grind (arith, common_steps)
 
--- columns folded in pairs are no more, and fewer if there are pairs
+-- if there are columns, those folded in pairs are no more, and fewer if the number of columns is
+-- even
 pub folded_room : (columns : List Column) → 0 < length columns
     → (length (folded columns) ≤ length columns) × (is_even columns ≡ true → length (folded columns) < length columns)
 folded_room columns some = (folded_few columns, folded_fewer columns some)
 
--- the last column is full only if their number was even
+-- after a fold, the last column is full only if the number of columns was even
 even_where_full : (even : Bool) (width last : ℕ) → 0 < width → last ≡ width → last_folded even width last ≡ width + width → even ≡ true
 even_where_full true width last some full is = refl
 even_where_full false width last some full is = grind (arith, common_steps)
 
--- if the last column is full, there is room for one more
+-- if the last column is full after a fold, there is room for one more column
 pub full_room : (columns : List Column) (width last : ℕ) → 0 < width → last ≡ width → 0 < length columns
     → last_folded (is_even columns) width last ≡ width + width → length (folded columns) < length columns
 full_room columns width last some full there is = folded_fewer columns there (even_where_full (is_even columns) width last some full is)

@@ -59,7 +59,7 @@ abbrev pub IsReeled : Option ReelView → List Still → Type 0
 IsReeled None stills = Unit {0}
 IsReeled (Some reel) stills = Shows reel stills
 
--- how many stills a reel may hold after the first, if there is one
+-- how many stills a reel, if there is one, may hold after the first moment
 abbrev pub room_of : Option ReelView → Option ℕ
 room_of None = None
 room_of (Some reel) = Some reel.limit

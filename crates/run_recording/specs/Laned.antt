@@ -25,21 +25,21 @@ pub data AreWorlds (window : Window) (start : World) : List Event → ℕ → Li
       → AreWorlds window start (es ++ e ∷ []) (ended_with ended (counted_up_to before) (counted_up_to after))
       (worlds ++ world_if window (ended_with ended (counted_up_to before) (counted_up_to after)) (run start (es ++ e ∷ [])))
 
--- Each state is what has settled in the last of as many worlds; fewer worlds are left, which are
--- this many.
+-- Each state is what has settled in the last of `width` worlds. This many worlds are left, fewer
+-- than `width`.
 pub data AreEnds (width : ℕ) : ℕ → List World → List Layers → Type 0 where
   Left : {left : ℕ} (worlds : List World) → length worlds ≡ left → left < width → AreEnds width left worlds []
   Full : {left : ℕ} (before : List World) (w : World) (layers : Layers) {worlds : List World} {states : List Layers}
       → suc (length before) ≡ width → AreLayersOf w layers → AreEnds width left worlds states
       → AreEnds width left (before ++ w ∷ worlds) (layers ∷ states)
 
--- every second one, from the second on
+-- every second item, from the second on
 abbrev pub seconds : {X : Type 0} → List X → List X
 seconds [] = []
 seconds (a ∷ []) = []
 seconds (a ∷ b ∷ items) = b ∷ seconds items
 
--- how many moments are left without a full column, when each two of as many columns become one
+-- how many moments are left without a full column when this many columns are joined in pairs
 abbrev pub left_after : ℕ → ℕ → ℕ
 left_after columns width = if columns % 2 == 0 then 0 else width
 

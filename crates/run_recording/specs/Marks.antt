@@ -3,7 +3,7 @@ use Rattle.std.specs.Prelude.{ℕ, if◌then◌else◌, nat_lt, List, [], ◌∷
 use Rattle.run_recording.specs.declared.mark.Mark.{Mark}
 use Rattle.run_recording.specs.declared.mark.Mark.TheVariants.{Settled, Wrong, Privileged, Lending}
 
--- how bad a mark is: lending is worse than privileged, that than wrong
+-- how bad a mark is: lending is worse than privileged, and privileged is worse than wrong
 abbrev pub rank : Mark → ℕ
 rank Settled = 0
 rank Wrong = 1

@@ -17,7 +17,7 @@ use Rattle.run_recording.specs.Filmed.{filmed_if, still_of, IsReeled}
 use Rattle.run_recording.specs.UnderWay.{under_way_of}
 use Rattle.run_recording.specs.Recordings.{RecordingView, IsRecorded, IsReading, moment_of}
 
--- whether an event is damage, by whether it is accepted
+-- whether an event is accepted damage, given whether it is accepted
 abbrev pub IsDamageWhere : Event → Bool → Bool → Type 0
 IsDamageWhere e accepted damaged = (w : World) → is_none (refusal w e) ≡ accepted → damaged ≡ is_damage w e
 
@@ -38,7 +38,7 @@ EndsThere old new = (start : World) (bytes : List ℕ) → IsReading start bytes
 abbrev pub IsMomentSeen : NodesSight → Network → Bool → ℕ → ℕ → Column → Type 0
 IsMomentSeen sight net damaged before after column = (w : World) → sight ≡ sight_of w → net ≡ w.net → column ≡ moment_of w damaged before after
 
--- the still of a moment, for every world with this sight and with so many frames under way
+-- the still of a moment, for every world with this sight and with these numbers of frames under way
 abbrev pub IsStillSeen : NodesSight → List ℕ → Take → Still → Type 0
 IsStillSeen sight under_way take still = (w : World) → sight ≡ sight_of w → under_way ≡ under_way_of w → still ≡ still_of w take
 

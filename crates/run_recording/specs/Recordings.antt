@@ -64,7 +64,7 @@ pub data IsFirstHeld (window : Window) (start : World) : List Event → ℕ → 
       → AreMoments window start es sweeps [] → AreMoments window start (es ++ e ∷ []) ended (moment ∷ [])
       → IsFirstHeld window start (es ++ e ∷ []) sweeps
 
--- What was before the first moment of a run that a window holds: exactly the events of its front
+-- What came before the first moment of a run that a window holds: exactly the events of its front
 -- led to this moment, and this many sweeps had ended before it.
 pub record IsBefore (window : Window) (start : World) (es : List Event) (before : Before) : Type 0 where
   pub front : List Event
@@ -78,9 +78,10 @@ abbrev pub IsBeforeAny : Window → World → List Event → List Column → Bef
 IsBeforeAny window start es [] before = Unit {0}
 IsBeforeAny window start es (moment ∷ moments) before = IsBefore window start es before
 
--- what contracts see of a recording: its judge, what is kept of the line under way, the columns,
--- the stills of a film, if one is made, what has settled, if that is asked for, the window, the sweeps that have ended, the number of
--- events, the number of lines that spelled none, and what was before the first moment shown
+-- what contracts see of a recording: its judge; what is kept of the line under way; the columns;
+-- the stills of a film, if one is made; what has settled, if that is asked for; the window; the
+-- sweeps that have ended; the number of events; the number of lines that spelled none; and what
+-- came before the first moment shown
 pub record RecordingView : Type 0 where
   pub judge : JudgeView
   pub reader : Kept

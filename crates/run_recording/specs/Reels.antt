@@ -3,8 +3,8 @@ use Rattle.std.specs.Prelude.{◌≡◌, ℕ, Bool, List, [], ◌∷◌, Option,
 use Rattle.run_recording.specs.declared.still.Still.{Still}
 use Rattle.run_recording.specs.Stills.{StandFor}
 
--- the first moment; the stills of those after it; how many these may be; whether weighty moments had
--- to be joined too; and how many moments there were
+-- the first moment; the stills of those after it; how many of these there may be; and whether
+-- weighty moments had to be joined too
 pub record ReelView : Type 0 where
   pub opening : Option Still
   pub stills : List Still

@@ -34,7 +34,7 @@ pub record AreRuns (marks : List Mark) (runs : List Run) : Type 0 where
 
 -- ---- what the steps keep
 
--- the last run, if there is one, has this mark
+-- there is a last run, and it has this mark
 abbrev pub EndIn : Mark → List Run → Type 0
 EndIn mark [] = ⊥
 EndIn mark (run ∷ []) = run.mark ≡ mark
@@ -47,6 +47,7 @@ longer [] = []
 longer (run ∷ []) = record run { count = min (run.count + 1) (2 ^ 64 - 1) } ∷ []
 longer (run ∷ next ∷ runs) = run ∷ longer (next ∷ runs)
 
--- with one more mark, the runs of any marks become these
+-- if the old runs are those of any `place` marks, the new ones are those of the same marks followed
+-- by `mark`
 abbrev pub AreRunsNext : List Run → ℕ → Mark → List Run → Type 0
 AreRunsNext old place mark new = (marks : List Mark) → length marks ≡ place → AreRuns marks old → AreRuns (marks ++ mark ∷ []) new

@@ -59,11 +59,11 @@ place_at net v = if nat_lt v net.nodes then place_of net v else nowhere
 abbrev pub places_of : Network → List Place
 places_of net = map (place_at net) (range_with_len 0 64)
 
--- the edge at a place among the edges; past the last (0, 0), which joins no two nodes
+-- the edge at a place among the edges; past the last edge (0, 0), which joins no two nodes
 abbrev pub edge_at : Network → ℕ → Edge
 edge_at net k = slice_index_or net.edges k (0, 0)
 
--- the edges, at 256 places, the most of a network
+-- the edges, at 256 places: a network has at most that many
 abbrev pub edges_of : Network → List Edge
 edges_of net = map (edge_at net) (range_with_len 0 256)
 

@@ -13,12 +13,12 @@ pub record IsLike (a b : Still) : Type 0 where
   pub places : a.places ≡ b.places
   pub edges : a.edges ≡ b.edges
 
--- a still of the moments of two: it shows the later one, whether there was damage at either, and the
--- greater counts
+-- one still for the moments of two: it shows the later one, whether there was damage at either, and
+-- the greater counts
 abbrev pub joined : Still → Still → Still
 joined a b = record b { damaged = a.damaged || b.damaged; privileged = max a.privileged b.privileged; lending = max a.lending b.lending }
 
--- a still of a moment and of those after it
+-- one still for a moment and those after it
 abbrev pub together : Still → List Still → Still
 together first [] = first
 together first (next ∷ later) = joined first (together next later)
@@ -45,20 +45,20 @@ with_last (a ∷ b ∷ stills) moment = a ∷ with_last (b ∷ stills) moment
 abbrev pub are_calm : Still → Still → Bool
 are_calm a b = not (is_weighty a) && not (is_weighty b)
 
--- each two neighbouring stills as one: of all, or of those that are calm; the others stay, and so does an
--- odd one at the end
+-- neighbouring stills joined in pairs: all, or only those that are calm; the others stay, and so
+-- does an odd one at the end
 abbrev pub folded : Bool → List Still → List Still
 folded all [] = []
 folded all (a ∷ []) = a ∷ []
 folded all (a ∷ b ∷ stills) = if all || are_calm a b then joined a b ∷ folded all stills else a ∷ folded all (b ∷ stills)
 
--- the last still, which must be there, may stand for one moment more, since it shows what is seen at
--- it, or since neither is weighty
+-- there is a last still, and it may stand for one moment more, since it shows what is seen then, or
+-- since neither is weighty
 abbrev pub MayJoin : List Still → Still → Type 0
 MayJoin [] moment = ⊥
 MayJoin (a ∷ []) moment = IsLike a moment ⊎ IsTrue (are_calm a moment)
 MayJoin (a ∷ b ∷ stills) moment = MayJoin (b ∷ stills) moment
 
--- or since the stills are crowded
+-- the same, or since the stills are crowded and there is a last one
 abbrev pub MayLast : Bool → List Still → Still → Type 0
 MayLast crowded stills moment = MayJoin stills moment ⊎ ((crowded ≡ true) × (0 < length stills))

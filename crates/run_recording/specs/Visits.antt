@@ -9,7 +9,7 @@ use Rattle.layers.specs.euler_ring.Tour.{tour}
 abbrev pub with_new : List ℕ → ℕ → List ℕ
 with_new order v = if is_on order v then order else order ++ v ∷ []
 
--- each item of a list at its first place
+-- each item of a list once, at its first place
 abbrev pub first_of_each : List ℕ → List ℕ
 first_of_each items = fold with_new [] items
 

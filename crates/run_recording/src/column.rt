@@ -75,8 +75,8 @@ impl Column {
         }
     }
 
-    /// Makes this the worst of its moments and one more. Looks only at the marks that the change
-    /// names, since the column is at least as bad as the moment before.
+    /// Makes this the worst of its moments and one moment more. Looks only at the marks that the
+    /// change names, since the column is at least as bad as the moment before.
     fn worsen(&mut self, marks: &[Mark; MOST_NODES], change: Change, counts: &Counts)
         requires { ArisesFrom self.old.marks change marks.now }
         ensures { self.new ≡ worse_column self.old (column_of marks.now counts.now) }
@@ -121,7 +121,7 @@ pub fn is_even(columns: &[Column]) -> bool
     columns.len() % 2 == 0
 }
 
-/// The last column, if there is one, shows one moment more.
+/// Makes the last column, if there is one, show one moment more.
 pub fn worsen_last(
     columns: &mut [Column],
     marks: &[Mark; MOST_NODES],

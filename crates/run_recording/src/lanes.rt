@@ -10,8 +10,8 @@ use std::alloc::{AllocError, Allocator, Global};
 use std::marker::Model;
 use world::Configuration;
 
-/// What has settled at the last moment of each full column. A column shows as many moments as one of
-/// a [`Strip`](crate::Strip) with the same limit.
+/// What has settled at the last moment of each full column. A column shows as many moments as a
+/// column of a [`Strip`](crate::Strip) with the same limit.
 #[derive(Drop)]
 pub struct Lanes<A: Allocator + Copy = Global> {
     /// The layers at the last moment of each full column.
@@ -19,7 +19,7 @@ pub struct Lanes<A: Allocator + Copy = Global> {
     limit: usize,
     /// How many moments a column shows.
     width: u64,
-    /// How many moments there were after those of full columns.
+    /// How many moments came after those of the full columns.
     left: u64,
     /// How many moments there were.
     moments: u64,
@@ -68,7 +68,7 @@ impl<A: Allocator + Copy> Lanes<A> {
         self.states.as_slice()
     }
 
-    /// How many moments there were after those of full columns.
+    /// How many moments came after those of the full columns.
     pub fn left(&self) -> u64
         ensures { result ≡ self.now.left }
     {
@@ -89,7 +89,7 @@ impl<A: Allocator + Copy> Lanes<A> {
         self.add(configuration);
     }
 
-    /// Makes one column of each two, if all are full and there are as many as there may be.
+    /// Joins the columns in pairs, if all are full and there are as many as there may be.
     fn make_room(&mut self)
         requires { self.old.moments < 2 ^ 62 }
         ensures ends { (worlds : List World)
@@ -123,8 +123,8 @@ impl<A: Allocator + Copy> Lanes<A> {
         }
     }
 
-    /// Makes one column of each two, so that there is room for one more. If their number was odd, the
-    /// last one is not full any more.
+    /// Joins the columns in pairs, so that there is room for one more. If their number was odd, the
+    /// last one is no longer full.
     fn fold(&mut self)
         requires full { self.old.left ≡ 0 }
         requires some { 0 < length self.old.states }
@@ -142,7 +142,7 @@ impl<A: Allocator + Copy> Lanes<A> {
     }
 }
 
-/// How many moments are left without a full column, when each two of as many columns become one.
+/// How many moments are left without a full column when this many columns are joined in pairs.
 fn left_after(columns: usize, width: u64) -> u64
     ensures { result ≡ left_after columns width }
 {

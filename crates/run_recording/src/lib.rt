@@ -1,9 +1,10 @@
 //! What is seen of a run: which nodes were wrong, privileged or lending, and when.
 //!
 //! [`record`] reads an events text, lets its events happen, and keeps for each moment the [`Mark`]
-//! of each node, and how many nodes are privileged and lend. It keeps at most the given number of
-//! [`Column`]s: if there are more moments, a column shows the worst of several. [`runs_of`] gives
-//! the marks of a node as [`Run`]s of one mark, and [`first_visits`] the order of the nodes:
+//! of each node, and how many nodes are privileged and how many lend. It keeps at most the given
+//! number of [`Column`]s: if there are more moments, a column shows the worst of several.
+//! [`runs_of`] gives the marks of a node as [`Run`]s of one mark, and [`first_visits`] the order of
+//! the nodes:
 //!
 //! ```
 //! let recording = record(alloc, &net, &mut source, 1200, Window::ALL)?;
@@ -11,18 +12,18 @@
 //! ```
 //!
 //! A moment is the start, or the time after an event, refused or not; so there is one more moment
-//! than events. Nothing here knows about pages, colours or SVG.
+//! than there are events. Nothing here knows about pages, colours or SVG.
 //!
 //! For films, a [`Look`] is what is seen of one node, a [`Still`] what is seen of all nodes at a
-//! moment. A [`Reel`] takes the moments of a run one after the other, and keeps at most as many stills
-//! as it was made for: moments that do not differ share one, and if there are more, a still stands for
-//! a stretch of moments and shows the last of them. Calm stretches are joined first. A moment is
-//! *weighty* if there was damage, or if two nodes are privileged or two lend; it is shown as it was,
-//! unless there are so many that the reel is *crowded*.
+//! moment. A [`Reel`] takes the moments of a run one by one, and keeps no more stills than it was
+//! made for. Moments that do not differ share a still; if that is not enough, a still stands for a
+//! stretch of moments and shows the last of them. Calm stretches are joined first. A moment is
+//! *weighty* if there was damage, or if two nodes are privileged or two lend; it is shown as it
+//! was, unless there are so many of them that the reel is *crowded*.
 //!
-//! The traps: a still's counts are the greatest of its moments, and its looks those of the last; and
-//! a node's distance and parent are compared with the present network, whose edges may
-//! join and go; [`first_visits`] and [`is_tree_edge`] use the given network.
+//! The traps: a still's counts are the greatest of its moments, but its looks are those of the last
+//! one. A node's distance and parent are compared with the present network, whose edges may join
+//! and part; but [`first_visits`] and [`is_tree_edge`] use the given network.
 #![tactic(auto)]
 
 mod change;

@@ -11,7 +11,7 @@ pub struct Place {
 }
 
 impl Place {
-    /// What stands for a node that is not there.
+    /// Stands for the place of a node that does not exist.
     pub const NOWHERE: Place = Place {
         distance: 0,
         parent: None,
@@ -25,7 +25,7 @@ impl Place {
     }
 }
 
-/// Whether both are nobody, or both are the same.
+/// Whether both are none, or both are the same number.
 fn is_same(number: Option<u16>, other: Option<u16>) -> bool
     ensures { IsTrue result → number ≡ other }
 {
@@ -39,9 +39,9 @@ fn is_same(number: Option<u16>, other: Option<u16>) -> bool
 /// What is seen of a node at a moment.
 #[derive(Clone, Copy)]
 pub struct Look {
-    /// The place that it takes for its own.
+    /// The place that it takes to be its own.
     pub own: Place,
-    /// Whether that is its true one.
+    /// Whether that is its true place.
     pub settled: bool,
     /// Whether it is privileged.
     pub privileged: bool,
@@ -50,7 +50,7 @@ pub struct Look {
 }
 
 impl Look {
-    /// What stands for a node that is not there.
+    /// Stands for the look of a node that does not exist.
     pub const NOTHING: Look = Look {
         own: Place::NOWHERE,
         settled: true,

@@ -31,7 +31,7 @@ impl Mark {
         }
     }
 
-    /// The worse of two marks: this one, if the later one is as bad.
+    /// The worse of two marks: this one, if both are equally bad.
     pub fn worse(self, later: Mark) -> Mark
         ensures { result ≡ worse self later }
     {

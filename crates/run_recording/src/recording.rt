@@ -43,7 +43,7 @@ const PIECE: usize = 8192;
 /// How many pairs of links are spare at the start of a run: that many more edges may join.
 const SPARE_PAIRS: u16 = 8;
 
-/// What was before the first moment that is shown.
+/// What came before the first moment that is shown.
 #[derive(Clone, Copy, Debug)]
 pub struct Before {
     /// How many events have led to it.
@@ -127,7 +127,8 @@ pub fn record<A: Allocator + Copy, N: Allocator + Copy, R: Source>(
     recorded(alloc, net, source, columns, None, None, window)
 }
 
-/// The same, and also what has settled at the last moment of each full column.
+/// Does the same as [`record`], and also keeps what has settled at the last moment of each full
+/// column.
 ///
 /// # Errors
 /// Those of [`record`].
@@ -149,8 +150,8 @@ pub fn record_layers<A: Allocator + Copy, N: Allocator + Copy, R: Source>(
     recorded(alloc, net, source, columns, None, Some(lanes), window)
 }
 
-/// The same for a film: it also keeps at most `stills` stills after the first moment that is
-/// shown.
+/// Does the same as [`record`] for a film: it also keeps at most `stills` stills after the first
+/// moment that is shown.
 ///
 /// # Errors
 /// Those of [`record`].
@@ -171,7 +172,7 @@ pub fn record_film<A: Allocator + Copy, N: Allocator + Copy, R: Source>(
     recorded(alloc, net, source, 1, Some(reel), None, window)
 }
 
-/// The same, with this reel and these lanes, which show nothing yet.
+/// Does the same, with this reel and these lanes, which show nothing yet.
 fn recorded<A: Allocator + Copy, N: Allocator + Copy, R: Source>(
     alloc: A,
     net: &Net<N>,
@@ -213,7 +214,7 @@ pub struct Take {
     pub sweeps: u64,
 }
 
-/// The still of a film, by what is seen, and by how many frames are under way.
+/// The still of a film, made from what is seen and how many frames are under way.
 fn still_of(sight: &NodesSight, under_way: [u16; MOST_WAYS], take: Take) -> Still
     ensures { IsStillSeen sight.now under_way take result }
 {
@@ -310,7 +311,7 @@ fn counts_of<A: Allocator + Copy>(
     }
 }
 
-/// Whether an event is damage, by whether it is accepted.
+/// Whether an event is accepted damage, given whether it is accepted.
 fn is_damage(event: &Event, accepted: bool) -> bool
     ensures { IsDamageWhere event.now accepted result }
 {
@@ -321,7 +322,7 @@ fn is_damage(event: &Event, accepted: bool) -> bool
 }
 
 impl<A: Allocator + Copy> Recording<A> {
-    /// What is kept at the start of a run.
+    /// The recording at the start of a run.
     fn new(
         world: World<A>,
         mut strip: Strip<A>,
@@ -425,7 +426,7 @@ impl<A: Allocator + Copy> Recording<A> {
         }
     }
 
-    /// The last line of the text, if no newline ended it.
+    /// Takes the last line of the text, if no newline ended it.
     fn last_line(&mut self)
         requires { self.old.events < 2 ^ 61 }
         ensures text { EndsThere self.old self.new }
@@ -439,7 +440,7 @@ impl<A: Allocator + Copy> Recording<A> {
         }
     }
 
-    /// The next line, as [`Recording::line`] takes it, for the rare kinds of lines.
+    /// Takes the next line as [`Recording::line`] does, for the rare kinds of lines.
     #[inline(never)]
     fn rare_line(&mut self, line: TextLine)
         requires { self.old.events < 2 ^ 61 }
@@ -454,7 +455,7 @@ impl<A: Allocator + Copy> Recording<A> {
         self.line(line);
     }
 
-    /// The next line: lets its event happen.
+    /// Takes the next line, and lets its event happen.
     // A separate call would write the event to memory for each line, and read it again.
     #[inline(always)]
     fn line(&mut self, line: TextLine)
@@ -599,7 +600,7 @@ impl<A: Allocator + Copy> Recording<A> {
         self.unread.saturating_add(self.judge.refused())
     }
 
-    /// What was before the first moment that is shown.
+    /// What came before the first moment that is shown.
     pub fn before(&self) -> Before
         ensures { result ≡ self.now.before }
     {
@@ -607,7 +608,7 @@ impl<A: Allocator + Copy> Recording<A> {
     }
 }
 
-/// Takes up what is now, if nothing is shown yet.
+/// Replaces `before` by `now`, if nothing is shown yet.
 #[inline(always)]
 fn begin_at(before: &mut Before, is_first: bool, now: Before)
     ensures { before.new ≡ (if is_first then now else before.old) }
@@ -617,7 +618,8 @@ fn begin_at(before: &mut Before, is_first: bool, now: Before)
     }
 }
 
-/// What has changed since the last moment that was kept, if that is the moment before.
+/// The change since the last moment that was kept: the given one if that is the moment before, else
+/// [`Change::All`].
 #[inline(always)]
 fn change_where(was_kept: bool, change: Change) -> Change
     ensures { result ≡ (if was_kept then change else All) }

@@ -1,4 +1,4 @@
-//! At most so many stills of a run.
+//! A limited number of stills of a run.
 ghost use Rattle.std.specs.Prelude.{◌≡◌, ◌+◌, ◌<◌, ◌≤◌, List, [], ◌∷◌, ◌++◌, length, IfOk, IsTrue};
 ghost use Rattle.std.specs.Prelude.{false, option_map};
 ghost use Rattle.std.specs.Vec.{vec_capacity};
@@ -11,7 +11,7 @@ use std::alloc::{AllocError, Allocator, Global};
 use std::marker::Model;
 use std::mem;
 
-/// The stills of a run, at most as many as it was made for.
+/// The stills of a run, no more than the reel was made for.
 #[derive(Drop)]
 pub struct Reel<A: Allocator + Copy = Global> {
     /// The first moment.
@@ -20,11 +20,11 @@ pub struct Reel<A: Allocator + Copy = Global> {
     /// Where stills are joined; empty between two calls.
     spare: Vec<Still, A>,
     limit: usize,
-    /// How many states a still stands for at most, if it is calm.
+    /// The most states that a still stands for, if it is calm.
     width: u64,
     /// The same if it is weighty, once the reel is crowded.
     weighty_width: u64,
-    /// How many the last one stands for.
+    /// How many states the last still stands for.
     last: u64,
     /// Whether weighty moments had to be joined too.
     crowded: bool,
@@ -48,7 +48,8 @@ impl<A: Allocator + Copy> Model for Reel<A> {
 }
 
 impl<A: Allocator + Copy> Reel<A> {
-    /// A reel of no moments, of at most `limit` stills after the first. Its memory is taken here.
+    /// A reel without moments, of at most `limit` stills after the first moment. Takes all its
+    /// memory.
     pub fn new(alloc: A, limit: usize) -> Result<Reel<A>, AllocError>
         requires { 2 ≤ limit }
         ensures shows { IfOk result (λ reel. Shows reel []) }
@@ -89,7 +90,7 @@ impl<A: Allocator + Copy> Reel<A> {
         self.crowded
     }
 
-    /// One more moment.
+    /// Adds one more moment.
     pub fn push(&mut self, moment: &Still)
         ensures shows { (moments : List Still)
             → Shows self.old moments → Shows self.new (moments ++ moment.now ∷ []) }
@@ -102,7 +103,7 @@ impl<A: Allocator + Copy> Reel<A> {
         }
     }
 
-    /// One more moment after the first.
+    /// Adds one more moment after the first.
     fn push_later(&mut self, moment: &Still)
         ensures shows { (moments : List Still) → StandFor self.old.crowded moments self.old.stills
             → StandFor self.new.crowded (moments ++ moment.now ∷ []) self.new.stills }
@@ -121,7 +122,7 @@ impl<A: Allocator + Copy> Reel<A> {
         }
     }
 
-    /// Whether the last still may stand for a moment that looks otherwise.
+    /// Whether the last still may stand for a moment that looks different.
     fn takes(&self, moment: &Still) -> bool
         ensures { IsTrue result → MayLast self.now.crowded self.now.stills moment.now }
     {
@@ -132,7 +133,7 @@ impl<A: Allocator + Copy> Reel<A> {
         }
     }
 
-    /// Stills are joined, if there is no room for one more.
+    /// Joins stills, if there is no room for one more.
     fn make_room(&mut self)
         ensures shows { (moments : List Still) → StandFor self.old.crowded moments self.old.stills
             → StandFor self.new.crowded moments self.new.stills }
@@ -150,7 +151,7 @@ impl<A: Allocator + Copy> Reel<A> {
         self.last = self.width;
     }
 
-    /// Each two neighbouring stills that are calm become one.
+    /// Joins neighbouring stills in pairs, if both are calm.
     fn fold_calm(&mut self)
         ensures shows { (moments : List Still) → StandFor self.old.crowded moments self.old.stills
             → StandFor self.new.crowded moments self.new.stills }
@@ -163,7 +164,7 @@ impl<A: Allocator + Copy> Reel<A> {
         self.spare.clear();
     }
 
-    /// Each two stills become one, weighty or not.
+    /// Joins neighbouring stills in pairs, weighty or not.
     fn fold_all(&mut self)
         requires { 2 ≤ length self.old.stills }
         ensures shows { (moments : List Still) → StandFor self.old.crowded moments self.old.stills
@@ -190,7 +191,7 @@ fn ends_like(stills: &[Still], moment: &Still) -> bool
     }
 }
 
-/// Whether neither the last still nor a moment is weighty.
+/// Whether there is a last still, and neither it nor the moment is weighty.
 fn ends_calm(stills: &[Still], moment: &Still) -> bool
     ensures { IsTrue result → MayJoin stills.now moment.now }
 {
@@ -207,7 +208,8 @@ fn are_calm(first: &Still, second: &Still) -> bool
     !first.is_weighty() & !second.is_weighty()
 }
 
-/// Writes each two neighbouring stills as one: all, or those that are calm. The others stay.
+/// Writes neighbouring stills joined in pairs: all, or only those that are calm. The others stay as
+/// they are.
 fn fold_into<A: Allocator>(stills: &[Still], spare: &mut Vec<Still, A>, all: bool)
     requires empty { spare.old.items ≡ [] }
     requires room { length stills.now ≤ vec_capacity spare.old }

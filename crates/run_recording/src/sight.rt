@@ -20,8 +20,8 @@ use world::{Configuration, Event, Harm};
 
 /// What is seen of all nodes at one moment, by their ids.
 ///
-/// It is kept from event to event: an event changes the look of at most one node, unless it is
-/// damage to the edges, which alone changes the true places.
+/// It is updated event by event: an event changes the look of at most one node, unless it is damage
+/// to the edges, which alone changes the true places.
 #[derive(Clone, Copy)]
 pub struct NodesSight {
     /// The true places.
@@ -172,7 +172,7 @@ fn marks_of(looks: &[Look; MOST_NODES]) -> [Mark; MOST_NODES]
     marks
 }
 
-/// A count of nodes when one of them may have started or stopped counting.
+/// Updates a count of nodes: one node may have started or stopped being counted.
 fn recounted(count: usize, was: bool, is: bool) -> usize
     ensures { result ≡ recounted count was is }
 {

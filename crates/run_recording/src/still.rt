@@ -7,16 +7,16 @@ ghost use Rattle.world.specs.run_model.topology.Network.{are_joined};
 use crate::look::{Look, Place};
 use world::Event;
 
-/// The nodes that a network has at most.
+/// The most nodes that a network may have.
 pub const MOST_NODES: usize = 64;
 
-/// The edges that a network has at most.
+/// The most edges that a network may have.
 pub const MOST_EDGES: usize = 256;
 
-/// The most nodes of a network for which it is seen what is under way.
+/// What is under way is seen only in a network of at most this many nodes.
 pub const MOST_FRAMED: u16 = 12;
 
-/// How many pairs of such nodes there are.
+/// How many pairs (u, v) of nodes such a network has at most.
 pub const MOST_WAYS: usize = 144;
 
 /// Stands for no edge, since an edge joins two different nodes.
@@ -31,8 +31,9 @@ pub struct Still {
     pub places: [Place; MOST_NODES],
     /// The edges, and [`NO_EDGE`] at the places that have none.
     pub edges: [(u16, u16); MOST_EDGES],
-    /// How many frames are under way from a node to another: from u to v those at the place 12 u + v. In a
-    /// network of more than [`MOST_FRAMED`] nodes they are not seen, and all places hold 0.
+    /// How many frames are under way from one node to another: at the place 12 u + v those from u
+    /// to v. In a network of more than [`MOST_FRAMED`] nodes they are not seen, and all places hold
+    /// 0.
     pub under_way: [u16; MOST_WAYS],
     /// How many events have led to the moment.
     pub events: u64,
@@ -56,7 +57,7 @@ impl Still {
         self.damaged | (self.privileged >= 2) | (self.lending >= 2)
     }
 
-    /// One still of the moments of this one and of the later one's.
+    /// One still for the moments of this still and of the later one.
     pub fn joined(&self, later: &Still) -> Still
         ensures { result ≡ joined self.now later.now }
     {
@@ -68,7 +69,7 @@ impl Still {
         }
     }
 
-    /// Whether both show the same nodes in the same way.
+    /// Whether both show the same nodes in the same way, and the same edges.
     pub fn is_like(&self, other: &Still) -> bool
         ensures { IsTrue result → IsLike self.now other.now }
     {
@@ -77,7 +78,7 @@ impl Still {
             && are_same(&self.edges, &other.edges)
     }
 
-    /// Whether an edge joins two different nodes.
+    /// Whether an edge joins these two different nodes.
     pub fn joins(&self, v: u16, w: u16) -> bool
         ensures { result ≡ are_joined self.now.edges v w }
     {
@@ -85,7 +86,7 @@ impl Still {
     }
 }
 
-/// The last still, if there is one, stands for one moment more.
+/// Makes the last still, if there is one, stand for one moment more.
 pub fn join_last(stills: &mut [Still], moment: &Still)
     ensures { stills.new ≡ with_last stills.old moment.now }
 {

@@ -16,7 +16,7 @@ use std::marker::Model;
 use std::mem;
 
 /// Columns that each show the worst of `width` moments; the last may still show fewer. If there is
-/// no room for one more column, each two become one.
+/// no room for one more column, the columns are joined in pairs.
 #[derive(Drop)]
 pub struct Strip<A: Allocator + Copy = Global> {
     columns: Vec<Column, A>,
@@ -25,7 +25,7 @@ pub struct Strip<A: Allocator + Copy = Global> {
     limit: usize,
     /// How many moments a column shows.
     width: u64,
-    /// How many the last one shows; `width` if there is none.
+    /// How many moments the last column shows; `width` if there is none.
     last: u64,
     /// How many moments there were.
     moments: u64,
@@ -86,8 +86,8 @@ impl<A: Allocator + Copy> Strip<A> {
         self.width
     }
 
-    /// Adds one more moment, at most 2^62 in all. The change is that since the moment before, or
-    /// [`Change::All`] if this one was not added.
+    /// Adds one more moment, at most 2^62 in all. The change is the one since the moment before, or
+    /// [`Change::All`] if that moment was not added.
     #[inline(always)]
     pub fn push(&mut self, marks: &[Mark; MOST_NODES], change: Change, counts: &Counts)
         requires few { self.old.moments < 2 ^ 62 }

@@ -7,7 +7,7 @@ use crate::still::{MOST_FRAMED, MOST_WAYS};
 use std::alloc::Allocator;
 use world::Configuration;
 
-/// How many frames are under way from a node to another: those of the place 12 u + v, from u to v.
+/// How many frames are under way from one node to another: at the place 12 u + v, from u to v.
 fn sent_at<A: Allocator + Copy>(configuration: &Configuration<A>, place: usize) -> u16
     requires { place < 144 }
     ensures { result ≡ sent_at (world_of configuration.now) place }
@@ -21,7 +21,7 @@ fn sent_at<A: Allocator + Copy>(configuration: &Configuration<A>, place: usize) 
     }
 }
 
-/// How many frames are under way from each node to each other, at the places of the pairs.
+/// How many frames are under way from each node to each other node, by the places of the pairs.
 pub fn under_way_of<A: Allocator + Copy>(configuration: &Configuration<A>) -> [u16; MOST_WAYS]
     ensures { result ≡ under_way_of (world_of configuration.now) }
 {

@@ -19,7 +19,7 @@ impl Window {
         to: u64::MAX,
     };
 
-    /// Whether a moment is shown at which this many sweeps have ended.
+    /// Whether a moment at which this many sweeps have ended is shown.
     pub fn holds(self, ended: u64) -> bool
         ensures { result ≡ is_held self ended }
     {

@@ -73,9 +73,9 @@ module _ {P : Type 0} (gave took : P → Option (List ℕ)) (counts : P → Coun
       × ((events : List Event) → IsOrderOf account (history_on w wires) events
       → KeepsPromise w last events))
 
-  -- A port whose link is up is given a frame again and again, whatever the pace of its node remembers
-  -- at first: in a turn that begins the repetition time after an instant, if not before. The instant
-  -- may be any from the first turn on.
+  -- A port whose link is up is given a frame again and again, whatever the pace of its node
+  -- remembers at first: after any instant from the first turn on, by the end of each turn that
+  -- begins the repetition time or more later.
   abbrev pub PortsAreGivenAgain : Type 0
   PortsAreGivenAgain =
       (w : ℕ) (first : Moment P) (turns : List (TimedTurn P)) (pace : Pace) (start until : ℕ)

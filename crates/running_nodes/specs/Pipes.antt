@@ -11,8 +11,8 @@ use Rattle.processes.specs.Connections.{accepted_frames, given_frames, IsWithin,
 use Rattle.processes.specs.Connections.{history_over}
 use Rattle.running_nodes.specs.Stood.{Stood}
 
--- A connection as the two nodes saw it: at the sender's port, and at the receiver's. Either may not
--- have taken it up, or not in this stretch.
+-- A connection as the two nodes saw it: at the sender's port, and at the receiver's. Either node
+-- may not have taken it up, or not in this stretch.
 pub record Ends (P : Type 0) : Type 0 where
   pub out : Option (Stood P)
   pub into : Option (Stood P)
@@ -44,7 +44,7 @@ module _ {P : Type 0} where
     pub stands : c.link.pipe ≡ Some pipe
     pub all : gave pipe ≡ Some (c.start.given ++ bytes)
 
-  -- since the start its pipe took, and has yet to take, these bytes
+  -- these bytes are what its pipe took since the start, and then what it has yet to take
   pub record TookSince (took : P → Option (List ℕ)) (c : Stood P) (bytes : List ℕ) : Type 0 where
     pub pipe : P
     pub taken : List ℕ
@@ -63,7 +63,7 @@ module _ {P : Type 0} where
     pub takes : TookSince took out taken
     pub beginning : given ++ ahead ≡ junk ++ taken
 
-  -- the same if there was no sender any more
+  -- the same without a sender: what the receiver's pipe gave is a beginning of the junk
   pub record IsOnlyRead (gave : P → Option (List ℕ)) (junk : List ℕ) (into : Stood P) : Type 0 where
     pub given : List ℕ
     pub ahead : List ℕ
@@ -78,7 +78,7 @@ module _ {P : Type 0} where
   AreEnds gave took junk (Some out) (Some into) = IsOneStream gave took junk out into
 
   -- These acts are what happened on that connection: its ends are joined, what was accepted is what
-  -- was sent at the one end, what was given is what was taken at the other, and at most so many
+  -- was sent at the one end, what was given is what was taken at the other, and at most `capacity`
   -- frames were under way.
   pub record Carries (r : Ranges) (capacity : ℕ) (gave took : P → Option (List ℕ)) (junk : List ℕ)
       (acts : List Act) (ends : Ends P) : Type 0 where
@@ -87,7 +87,7 @@ module _ {P : Type 0} where
     pub given : given_frames acts ≡ taken_at ends.into
     pub within : IsWithin capacity (length (good_lines r junk)) acts
 
-  -- so it is with each connection of a link; junk stands on the first one alone
+  -- this holds of each connection of a link; junk stands on the first one alone
   abbrev pub CarryOn : Ranges → ℕ → (P → Option (List ℕ)) → (P → Option (List ℕ)) → List ℕ
       → List Ended → List Act → List (Ends P) → Type 0
   CarryOn r capacity gave took junk [] acts [] = ⊥

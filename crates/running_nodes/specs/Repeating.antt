@@ -12,7 +12,7 @@ use Rattle.processes.specs.Accounts.{Timed, deeds}
 use Rattle.processes.specs.Turns.{Turn}
 
 -- A turn, or what was done between two: its first and its last instant, what the node did and when,
--- and how it stood after it.
+-- and how it was after it.
 pub record TimedTurn (P : Type 0) : Type 0 where
   pub when : Turn
   pub did : List Timed
@@ -32,13 +32,14 @@ abbrev pub BeginsBy : {P : Type 0} → ℕ → List (TimedTurn P) → Type 0
 BeginsBy start [] = ⊥
 BeginsBy start (t ∷ ts) = t.when.begins ≤ start
 
--- A turn ends after it began, each deed is done meanwhile, and the turns that follow begin later.
+-- A turn does not end before it begins, each deed is done within it, and the turns that follow do
+-- not begin before it ends.
 pub record IsInTime {P : Type 0} (t : TimedTurn P) (ts : List (TimedTurn P)) : Type 0 where
   pub lasts : t.when.begins ≤ t.when.ends
   pub deeds_are : AllByRecursion (λ d. (t.when.begins ≤ d.instant) × (d.instant ≤ t.when.ends)) t.did
   pub later : AllByRecursion (λ next. t.when.ends ≤ next.when.begins) ts
 
--- The link to w was up: as the plan was made it took frames, and if one was offered on it, it
+-- The link to w was up: when the plan was made it took frames, and if one was offered on it, it
 -- accepted one.
 pub record WasUp {P : Type 0} (w : ℕ) (at : Moment P) (plan : Plan) (account : List Deed) : Type 0 where
   pub takes : takes_frames (slice_get at.ports w) ≡ true

@@ -17,8 +17,8 @@ use Rattle.running_nodes.specs.Pipes.{Ends, IsLinkOfPipes}
 use Rattle.running_nodes.specs.Stood.{Start, Stood, PortWas, StartsAt}
 use Rattle.running_nodes.specs.Stretches.{Went, Goes, all_deeds}
 
--- What the nodes of a world did: how each stood at first, its turns, how it stood at last, and what
--- the pipe of each of its ports had given and taken at first.
+-- What the nodes of a world did: how each was at first, its turns, how it was at last, and what the
+-- pipe of each of its ports had given and taken at first.
 pub record Runs (P : Type 0) : Type 0 where
   pub first : ℕ → Moment P
   pub turns : ℕ → List (Went P)

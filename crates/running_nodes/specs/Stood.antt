@@ -7,9 +7,9 @@ use Rattle.socket_links.specs.Links.{IsPulled, IsPushed}
 use Rattle.socket_links.specs.declared.link.SocketLink.{SocketLink}
 use Rattle.processes.specs.Connections.{lines_of}
 
--- What the pipe of a connection had given and taken when it was taken up: a hello, as a rule. Of a
--- connection that stood at the start of the stretch: all but the half line that was read of the
--- next frame; and all that was accepted by then, whether it was written or not.
+-- What the pipe of a connection had given and taken when it was taken up: a hello, as a rule. For a
+-- connection that stood at the start of the stretch, given is all but the half line that was read
+-- of the next frame, and taken is all that was accepted by then, whether it was written or not.
 pub record Start : Type 0 where
   pub given : List ℕ
   pub taken : List ℕ
@@ -49,7 +49,7 @@ module _ {P : Type 0} (r : Ranges) (gave took : P → Option (List ℕ)) where
     pub sends : all_sent cs ≡ sent
 
   -- What a link keeps at the start of a stretch is what its pipe gave and what is left to write.
-  -- Every link without a pipe is so.
+  -- This holds for every link without a pipe.
   pub record StartsAt (start : Start) (link : SocketLink P) : Type 0 where
     pub pulled : IsPulled r gave start.given [] link
     pub pushed : IsPushed took start.taken link

@@ -6,7 +6,7 @@ use Rattle.node_core.specs.Deeds.{Deed}
 use Rattle.node_loop.specs.Moments.{Moment}
 use Rattle.node_loop.specs.Turns.{Attends, Turns}
 
--- the account of a turn, or of what was done between two, and how the node stood after it
+-- the account of a turn, or of what was done between two, and how the node was after it
 pub record Went (P : Type 0) : Type 0 where
   pub account : List Deed
   pub after : Moment P

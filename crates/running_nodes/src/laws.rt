@@ -19,11 +19,12 @@ pub fn ends<P: Pipe>()
     ensures { EndsAreConnections P.gave P.took }
 {}
 
-/// The headline and the service of nodes that run, whole. What is asked of the nodes: each goes by
-/// turns of a `NodeRun`, and by `attend` between them; and what its ports keep at first is what their
-/// pipes gave and have yet to write. What is asked of the pipes: each gives, later, a beginning of
-/// what the other end took; connections follow one another; whole lines stand on a link at the
-/// start; and at most as many frames as the capacity are under way. Nothing else is asked.
+/// The whole of the headline and the service, for nodes that run. What is asked of the nodes: each
+/// goes by turns of a `NodeRun`, and by `attend` between them; and what its ports keep at first is
+/// what their pipes gave and have yet to write. What is asked of the pipes: each gives, later, a
+/// beginning of what the other end took; connections follow one another; whole lines stand on a
+/// link at the start; and at most as many frames as the capacity are under way. Nothing else is
+/// asked.
 pub fn promise<P: Pipe>()
     ensures are { NodeRunsAreProcesses P.gave P.took P.counts }
     ensures keep { NodeRunsKeepPromise P.gave P.took P.counts }
@@ -33,10 +34,10 @@ pub fn promise<P: Pipe>()
     processes::laws::promise_over_bytes();
 }
 
-/// The repetition time, kept: from its first turn on a node gives each port whose link is up a frame
-/// in each turn that begins `repeat` after an instant, if not before. Its pace may remember anything
-/// at first, as after damage. So a network of such nodes keeps this part of the pace that
-/// `processes::laws::pace` asks for.
+/// The repetition time is kept: after any instant from its first turn on, a node gives each port
+/// whose link is up a frame by the end of each turn that begins `repeat` or more later. Its pace
+/// may remember anything at first, as after damage. So a network of such nodes keeps this part of
+/// the pace that `processes::laws::pace` asks for.
 pub fn gives<P: Pipe>()
     ensures { PortsAreGivenAgain P.gave P.took P.counts }
 {}

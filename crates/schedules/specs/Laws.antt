@@ -14,7 +14,7 @@ use Rattle.schedules.specs.declared.slow.Slow.{Slow}
 abbrev pub AreTicksFull : World → Type 0
 AreTicksFull w = (v : ℕ) → v < w.net.nodes → is_full_tick w (Tick v) v ≡ true
 
--- and so it is at the start of each of the next n rounds
+-- each tick is full at the start of each of the next n rounds
 abbrev pub AreTicksFullFor : World → ℕ → Type 0
 AreTicksFullFor w zero = Unit {0}
 AreTicksFullFor w (suc n) = AreTicksFull w × AreTicksFullFor (run w (round w.net)) n
@@ -33,7 +33,7 @@ abbrev pub RoundsAreSweeps : Type 0
 RoundsAreSweeps =
     (w : World) (n : ℕ) → IsWorldInRange w → AreTicksFullFor w n → Sweeps w n (rounds w.net n)
 
--- and so they are if there is no client, whatever else the state is
+-- n rounds are n sweeps if there is no client, whatever else the state is
 abbrev pub IdleRoundsAreSweeps : Type 0
 IdleRoundsAreSweeps =
     (w : World) (n : ℕ) → IsWorldInRange w → IsIdle w → Sweeps w n (rounds w.net n)
@@ -42,11 +42,11 @@ IdleRoundsAreSweeps =
 abbrev pub RoundsAreAccepted : Type 0
 RoundsAreAccepted = (w : World) (n : ℕ) → AreAccepted w (rounds w.net n)
 
--- and none of a round is damage
+-- no event of a round is damage
 abbrev pub RoundIsUndamaged : Type 0
 RoundIsUndamaged = (net : Network) (w : World) → IsUndamaged w (round net)
 
--- nor does a round with a slow link or node have any
+-- no event of a round with a slow link or node is damage
 abbrev pub SlowRoundIsUndamaged : Type 0
 SlowRoundIsUndamaged =
     (net : Network) (slow : Slow) (share i : ℕ) (w : World) → IsUndamaged w (slow_round net slow share i)

@@ -17,7 +17,7 @@ draw_link net g =
     let edge = get_or net.edges at.0 (0, 0) in
     (if way.0 == 0 then edge else (edge.1, edge.0), way.1)
 
--- an arrival on a link: of a hundred, as many as `loss` says are losses
+-- an arrival on a link: `loss` of a hundred are losses
 abbrev pub draw_arrival : Network → ℕ → Lcg → Event × Lcg
 draw_arrival net loss g =
     let link = draw_link net g in
@@ -44,7 +44,7 @@ draw_step net c g =
     else if kind.0 == 2 then draw_arrival net c.loss kind.1
     else draw_client net kind.1
 
--- the node that takes part in a step; at a link the one that it leads to
+-- the node that takes part in a step; for a link, the node that it leads to
 abbrev pub node_at : Event → ℕ
 node_at (Send u v) = v
 node_at (Take u v) = v

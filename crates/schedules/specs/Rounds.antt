@@ -1,5 +1,5 @@
 -- The schedule by rounds (Dolev, Self-Stabilization, 2000): in a round each node takes its step,
--- and each link carries more items than it can hold, so one at least that was sent within the
+-- and each link carries more items than it can hold, so at least one that was sent within the
 -- round.
 use Rattle.std.specs.Prelude.{ℕ, ◌+◌, zero, suc, List, [], ◌∷◌, ◌++◌, map}
 use Rattle.std.specs.List.{flat_map, range_with_len}

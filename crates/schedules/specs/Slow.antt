@@ -11,12 +11,14 @@ use Rattle.schedules.specs.Rounds.{round}
 use Rattle.schedules.specs.declared.slow.Slow.{Slow}
 use Rattle.schedules.specs.declared.slow.Slow.TheVariants.{Link, Node}
 
--- in how many of the first n rounds the slow one has its part: in so many of a hundred, rounded down
+-- in how many of the first n rounds the slow one has its part: in `share` of a hundred, rounded
+-- down
 abbrev pub parts : (share n : ℕ) → ℕ
 parts share n = n * share / 100
 
--- It has its part in round i, the first being round 0, if that makes one more. So these rounds are
--- spread as evenly as can be, like the steps of a line that is drawn on a grid (Bresenham, 1965).
+-- It has its part in round i, the first being round 0, if it has its part in one more of the first
+-- i + 1 rounds than of the first i rounds. So these rounds are spread as evenly as can be, like the
+-- steps of a line that is drawn on a grid (Bresenham, 1965).
 abbrev pub has_part : (share i : ℕ) → Bool
 has_part share i = nat_lt (parts share i) (parts share (i + 1))
 
@@ -31,7 +33,7 @@ is_part _ _ = false
 abbrev pub others : Slow → List Event → List Event
 others slow es = filter (λ e. not (is_part slow e)) es
 
--- round i is a round of all, or one without the slow one's part
+-- round i: a whole round, or one without the slow one's part
 abbrev pub slow_round : Network → Slow → (share i : ℕ) → List Event
 slow_round net slow share i = if has_part share i then round net else others slow (round net)
 

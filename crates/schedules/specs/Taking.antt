@@ -6,13 +6,13 @@ use Rattle.configuration.specs.run_model.declared.event.Event.{Event}
 abbrev pub TakesBoth : {S : Type 0} → (S → List Event → S → Type 0) → Type 0
 TakesBoth {S} takes = (a b c : S) (xs ys : List Event) → takes a xs b → takes b ys c → takes a (xs ++ ys) c
 
--- from one state of the sink to another it has taken the whole list but what is left
+-- between these two states of the sink it has taken all of the list but what is left
 pub record IsUnderWay {S : Type 0} (takes : S → List Event → S → Type 0) (old : S) (whole left : List Event) (now : S) : Type 0 where
   pub done : List Event
   pub parts : whole ≡ done ++ left
   pub taken : takes old done now
 
--- a sink that takes the part in front of what is left is under way with the rest
+-- a sink that takes the first part of what is left is under way with the rest left
 abbrev pub TakesOn : {S : Type 0} → (S → List Event → S → Type 0) → Type 0
 TakesOn {S} takes =
     (a b c : S) (whole left front rest : List Event) → IsUnderWay takes a whole left b

@@ -9,10 +9,10 @@ use configuration::Event;
 use std::alloc::Allocator;
 use topology::Net;
 
-/// Gives the sink the events of as many rounds, one by one. It keeps no list and takes no memory.
+/// Gives the sink the events of `count` rounds, one by one. It keeps no list and takes no memory.
 ///
 /// # Errors
-/// [`Failed`] if the sink failed; then it took a beginning of them.
+/// [`Failed`] if the sink failed; then it took an initial part of them.
 pub fn give_rounds<A: Allocator + Copy, S: EventSink>(
     net: &Net<A>,
     count: u64,
@@ -31,7 +31,7 @@ pub fn give_rounds<A: Allocator + Copy, S: EventSink>(
 /// carries one item more than it holds, by ascending source and destination.
 ///
 /// # Errors
-/// [`Failed`] if the sink failed; then it took a beginning of them.
+/// [`Failed`] if the sink failed; then it took an initial part of them.
 pub fn give_round<A: Allocator + Copy, S: EventSink>(
     net: &Net<A>,
     sink: &mut S,
@@ -67,7 +67,7 @@ fn give_exchanges_from<A: Allocator + Copy, S: EventSink>(
     Ok(())
 }
 
-/// Gives the sink as many times a send and then a take on a link.
+/// Gives the sink a send and then a take on a link, `count` times.
 fn give_exchanges<S: EventSink>(from: u16, to: u16, count: u32, sink: &mut S) -> Result<(), Failed>
     ensures taken { OnOk result
         (S.takes sink.old (exchanges from to count) sink.new) }

@@ -5,7 +5,7 @@ ghost use Rattle.damage_tool.specs.Draws.{draw};
 use rand_core::utils::NextWord;
 use rand_pcg::Lcg64Xsh32;
 
-/// A number below `values`: the next word modulo how many values there are.
+/// A number below `values`: the generator's next word modulo `values`.
 pub(crate) fn draw_below(generator: &mut Lcg64Xsh32, values: u32) -> u32
     requires { 0 < values }
     ensures drawn { result ≡ (draw values generator.old).0 }

@@ -8,7 +8,7 @@ use configuration::Event;
 
 /// Takes the events of a schedule, one after the other.
 pub trait EventSink {
-    /// From one state to another it has taken these events, in their order.
+    /// Between these two states it has taken these events, in their order.
     ghost takes: { Self → List Event → Self → Type 0 };
 
     /// How often it has failed; the count may stay at 2^64 - 1.
@@ -22,7 +22,7 @@ pub trait EventSink {
         ensures taken { OnOk result (takes self.old (event.now ∷ []) self.new) }
         ensures cause { CountsFailures result (failures self.old) (failures self.new) };
 
-    /// A state that stays has taken none.
+    /// A sink whose state stays the same has taken no events.
     ghost takes_none: { (s : Self) → takes s [] s };
 
     /// What is taken in two parts is taken together.

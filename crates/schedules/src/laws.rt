@@ -23,9 +23,9 @@ fn below()
     configuration_laws::sweep_numbers();
 }
 
-/// A round is a sweep in every world in which each tick is full, and n rounds are n sweeps if
-/// that holds at the start of each; in a network without clients it always does. Whoever asks how
-/// fast a network recovers under this schedule may count its rounds.
+/// A round is a sweep in every world in which each tick is full, and n rounds are n sweeps if that
+/// holds at the start of each; in a network without clients it always does. So the rounds of this
+/// schedule can be counted to see how fast a network recovers under it.
 pub fn rounds()
     ensures sweep { RoundIsSweep }
     ensures sweeps { RoundsAreSweeps }
@@ -43,8 +43,8 @@ pub fn accepted()
 }
 
 /// Rounds with a slow link or node are without damage. In a network without clients n rounds hold a
-/// sweep for each of them in which the slow one has its part. So a run under this schedule comes to
-/// as many sweeps as one asks for, if the share is at least 1.
+/// sweep for each of them in which the slow one has its part. So a run under this schedule reaches
+/// any number of sweeps if the share is at least 1.
 pub fn slow_rounds()
     ensures undamaged { SlowRoundIsUndamaged }
     ensures sweeps { IdleSlowRoundsHoldSweeps }
@@ -52,15 +52,15 @@ pub fn slow_rounds()
     below();
 }
 
-/// An accepted network has an edge. Whoever draws one needs it.
+/// An accepted network has an edge. Drawing one relies on this.
 pub fn edges()
     ensures { HasEdge }
 {
     topology_laws::tree();
 }
 
-/// A sink that took a whole list but what is left, and then the part in front of that, took all but
-/// the rest. Whoever gives a sink a list part by part needs it.
+/// If a sink has taken all of a list but what is left, and then takes the first part of what is
+/// left, it has taken all but the rest. Giving a sink a list part by part relies on this.
 pub fn taking<S: EventSink>()
     ensures { TakesOn S.takes }
 {}

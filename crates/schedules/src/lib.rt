@@ -7,10 +7,10 @@
 //! to.
 //!
 //! Another is the *random* one: each step is drawn from a seeded generator, so the same seed gives
-//! the same events on any machine. It can lose items, and have clients who ask and leave.
+//! the same events on any machine. It can lose items, and have clients that ask and leave.
 //!
-//! In a third kind a link or a node is *slow*: the rounds are as before, but it has its part only in a
-//! share of them. So one sees what a single laggard costs. These rounds hold sweeps as well
+//! In a third kind a link or a node is *slow*: the rounds are as before, but it has its part only
+//! in a share of them. This shows what a single laggard costs. These rounds hold sweeps as well
 //! (`laws::slow_rounds`).
 //!
 //! The events go to an [`EventSink`], one by one; no list of them is kept:
@@ -26,8 +26,8 @@
 //! }
 //! ```
 //!
-//! The trap: a round is a sweep only if each tick is full. A node that lends the lock after its
-//! tick, as to a client that keeps it if there is no lease, makes none.
+//! The trap: a round is a sweep only if each tick is full. The tick of a node that lends the lock
+//! after it is not full, for example if a client keeps the lock and there is no lease.
 //!
 //! Sources: S. Dolev, Self-Stabilization, MIT Press 2000 (rounds of fair executions); J. Bresenham,
 //! Algorithm for computer control of a digital plotter, IBM Systems Journal 4, 1965 (the rounds of a

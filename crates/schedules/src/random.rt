@@ -15,10 +15,10 @@ use rand_pcg::Lcg64Xsh32;
 use std::alloc::Allocator;
 use topology::Net;
 
-/// Which steps a random schedule has beside ticks, sends and takes.
+/// Which steps a random schedule has besides ticks, sends and takes.
 #[derive(Clone, Copy)]
 pub struct Chances {
-    /// Of a hundred arrivals, how many are losses: 0 to 100.
+    /// How many of a hundred arrivals are losses: 0 to 100.
     pub loss: u16,
     /// Whether clients ask and leave.
     pub clients: bool,
@@ -27,7 +27,7 @@ pub struct Chances {
 /// How many tickets the clients have.
 const TICKETS: u32 = 16;
 
-/// Draws a link, and answers its source and destination.
+/// Draws a link, and returns its source and destination.
 pub(crate) fn draw_link<A: Allocator + Copy>(net: &Net<A>, generator: &mut Lcg64Xsh32) -> (u16, u16)
     ensures { (result, generator.new) ≡ draw_link net.now generator.old }
 {
@@ -94,7 +94,7 @@ pub fn draw_step<A: Allocator + Copy>(
     }
 }
 
-/// The node that takes part in a step; at a link the one that it leads to.
+/// The node that takes part in a step; for a link, the node that it leads to.
 fn node_at(event: &Event) -> u16
     ensures { result ≡ node_at event.now }
 {
@@ -105,7 +105,8 @@ fn node_at(event: &Event) -> u16
     }
 }
 
-/// Lets one drawn step happen, or a tick of its node if it would be refused, and answers which.
+/// Lets one drawn step happen, or a tick of its node if the step would be refused. Returns the
+/// event that happened.
 pub fn next_step<A: Allocator + Copy>(
     configuration: &mut Configuration<A>,
     chances: Chances,
@@ -128,12 +129,12 @@ pub fn next_step<A: Allocator + Copy>(
     }
 }
 
-/// Gives the sink as many random steps, one by one, and lets each happen. A step that would be
-/// refused, as a loss on an empty link, is a tick of its node in its place; so none is refused. It
-/// keeps no list and takes no memory.
+/// Gives the sink `count` random steps, one by one, and lets each happen. If a step would be
+/// refused, such as a loss on an empty link, its node ticks instead; so none is refused. It keeps
+/// no list and takes no memory.
 ///
 /// # Errors
-/// [`Failed`] if the sink failed; then it took a beginning of them.
+/// [`Failed`] if the sink failed; then it took an initial part of them.
 pub fn give_random<A: Allocator + Copy, S: EventSink>(
     configuration: &mut Configuration<A>,
     chances: Chances,

@@ -59,9 +59,9 @@ pub fn slow_node<A: Allocator + Copy>(net: &Net<A>, generator: &Lcg64Xsh32) -> S
     Slow::Node { node }
 }
 
-/// Whether the slow one has its part in a round, the first being round 0: of each hundred rounds in
-/// `share`, spread as evenly as can be. With 100 or more it has its part in each round, and with 0 in
-/// none.
+/// Whether the slow one has its part in a round, the first being round 0. Of each hundred rounds it
+/// has its part in `share`, spread as evenly as can be. With 100 or more it has its part in each
+/// round, and with 0 in none.
 pub fn has_part(share: u16, round: u64) -> bool
     ensures { result ≡ has_part share round }
 {
@@ -74,7 +74,7 @@ pub fn has_part(share: u16, round: u64) -> bool
 /// hundred rounds.
 ///
 /// # Errors
-/// [`Failed`] if the sink failed; then it took a beginning of them.
+/// [`Failed`] if the sink failed; then it took an initial part of them.
 pub fn give_slow_round<A: Allocator + Copy, S: EventSink>(
     net: &Net<A>,
     slow: Slow,
@@ -130,7 +130,8 @@ fn give_others_from<A: Allocator + Copy, S: EventSink>(
     Ok(())
 }
 
-/// Gives the sink as many times a send and then a take on a link, unless the slow one's.
+/// Gives the sink a send and then a take on a link, `count` times, unless they are the slow one's
+/// part.
 fn give_other_exchanges<S: EventSink>(
     from: u16,
     to: u16,

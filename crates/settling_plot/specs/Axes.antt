@@ -1,4 +1,4 @@
--- Where numbers stand on the page, in units of the page from its left and upper ends.
+-- The places of numbers on the page, in units of the page from its left and upper edges.
 use Rattle.std.specs.Prelude.{ℕ, zero, suc, ◌≤◌, ◌+◌, ◌-◌, ◌*◌, ◌/◌, ◌^◌, ◌==◌, nat_lt, if◌then◌else◌, max, min}
 use Rattle.svg_drawing.specs.Lengths.{px}
 use Rattle.settling_plot.specs.declared.axis.Axis.{Axis}
@@ -9,32 +9,33 @@ powers_below most zero = 0
 powers_below most (suc k) = powers_below most k + (if nat_lt (2 ^ k) most then 1 else 0)
 
 -- The axis up to the least power of two that is not below a number: after the step from 0 to 1 it
--- doubles as often as there are powers below the number. All steps are 640 wide together.
+-- doubles as often as there are powers below the number. All steps together are at most 640 wide.
 abbrev pub axis_to : ℕ → Axis
 axis_to most = record { doublings = powers_below most 32; step = 640 / (powers_below most 32 + 1) }
 
--- how much of the step from a power to its double is at the left of a number: none up to the power,
+-- how much of the step from a power to its double is to the left of a number: none up to the power,
 -- all from its double on, and evenly in between
 abbrev pub part_of : ℕ → ℕ → ℕ → ℕ
 part_of step power number = step * min (number - power) power / power
 
--- How far a number is from the left end: 0 is there, 1 a step from it, and each doubling one more.
+-- How far a number is from the left end: 0 is there, 1 is one step from it, and each doubling is
+-- one step more.
 abbrev pub place_of : ℕ → ℕ → ℕ → ℕ
 place_of step zero number = if number == 0 then 0 else step
 place_of step (suc k) number = place_of step k number + part_of step (2 ^ k) number
 
--- where a number of sweeps stands; the left end is at 72
+-- the place of a number of sweeps; the left end is at 72
 abbrev pub x_of : Axis → ℕ → ℕ
 x_of axis number = px (72 + place_of axis.step axis.doublings number)
 
--- where the number stands that the axis comes to after as many doublings
+-- the place of the number that the axis reaches after this many doublings
 abbrev pub tick_of : Axis → ℕ → ℕ
 tick_of axis doublings = px (px (72 + px (axis.step * doublings)) + axis.step)
 
 abbrev pub right_of : Axis → ℕ
 right_of axis = tick_of axis axis.doublings
 
--- where a number of runs stands, of all: none at 378, and all of them 240 above that
+-- the place of a number of runs, out of all: none is at 378, and all of them are 240 above that
 abbrev pub height_of : ℕ → ℕ → ℕ
 height_of runs count = 378 - px (240 * count) / max runs 1
 

@@ -1,4 +1,4 @@
--- The curves: of how many runs a layer stands, by how many sweeps.
+-- The curves: in how many runs a layer holds by each number of sweeps.
 use Rattle.std.specs.Prelude.{ℕ, ◌+◌, ◌==◌, if◌then◌else◌, List, [], ◌∷◌, ◌++◌, codes, decimal}
 use Rattle.std.specs.List.{flat_map, range_with_len}
 use Rattle.svg_drawing.specs.Drawn.{Shown, path_shown}
@@ -11,8 +11,8 @@ use Rattle.settling_plot.specs.Axes.{x_of, right_of, height_of}
 use Rattle.settling_plot.specs.Figures.{layer_pen, last_bound}
 use Rattle.settling_plot.specs.Tallies.{runs_at, runs_by}
 
--- A corner of a curve at a number of sweeps: if any run has this number, the curve goes on to it, and
--- there up to how many runs have it or less.
+-- A corner of a curve at a number of sweeps: if any run has this number, the curve goes on to it,
+-- and there up to the number of runs that have it or less.
 abbrev pub corner : Scale → ℕ → ℕ → ℕ → List ℕ
 corner scale number at by =
     if at == 0 then []
@@ -36,7 +36,8 @@ curve_steps scale sweeps =
 abbrev pub curve_shown : Scale → PlottedLayer → List ℕ → Shown
 curve_shown scale layer sweeps = path_shown (curve_steps scale sweeps) (layer_pen layer)
 
--- over what the curves of a figure are drawn: all its runs, and up to the greatest of its bounds
+-- what the curves of a figure are drawn over: all its runs, and numbers up to the greatest of its
+-- bounds
 abbrev pub scale_of : Axis → Figure → Scale
 scale_of axis f = record { axis = axis; runs = f.runs; last = last_bound f }
 

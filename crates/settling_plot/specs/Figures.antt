@@ -13,7 +13,7 @@ layer_words Tree = codes "tree reached"
 layer_words Ring = codes "token ring good"
 layer_words Served = codes "network serves"
 
--- the line of a layer's curve: no two have one colour, nor the same dashes
+-- the line of a layer's curve: no two have the same colour, nor the same dashes
 abbrev pub layer_pen : PlottedLayer → Pen
 layer_pen Links = record { colour = Sky; width = 2; dashes = codes "none" }
 layer_pen Tree = record { colour = Green; width = 2; dashes = codes "9 3" }

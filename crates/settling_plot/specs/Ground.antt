@@ -8,17 +8,17 @@ use Rattle.svg_drawing.specs.Lengths.{px}
 use Rattle.settling_plot.specs.declared.axis.Axis.{Axis}
 use Rattle.settling_plot.specs.Axes.{height_of, right_of, tick_of}
 
--- the share that a number of quarters is
+-- the share that this many quarters make
 abbrev pub percent_words : ℕ → List ℕ
 percent_words quarter = decimal (25 * quarter) ++ codes " %"
 
--- the line at a number of quarters of all runs, and its share left of it
+-- the line at a number of quarters of all runs, and its share to the left of it
 abbrev pub level_shown : Axis → ℕ → List Shown
 level_shown axis quarter =
     line_shown 72 (height_of 4 quarter) (right_of axis) (height_of 4 quarter) (whole Faint 1)
     ∷ words_shown 64 (px (height_of 4 quarter + 4)) End Ink (percent_words quarter) ∷ []
 
--- the lines from no quarter to four
+-- the lines for zero to four quarters
 abbrev pub levels_shown : Axis → List Shown
 levels_shown axis = flat_map (level_shown axis) (range_with_len 0 5)
 
@@ -29,7 +29,7 @@ tick_words number = decimal number
 abbrev pub tick_shown : ℕ → ℕ → List Shown
 tick_shown x number = line_shown x 378 x 384 (whole Ink 1) ∷ words_shown x 398 Middle Ink (tick_words number) ∷ []
 
--- the number that the axis comes to after as many doublings
+-- the number that the axis reaches after this many doublings
 abbrev pub power_shown : Axis → ℕ → List Shown
 power_shown axis doublings = tick_shown (tick_of axis doublings) (2 ^ doublings)
 

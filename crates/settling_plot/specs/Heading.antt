@@ -1,4 +1,4 @@
--- What stands above the curves.
+-- What is above the curves.
 use Rattle.std.specs.Prelude.{ℕ, List, [], ◌∷◌, ◌++◌, length, codes, decimal}
 use Rattle.svg_drawing.specs.declared.canvas.Anchor.TheVariants.{Start}
 use Rattle.svg_drawing.specs.declared.colours.Colour.TheVariants.{Ink, Paper}
@@ -9,7 +9,7 @@ use Rattle.settling_plot.specs.declared.figure.Figure.{Figure}
 abbrev pub title_words : List ℕ
 title_words = codes "Sweeps until each layer stands for good"
 
--- how many runs there were, and from where they started
+-- how many runs there were, and what they started from
 abbrev pub run_words : ℕ → ℕ → ℕ → List ℕ
 run_words runs nodes seed =
     decimal runs ++ (codes " runs of " ++ (decimal nodes ++ (codes " nodes from scrambled worlds, seeds from " ++ (decimal seed ++ codes " on; "))))
@@ -21,7 +21,8 @@ served_words served bound = decimal served ++ (codes " of them served by sweep "
 abbrev pub said_words : Figure → List ℕ
 said_words f = run_words f.runs f.nodes f.seed ++ served_words (length f.served.sweeps.items) f.served.bound
 
--- title and description, which are not seen; the white ground of the page; and over it both again
+-- the title and the description, which are not seen; the white ground of the page; and over it both
+-- of them again
 abbrev pub heading_shown : Figure → List Shown
 heading_shown f =
     note_shown (codes "title") title_words ∷ note_shown (codes "desc") (said_words f) ∷ rect_shown 0 0 760 460 Paper

@@ -7,7 +7,7 @@ use Rattle.settling_plot.specs.declared.figure.PlottedLayer.{PlottedLayer}
 use Rattle.settling_plot.specs.declared.figure.PlottedLayer.TheVariants.{Links, Tree, Ring, Served}
 use Rattle.settling_plot.specs.Figures.{layer_pen, layer_words, row_of}
 
--- where a layer's entry begins: the four stand side by side, 160 wide each
+-- where a layer's entry begins: the four are side by side, each 160 wide
 abbrev pub entry_x : PlottedLayer → ℕ
 entry_x layer = 72 + 160 * row_of layer
 

@@ -10,7 +10,7 @@ use Rattle.settling_plot.specs.declared.figure.PlottedLayer.TheVariants.{Links, 
 use Rattle.settling_plot.specs.Axes.{x_of}
 use Rattle.settling_plot.specs.Figures.{layer_pen, row_of}
 
--- the baseline of the words at a layer's bound: the layers' rows stand above the curves, 16 high each
+-- the baseline of the words at a layer's bound: the layers' rows are above the curves, each 16 high
 abbrev pub label_of : PlottedLayer → ℕ
 label_of layer = 124 - 16 * row_of layer
 
@@ -21,7 +21,8 @@ thin_pen layer = whole (layer_pen layer).colour 1
 abbrev pub limit_words : ℕ → List ℕ
 limit_words bound = codes "proved by " ++ decimal bound
 
--- the bound of a layer: a line from the axis up to the layer's row, and there left of it what it is
+-- the bound of a layer: a line from the axis up to the layer's row, and in that row, left of the
+-- line, what the bound is
 abbrev pub limit_shown : Axis → PlottedLayer → ℕ → List Shown
 limit_shown axis layer bound =
     line_shown (x_of axis bound) 378 (x_of axis bound) (label_of layer - 10) (thin_pen layer)

@@ -1,4 +1,4 @@
-//! Where numbers stand on the page.
+//! The places of numbers on the page.
 ghost use Rattle.std.specs.Prelude.{◌≡◌, ◌*◌, ◌/◌, ◌<◌, ◌≤◌, ◌^◌, ◌==◌, if◌then◌else◌};
 ghost use Rattle.settling_plot.specs.Axes.{axis_to, part_of, place_of, powers_below, tick_of};
 ghost use Rattle.settling_plot.specs.Axes.{x_of, right_of, height_of, IsAxis};
@@ -8,20 +8,20 @@ use svg_drawing::Px;
 /// The left end of the axis of sweeps.
 pub(crate) const LEFT: Px = Px(72);
 
-/// Where no run is.
+/// The place of no runs, from the upper edge of the page.
 pub(crate) const GROUND: Px = Px(378);
 
-/// How high all runs are over it.
+/// How far the place of all runs is above that of no runs.
 const HEIGHT: Px = Px(240);
 
 /// How wide the axis of sweeps is at most.
 const WIDTH: u32 = 640;
 
-/// The axis of sweeps. It begins at 0, comes to 1 after a step, and doubles with each step after
+/// The axis of sweeps. It begins at 0, reaches 1 after one step, and doubles with each step after
 /// that.
 #[derive(Clone, Copy)]
 pub struct Axis {
-    /// How many steps there are after that from 0 to 1; at most 32.
+    /// How many steps there are after the one from 0 to 1; at most 32.
     pub doublings: u32,
     /// The width of a step; at most 640.
     pub step: u32,
@@ -48,7 +48,7 @@ impl Axis {
         LEFT + Px(place_of(self.step, self.doublings, sweeps))
     }
 
-    /// The place of the number that the axis comes to after as many doublings.
+    /// The place of the number that the axis reaches after this many doublings.
     pub(crate) fn tick(self, doublings: u32) -> Px
         ensures { result.0 ≡ tick_of self doublings }
     {
@@ -85,7 +85,7 @@ fn powers_below(most: u32) -> u32
     count
 }
 
-/// How far a number of sweeps is from the left end of an axis with such steps.
+/// How far a number of sweeps is from the left end of an axis with these steps.
 fn place_of(step: u32, doublings: u32, sweeps: u64) -> u32
     requires doublings { doublings ≤ 32 }
     requires step { step ≤ 640 }
@@ -98,14 +98,14 @@ fn place_of(step: u32, doublings: u32, sweeps: u64) -> u32
     place
 }
 
-/// How much of the step from 0 to 1 is at the left of a number of sweeps.
+/// How much of the step from 0 to 1 is to the left of a number of sweeps.
 fn first_step(step: u32, sweeps: u64) -> u32
     ensures { result ≡ (if sweeps == 0 then 0 else step) }
 {
     if sweeps == 0 { 0 } else { step }
 }
 
-/// How much of the step from a power of two to its double is at the left of a number of sweeps.
+/// How much of the step from a power of two to its double is to the left of a number of sweeps.
 fn part_of(step: u32, k: u32, sweeps: u64) -> u32
     requires k { k ≤ 32 }
     requires step { step ≤ 640 }
@@ -119,7 +119,7 @@ fn part_of(step: u32, k: u32, sweeps: u64) -> u32
     )
 }
 
-/// The part of a step that a number is of a greater one.
+/// The same part of a step as `beyond` is of `power`, rounded down.
 fn share_of(step: u32, beyond: u64, power: u64) -> u32
     requires step { step ≤ 640 }
     requires beyond { beyond ≤ power }
@@ -133,7 +133,7 @@ fn share_of(step: u32, beyond: u64, power: u64) -> u32
     part as u32
 }
 
-/// Where a number of runs stands, of all of them.
+/// The place of a number of runs, out of all of them.
 pub(crate) fn height(runs: u32, count: usize) -> Px
     ensures { result.0 ≡ height_of runs count }
 {

@@ -1,4 +1,4 @@
-//! The curves: of how many runs a layer stands, by how many sweeps.
+//! The curves: in how many runs a layer holds by each number of sweeps.
 ghost use Rattle.std.specs.Prelude.{◌≡◌, ◌++◌, ◌≤◌, ◌^◌, ◌<◌, [], ◌∷◌, IfOk, OnOk, codes};
 ghost use Rattle.std.specs.Prelude.{string_bytes};
 ghost use Rattle.svg_drawing.specs.Drawn.{drawn};
@@ -29,7 +29,7 @@ pub(crate) fn draw_curves(
     draw_curve(canvas, scale, PlottedLayer::Served, &figure.served)
 }
 
-/// Over what the curves of a figure are drawn.
+/// What the curves of a figure are drawn over.
 fn scale_of(axis: Axis, figure: &Figure) -> Scale
     ensures { result ≡ scale_of axis figure.now }
 {
@@ -45,9 +45,9 @@ fn scale_of(axis: Axis, figure: &Figure) -> Scale
 pub(crate) struct Scale {
     /// The axis of sweeps.
     pub(crate) axis: Axis,
-    /// How many runs are all of them.
+    /// How many runs there are in all.
     pub(crate) runs: u32,
-    /// The last number that a curve comes to.
+    /// The last number that a curve reaches.
     pub(crate) last: u32,
 }
 
@@ -83,8 +83,8 @@ fn steps_of(alloc: Global, scale: Scale, sweeps: &[u64]) -> Result<String, Alloc
     Ok(steps)
 }
 
-/// Adds the corner of a curve at a number of sweeps that as many runs have, and as many have or fall
-/// short of.
+/// Adds the corner of a curve at a number of sweeps, which `at` runs have, and which `by` runs have
+/// or fall short of.
 fn push_corner(
     steps: &mut String,
     scale: Scale,

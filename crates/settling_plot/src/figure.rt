@@ -5,21 +5,21 @@ ghost use Rattle.settling_plot.specs.Figures.{layer_words, layer_pen, row_of, la
 
 use svg_drawing::{Colour, Px, Stroke};
 
-/// When a layer stood for good, run by run.
+/// When a layer held permanently, run by run.
 #[derive(Drop)]
 pub struct Distribution {
-    /// After how many sweeps it stood for good, in each run that counts.
+    /// The number of sweeps after which it held permanently, in each run that counts.
     pub sweeps: Vec<u64>,
-    /// After how many sweeps at most it stands in every run, as is proved.
+    /// The number of sweeps by which it is proved to hold in every run.
     pub bound: u32,
 }
 
-/// When each of the four layers stood for good in many runs.
+/// When each of the four layers held permanently in many runs.
 #[derive(Drop)]
 pub struct Figure {
     /// How many nodes the network has.
     pub nodes: u16,
-    /// How many runs there were. A run that does not count for a layer is missing in its curve.
+    /// How many runs there were. A run that does not count for a layer is missing from its curve.
     pub runs: u32,
     /// The first run's seed.
     pub seed: u32,

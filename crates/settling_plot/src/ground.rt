@@ -30,7 +30,7 @@ fn draw_levels(canvas: &mut Canvas, axis: Axis) -> Result<(), AllocError>
     Ok(())
 }
 
-/// Draws the line at a number of quarters, with its share left of it.
+/// Draws the line at a number of quarters, with its share to the left of it.
 fn draw_level(canvas: &mut Canvas, axis: Axis, quarter: usize) -> Result<(), AllocError>
     requires { quarter < 5 }
     ensures { OnOk result (drawn canvas.new ≡ drawn canvas.old ++ level_shown axis quarter) }
@@ -46,7 +46,7 @@ fn draw_level(canvas: &mut Canvas, axis: Axis, quarter: usize) -> Result<(), All
     canvas.words(name, Anchor::End, Colour::Ink, share.as_str())
 }
 
-/// The share that a number of quarters is.
+/// The share that this many quarters make.
 fn percent(alloc: Global, quarter: usize) -> Result<String, AllocError>
     requires { quarter < 5 }
     ensures { IfOk result (λ words. string_bytes words ≡ percent_words quarter) }
@@ -67,7 +67,7 @@ fn draw_ticks(canvas: &mut Canvas, axis: Axis) -> Result<(), AllocError>
     Ok(())
 }
 
-/// Draws the number that the axis of sweeps comes to after as many doublings.
+/// Draws the number that the axis of sweeps reaches after this many doublings.
 fn draw_power(canvas: &mut Canvas, axis: Axis, doublings: u32) -> Result<(), AllocError>
     requires { doublings ≤ 32 }
     ensures { OnOk result (drawn canvas.new ≡ drawn canvas.old ++ power_shown axis doublings) }

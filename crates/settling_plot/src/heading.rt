@@ -1,4 +1,4 @@
-//! What stands above the curves.
+//! What is above the curves.
 ghost use Rattle.std.specs.Prelude.{◌≡◌, ◌++◌, IfOk, OnOk, string_bytes};
 ghost use Rattle.svg_drawing.specs.Drawn.{drawn};
 ghost use Rattle.settling_plot.specs.Heading.{heading_shown, run_words, served_words, said_words};
@@ -17,8 +17,8 @@ pub(crate) const WIDTH: Px = Px(760);
 /// The page's height.
 pub(crate) const HEIGHT: Px = Px(460);
 
-/// Draws what stands first: title and description, for those who do not see the plot, the white
-/// ground, and over it both again.
+/// Draws what comes first: the title and the description, for those who do not see the plot; the
+/// white ground; and over it both of them again.
 pub(crate) fn draw_heading(canvas: &mut Canvas, figure: &Figure) -> Result<(), AllocError>
     ensures { OnOk result (drawn canvas.new ≡ drawn canvas.old ++ heading_shown figure.now) }
 {
@@ -48,14 +48,14 @@ fn said(alloc: Global, figure: &Figure) -> Result<String, AllocError>
     Ok(text)
 }
 
-/// How many runs there were, and from where they started.
+/// How many runs there were, and what they started from.
 fn runs(alloc: Global, runs: u32, nodes: u16, seed: u32) -> Result<String, AllocError>
     ensures { IfOk result (λ words. string_bytes words ≡ run_words runs nodes seed) }
 {
     format!(in alloc; "{runs} runs of {nodes} nodes from scrambled worlds, seeds from {seed} on; ")
 }
 
-/// Adds how many served by the bound.
+/// Adds how many runs served by the bound.
 fn push_served(text: &mut String, served: usize, bound: u32) -> Result<(), AllocError>
     ensures { OnOk result (string_bytes text.new
         ≡ string_bytes text.old ++ served_words served bound) }

@@ -1,8 +1,8 @@
-//! When the layers of many runs stood for good, as a plot beside the proved bounds.
+//! When the layers of many runs held permanently, as a plot beside the proved bounds.
 //!
-//! A [`Figure`] has, for each of four layers, after how many sweeps the runs had it for good, and by
-//! when every run has it, as is proved. [`plotted`] draws the four distributions as a paper prints
-//! them, and gives an SVG 1.1:
+//! A [`Figure`] has, for each of four layers, the numbers of sweeps after which the runs had it
+//! permanently, and the number by which every run is proved to have it. [`plotted`] draws the four
+//! distributions as curves, and returns SVG 1.1:
 //!
 //! ```
 //! let figure = Figure { nodes, runs, seed, links, tree, ring, served };
@@ -10,12 +10,13 @@
 //! ```
 //!
 //! Each layer has a curve of its own: its height over a number of sweeps is the share of all runs
-//! that had the layer for good by then. An upright line of the same colour stands at its bound.
+//! that had the layer permanently by then. An upright line of the same colour marks its bound.
 //!
-//! It takes numbers and gives a text. It knows nothing of networks, and makes no runs.
+//! It takes numbers and returns a text. It knows nothing about networks, and makes no runs.
 //!
-//! The trap: on the axis of sweeps each step doubles the number, so that both the runs, which are
-//! quick, and the bounds, which are far, are seen. Between two numbers of the axis it is even.
+//! The trap: on the axis of sweeps each step doubles the number, so that both the runs, which
+//! settle quickly, and the bounds, which are far away, can be seen. Between two numbers on the axis
+//! the scale is even.
 #![tactic(auto)]
 
 mod axis;

@@ -25,7 +25,8 @@ pub(crate) fn draw_limits(
     draw_limit(canvas, axis, PlottedLayer::Served, figure.served.bound)
 }
 
-/// Draws the bound of a layer: a line up to the layer's row, and there left of it what it is.
+/// Draws the bound of a layer: a line up to the layer's row, and in that row, left of the line,
+/// what the bound is.
 fn draw_limit(
     canvas: &mut Canvas,
     axis: Axis,
@@ -58,7 +59,7 @@ fn thin(layer: PlottedLayer) -> Stroke
     Stroke::whole(layer.stroke().colour, 1)
 }
 
-/// What stands at a bound.
+/// The words at a bound.
 fn limit_words(alloc: Global, bound: u32) -> Result<String, AllocError>
     ensures { IfOk result (λ words. string_bytes words ≡ limit_words bound) }
 {

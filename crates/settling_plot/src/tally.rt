@@ -4,7 +4,7 @@ ghost use Rattle.settling_plot.specs.Tallies.{IsCountedIn, IsTally};
 
 use std::alloc::{AllocError, Global};
 
-/// How many of these numbers are 0, how many are 1, and so on up to the last; a greater one is not
+/// How many of these numbers are 0, how many are 1, and so on up to `last`; greater ones are not
 /// counted.
 pub(crate) fn tally(alloc: Global, numbers: &[u64], last: u32) -> Result<Vec<usize>, AllocError>
     ensures tally { IfOk result (λ tally. IsTally numbers.now last tally.items) }
@@ -18,7 +18,7 @@ pub(crate) fn tally(alloc: Global, numbers: &[u64], last: u32) -> Result<Vec<usi
     Ok(tally)
 }
 
-/// Counts one number more.
+/// Counts one more number.
 fn count(tally: &mut [usize], number: u64)
     requires { number < length tally.old → slice_index_or tally.old number 0 < 2 ^ 63 }
     ensures { IsCountedIn tally.old number tally.new }

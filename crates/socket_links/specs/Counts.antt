@@ -1,4 +1,4 @@
--- How often a pipe said what it has to say.
+-- The counts of a pipe's answers.
 use Rattle.std.specs.Prelude.{ℕ, ◌≤◌, ◌⊎◌}
 use Rattle.byte_streams.specs.Streams.{Rose}
 

@@ -16,8 +16,8 @@ use Rattle.socket_links.specs.declared.link.Pull.{Pull}
 use Rattle.socket_links.specs.declared.link.Pull.TheVariants as pull
 
 -- The bytes that a pipe gave are those before the start, then those of which these frames are the
--- good lines, and then those that are still to be looked at; of the second the reader keeps the
--- half line.
+-- good lines, and then those that are still to be looked at; of the second part the reader keeps
+-- the half line.
 pub record HasPulled (r : Ranges) (start : List ℕ) (frames : List Frame) (gave : List ℕ)
     (reader : Kept) (waiting : List ℕ) : Type 0 where
   pub read : List ℕ
@@ -85,13 +85,13 @@ module _ {P : Type 0} where
   Offered line old new offer.Busy = (unsent old ≢ []) × (is_some old.pipe ≡ true) × (new ≡ old)
   Offered line old new offer.Loose = (old.pipe ≡ None) × (new ≡ old)
 
-  -- the pipe, which was there and is, said Later in the call
+  -- the pipe, which was there and still is, said Later in the call
   abbrev pub SaidLater : (P → Counts) → SocketLink P → SocketLink P → Type 0
   SaidLater counts old new =
       MatchOption old.pipe ⊥ (λ before.
       MatchOption new.pipe ⊥ (λ after. Rose (counts before).later (counts after).later))
 
-  -- the pipe, which was there and is, gave bytes in the call
+  -- the pipe, which was there and still is, gave bytes in the call
   abbrev pub GaveBytes : (P → Option (List ℕ)) → SocketLink P → SocketLink P → Type 0
   GaveBytes gave old new =
       MatchOption old.pipe ⊥ (λ before. MatchOption new.pipe ⊥ (λ after.
@@ -104,7 +104,7 @@ module _ {P : Type 0} where
       MatchOption old.pipe ⊥ (λ before. (after : P) × HasEnded (counts before) (counts after))
       × (new.pipe ≡ None) × IsBare new
 
-  -- What the answers of a pull say: with a frame the pipe stays; without one nothing more must be
+  -- What the answers of a pull say: with a frame the pipe stays; without one nothing is left to be
   -- looked at.
   abbrev pub Pulled : Ranges → (P → Option (List ℕ)) → (P → Option (List ℕ)) → (P → Counts)
       → SocketLink P → SocketLink P → Pull → Type 0

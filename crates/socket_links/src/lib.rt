@@ -15,8 +15,8 @@
 //! A pipe that closed or failed is let go, with the half lines of both sides: the next pipe's bytes
 //! are read as from the start.
 //!
-//! The trap: a frame that was accepted may be lost with its pipe. Nobody learns it, so whoever
-//! needs it sends again.
+//! The trap: a frame that was accepted may be lost with its pipe. Nobody notices that, so whoever
+//! needs the frame sends it again.
 #![tactic(auto)]
 
 mod link;

@@ -13,7 +13,7 @@ use crate::writing::{Flow, write_line};
 use frame_codec::{LineReader, encode};
 use topology::{Frame, Net};
 
-/// How many bytes one read gives at most.
+/// The most bytes that one read gives.
 const PIECE: usize = 512;
 
 /// The bytes of a frame's line, with its newline.
@@ -87,8 +87,8 @@ impl<P: Pipe> SocketLink<P> {
         self.pipe.is_some()
     }
 
-    /// From now on this pipe is written and read. The answer is the pipe that stood there, if any;
-    /// the half lines of both sides are dropped.
+    /// Writes and reads this pipe from now on. Returns the pipe that was there before, if any, and
+    /// drops the half lines of both sides.
     pub fn attach(&mut self, pipe: P) -> Option<P>
         ensures stands { self.new.pipe ≡ Some pipe }
         ensures back { result ≡ self.old.pipe }
@@ -125,7 +125,7 @@ impl<P: Pipe> SocketLink<P> {
 
     /// Writes what is left of the line that was accepted last, as far as the pipe takes it.
     pub fn push_out(&mut self) -> Flow
-        // What the pipe took goes on along the accepted line, and what was pulled stands.
+        // What the pipe took continues the accepted line, and what was pulled does not change.
         ensures pushed { Pushed P.gave P.took P.counts self.old self.new result }
         // A loose link has nothing to write.
         ensures loose { self.old.pipe ≡ None → result ≡ Done }
@@ -146,13 +146,13 @@ impl<P: Pipe> SocketLink<P> {
         }
     }
 
-    /// The next frame. If what was read holds a good line it is that line's, and else the pipe
+    /// The next frame. If what was read holds a good line, the frame is that line's; else the pipe
     /// is read once.
     pub fn pull(&mut self, net: &Net) -> Pull
-        // The frame stands after those that were pulled before, and what was pushed stands.
+        // The frame comes after those that were pulled before, and what was pushed does not change.
         ensures pulled { Pulled (ranges_of net.now) P.gave P.took P.counts
             self.old self.new result }
-        // If a good line ends in what was read, its frame comes, and nothing is asked of the
+        // If a good line ends in what was read, its frame is returned, and nothing is asked of the
         // pipe.
         ensures kept_first { (half : List ℕ) → self.old.reader ≡ kept 21 half
             → frames_after (ranges_of net.now) half (waiting self.old) ≢ []

@@ -8,8 +8,8 @@ use byte_streams::Fused;
 use std::alloc::{AllocError, Allocator, Global};
 
 /// A pipe over memory. It gives the bytes of a slice, a piece at a time, and then answers `Closed`
-/// or, if it stays open, `Later`; and it keeps what it takes, in room that its maker reserved,
-/// and answers `Later` if that is full.
+/// or, if it stays open, `Later`. It keeps what it takes, in room that was reserved when it was
+/// made, and answers `Later` if that is full.
 #[derive(Drop)]
 pub struct MemoryPipe<'a, A: Allocator + Copy = Global> {
     input: &'a [u8],
@@ -25,8 +25,8 @@ pub struct MemoryPipe<'a, A: Allocator + Copy = Global> {
 }
 
 impl<'a, A: Allocator + Copy> MemoryPipe<'a, A> {
-    /// A pipe that gives these bytes, at most `piece` in one read and at least one, and has room
-    /// for `room` bytes. All memory is reserved here; `AllocError` comes only if that is
+    /// A pipe that gives these bytes, at most `piece` in one read, or one if `piece` is 0, and has
+    /// room for `room` bytes. All memory is reserved here; `AllocError` comes only if that is
     /// refused.
     pub fn new(
         alloc: A,

@@ -39,7 +39,7 @@ pub trait Pipe: Drop {
     /// How often it answered `Later`, `Closed` and `Failed`.
     ghost counts: { Self → Counts };
 
-    /// Puts its next bytes at the front of the buffer, which has room for one at least.
+    /// Puts its next bytes at the front of the buffer, which has room for at least one.
     fn try_read(&mut self, buffer: &mut [u8]) -> ReadAnswer
         requires { 0 < length buffer.old }
         ensures len { length buffer.new ≡ length buffer.old }
@@ -48,7 +48,7 @@ pub trait Pipe: Drop {
         // A read writes nothing.
         ensures took { took self.new ≡ took self.old };
 
-    /// Takes the first of these bytes, of which there is one at least.
+    /// Takes the first of these bytes, of which there is at least one.
     fn try_write(&mut self, bytes: &[u8]) -> WriteAnswer
         requires { 0 < length bytes.now }
         ensures writes { Writes result bytes.now (took self.old) (took self.new)

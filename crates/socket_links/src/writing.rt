@@ -4,7 +4,7 @@ ghost use Rattle.socket_links.specs.Writing.{WritesLine};
 
 use crate::pipe::{Pipe, WriteAnswer};
 
-/// How far a push came.
+/// How far a push got.
 #[derive(Clone, Copy, PartialEq, Eq)]
 pub enum Flow {
     /// Nothing of an accepted line is left.
@@ -15,7 +15,7 @@ pub enum Flow {
     Broken,
 }
 
-/// Writes these bytes as far as the pipe takes them: how many it took, and how that ended.
+/// Writes these bytes as far as the pipe takes them. Returns how many it took, and how that ended.
 pub(crate) fn write_line<P: Pipe>(pipe: &mut P, bytes: &[u8]) -> (usize, Flow)
     ensures count { result.0 ≤ length bytes.now }
     ensures wrote { WritesLine bytes.now (P.took pipe.old) (P.took pipe.new)

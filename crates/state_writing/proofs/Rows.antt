@@ -5,7 +5,7 @@ use Rattle.topology.specs.Ranges.{ranges_of}
 use Rattle.topology.specs.declared.frame.Payload.{Payload}
 use Rattle.node_core.specs.data_link.Port.{PortState}
 use Rattle.node_core.specs.State.{LocalState, default_node}
-use Rattle.state_writing.specs.declared.layout.Layout.TheVariants.{Tkt1, Tkt2}
+use Rattle.state_writing.specs.declared.layout.FileLayout.TheVariants.{Tkt1, Tkt2}
 use Rattle.state_writing.specs.Files.{file_of}
 use Rattle.state_writing.specs.Spelling.{magic, capacity_numbers, parent_number, header_numbers}
 use Rattle.state_writing.specs.Spelling.{payload_numbers, port_numbers, spelling, written}

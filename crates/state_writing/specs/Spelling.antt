@@ -6,16 +6,16 @@ use Rattle.byteorder.specs.Endian.{big_bytes}
 use Rattle.topology.specs.Network.{Network}
 use Rattle.topology.specs.declared.frame.Payload.{Payload}
 use Rattle.node_core.specs.State.{LocalState}
-use Rattle.state_writing.specs.declared.layout.Layout.{Layout}
-use Rattle.state_writing.specs.declared.layout.Layout.TheVariants.{Tkt1, Tkt2}
+use Rattle.state_writing.specs.declared.layout.FileLayout.{FileLayout}
+use Rattle.state_writing.specs.declared.layout.FileLayout.TheVariants.{Tkt1, Tkt2}
 
 -- the magic word of a layout
-abbrev pub magic : Layout → List ℕ
+abbrev pub magic : FileLayout → List ℕ
 magic Tkt1 = codes "TKT1"
 magic Tkt2 = codes "TKT2"
 
 -- TKT2 has the capacity of links
-abbrev pub capacity_numbers : Layout → ℕ → List ℕ
+abbrev pub capacity_numbers : FileLayout → ℕ → List ℕ
 capacity_numbers Tkt1 capacity = []
 capacity_numbers Tkt2 capacity = capacity ∷ []
 
@@ -24,8 +24,8 @@ abbrev pub parent_number : Option ℕ → ℕ
 parent_number None = 65535
 parent_number (Some p) = p
 
--- what the network, the node's id and its degree are, and its own distance and parent
-abbrev pub header_numbers : Layout → Network → ℕ → ℕ → LocalState → List ℕ
+-- the numbers of the network, the node's id and its degree, and its own distance and parent
+abbrev pub header_numbers : FileLayout → Network → ℕ → ℕ → LocalState → List ℕ
 header_numbers l net id degree s =
     net.nodes ∷ id ∷ (capacity_numbers l net.capacity ++ (degree ∷ s.distance ∷ parent_number s.parent ∷ []))
 
@@ -41,7 +41,7 @@ port_numbers s w =
     w ∷ p.seq ∷ p.last ∷ (payload_numbers p.staged ++ (payload_numbers p.copy ++ (s.value w ∷ [])))
 
 -- the spelling of a state, with these ids as its neighbours; the desk is no part of it
-abbrev pub spelling : Layout → Network → ℕ → List ℕ → LocalState → List ℕ
+abbrev pub spelling : FileLayout → Network → ℕ → List ℕ → LocalState → List ℕ
 spelling l net id neighbours s =
     magic l ++ flat_map (big_bytes 2) (header_numbers l net id (length neighbours) s ++ flat_map (port_numbers s) neighbours)
 

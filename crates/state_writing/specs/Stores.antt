@@ -1,4 +1,4 @@
--- What the answers of a store say, of what is stored and of its failures.
+-- What the answers of a store say about what is stored and about its failures.
 use Rattle.std.specs.Prelude.{◌≡◌, ℕ, ◌≤◌, List, take, Option, None, Some, option_map, Result, Ok, Err, ⊤}
 use Rattle.byte_streams.specs.Streams.{Rose}
 use Rattle.state_writing.specs.declared.store.StoreFault.{StoreFault}
@@ -10,7 +10,8 @@ MayBeAbsent None = ⊤
 MayBeAbsent (Some None) = ⊤
 MayBeAbsent (Some (Some bytes)) = ⊥
 
--- these are the first 1277 bytes that are stored; nothing is said of a store that does not say
+-- these are the first 1277 bytes that are stored; nothing is said about a store that does not say
+-- what it stores
 abbrev pub AreStored : List ℕ → Option (Option (List ℕ)) → Type 0
 AreStored given None = ⊤
 AreStored given (Some None) = ⊥

@@ -6,26 +6,26 @@ ghost use Rattle.state_writing.specs.Spelling.{magic};
 /// most 64 nodes.
 pub const MOST_BYTES: usize = 1276;
 
-/// How many bytes a load reads at most: one more, so that a longer file shows.
+/// The most bytes that a load reads: one more, so that a file that is too long is noticed.
 pub const LOADED_BYTES: usize = 1277;
 
 /// How the bytes of a state file are laid out.
 #[derive(Clone, Copy, Debug, PartialEq, Eq)]
-pub enum Layout {
+pub enum FileLayout {
     /// The older one, which has no capacity.
     Tkt1,
     /// The one that is written.
     Tkt2,
 }
 
-impl Layout {
+impl FileLayout {
     /// Its magic word.
     pub fn magic(self) -> [u8; 4]
         ensures { result ≡ magic self }
     {
         match self {
-            Layout::Tkt1 => *b"TKT1",
-            Layout::Tkt2 => *b"TKT2",
+            FileLayout::Tkt1 => *b"TKT1",
+            FileLayout::Tkt2 => *b"TKT2",
         }
     }
 }

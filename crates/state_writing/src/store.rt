@@ -20,7 +20,8 @@ pub enum StoreFault {
 
 /// Keeps the bytes of one state.
 pub trait Store {
-    /// What is stored, if anything is; none of both if the store does not say.
+    /// What is stored: the outer option is none if the store does not say, the inner one if nothing
+    /// is stored.
     ghost stored: { Self → Option (Option (List ℕ)) };
 
     /// How often it has failed; the count may stay at 2^64 - 1.

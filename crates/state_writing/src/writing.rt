@@ -1,4 +1,4 @@
-//! A node's state is written.
+//! Writes a node's state.
 ghost use Rattle.std.specs.Prelude.{◌≡◌, ◌≤◌, ◌<◌, ◌+◌, ◌*◌, ◌∷◌, [], ◌++◌, length, take, drop};
 ghost use Rattle.std.specs.List.{flat_map};
 ghost use Rattle.topology.specs.Network.{neighbours_of};
@@ -6,9 +6,9 @@ ghost use Rattle.arrayvec.specs.ArrayVec.{array_vec_len};
 ghost use Rattle.node_core.specs.Site.{site_of};
 ghost use Rattle.node_core.specs.View.{site_in, state_of};
 ghost use Rattle.state_writing.specs.Spelling.{spelling, header_numbers, port_numbers};
-ghost use Rattle.state_writing.specs.declared.layout.Layout.TheVariants.{Tkt2};
+ghost use Rattle.state_writing.specs.declared.layout.FileLayout.TheVariants.{Tkt2};
 
-use crate::layout::{Layout, MOST_BYTES};
+use crate::layout::{FileLayout, MOST_BYTES};
 use crate::number::parent_number;
 use arrayvec::ArrayVec;
 use byteorder::{BigEndian, ByteOrder};
@@ -19,7 +19,7 @@ use topology::{Net, laws as topology_laws};
 /// The numbers of a file: six, and ten for each of at most 63 ports.
 type Numbers = ArrayVec<u16, 636>;
 
-/// Writes the state of a node to the front of `bytes`, and answers how many bytes it has: 16, and
+/// Writes the state of a node to the front of `bytes`, and returns how many bytes it has: 16, and
 /// 20 for each neighbour. The rest of `bytes` stays as it was. The node must be one of the
 /// network's. The desk is not written.
 pub fn encode<A: Allocator, N: Allocator + Copy>(
@@ -38,7 +38,7 @@ pub fn encode<A: Allocator, N: Allocator + Copy>(
 {
     let numbers = numbers_of(node, net);
     let count = 4 + 2 * numbers.len();
-    bytes[..4].copy_from_slice(&Layout::Tkt2.magic());
+    bytes[..4].copy_from_slice(&FileLayout::Tkt2.magic());
     BigEndian::write_u16_into(&numbers, &mut bytes[4..count]);
     count
 }
@@ -67,7 +67,7 @@ fn numbers_of<A: Allocator, N: Allocator + Copy>(node: &NodeState<A>, net: &Net<
     numbers
 }
 
-/// What the network, the node and its own distance and parent are.
+/// The numbers of the network and the node, and its own distance and parent.
 fn header_numbers<A: Allocator, N: Allocator + Copy>(node: &NodeState<A>, net: &Net<N>) -> [u16; 6]
     requires { (site_in node.now).id < net.now.nodes }
     ensures numbers { let id = (site_in node.now).id in
@@ -86,7 +86,7 @@ fn header_numbers<A: Allocator, N: Allocator + Copy>(node: &NodeState<A>, net: &
     ]
 }
 
-/// The port to a neighbour.
+/// The numbers of the port to a neighbour.
 fn port_numbers<A: Allocator>(node: &NodeState<A>, port: u16) -> [u16; 10]
     requires { port < (site_in node.now).ranges.nodes }
     ensures { result ≡ port_numbers (state_of node.now) port }

@@ -27,7 +27,7 @@ abbrev pub most_bytes : Question → ℕ
 most_bytes Status = 96
 most_bytes Look = 8192
 
--- the answer is there once its first line is, or more bytes than that may have
+-- the answer is there once its first line has come, or more bytes than that line may have
 abbrev pub is_answered : Question → List ℕ → Bool
 is_answered question came = is_some (first_line came) || nat_lt (most_bytes question) (length came)
 
@@ -35,7 +35,7 @@ is_answered question came = is_some (first_line came) || nat_lt (most_bytes ques
 abbrev pub nodes_in : List Asked → List ℕ
 nodes_in all = map (λ asked. asked.node) all
 
--- what each answered, in their order
+-- what each node answered, in their order
 abbrev pub answers_in : List Asked → List NodeAnswer
 answers_in [] = []
 answers_in (asked ∷ all) = answer_in asked.node asked.came.items ∷ answers_in all
@@ -44,7 +44,7 @@ answers_in (asked ∷ all) = answer_in asked.node asked.came.items ∷ answers_i
 abbrev pub nodes_of : List NodeAnswer → List ℕ
 nodes_of answers = map (λ answer. answer.node) answers
 
--- these bytes, if they are a text
+-- these bytes, if they are a text; else an empty text
 abbrev pub text_or_empty : List ℕ → List ℕ
 text_or_empty line = if is_utf8 line then line else []
 
@@ -52,11 +52,11 @@ abbrev pub line_or_empty : Option (List ℕ) → List ℕ
 line_or_empty None = []
 line_or_empty (Some line) = text_or_empty line
 
--- the first line that came, if it is a text
+-- the first line that came, if it is a text; else an empty text
 abbrev pub text_in : Asked → List ℕ
 text_in asked = line_or_empty (first_line asked.came.items)
 
--- what each said of its loans, in their order
+-- what each node said of its loans, in their order
 abbrev pub loans_in : List Asked → List NodeLoans
 loans_in [] = []
 loans_in (asked ∷ all) = record { node = asked.node; said = line_loans (text_in asked) } ∷ loans_in all

@@ -17,7 +17,7 @@ foreign_text file folder node =
     folder ++ (codes " has a node " ++ (decimal node
     ++ (codes ", which the network of " ++ (file ++ codes " has not"))))
 
--- what each says
+-- what each notice says
 abbrev pub notice_text : StatusNotice → List ℕ
 notice_text (NoFolder folder) = codes "there is no folder " ++ folder.now
 notice_text (Forbidden folder) = codes "this user may not use the sockets in " ++ folder.now

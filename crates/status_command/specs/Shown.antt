@@ -24,7 +24,7 @@ with_some (Some sample) samples = with_sample sample samples
 abbrev pub minute_after : ℕ → List NodeLoans → List Sample → List Sample
 minute_after at loans samples = with_some (sample_of at loans) samples
 
--- blocks have an empty line in front of each but the first
+-- each block but the first has an empty line before it
 abbrev pub after_block : Screen → Screen
 after_block (Blocks has_shown) = Blocks true
 after_block screen = screen

@@ -18,7 +18,7 @@ is_closed Done = false
 abbrev pub is_without_room : Asked → Bool
 is_without_room asked = is_closed asked.contact
 
--- the nodes that did so, in their order
+-- the nodes that closed the connection and gave no line, in their order
 abbrev pub without_room : List Asked → List ℕ
 without_room [] = []
 without_room (asked ∷ all) =

@@ -10,7 +10,7 @@ use node_texts::{MOST_STATUS_BYTES, StatusLine};
 use status_readings::NodeAnswer;
 use std::alloc::{AllocError, Global};
 
-/// The first line of what came, without its newline; none if none has ended.
+/// The first line of what came, without its newline; none if no line has ended.
 pub fn first_line(came: &[u8]) -> Option<&[u8]>
     ensures { option_map (λ line. line.now) result ≡ first_line came.now }
 {
@@ -18,7 +18,7 @@ pub fn first_line(came: &[u8]) -> Option<&[u8]>
     Some(&came[..end])
 }
 
-/// Where the first newline stands.
+/// Where the first newline is.
 fn newline_at(came: &[u8]) -> Option<usize>
     ensures { result ≡ position (λ byte. byte == 10) came.now }
 {
@@ -61,7 +61,7 @@ fn line_said(line: &[u8]) -> Option<StatusLine>
     }
 }
 
-/// What each answered, in their order.
+/// What each node answered, in their order.
 ///
 /// # Errors
 /// If memory runs out.

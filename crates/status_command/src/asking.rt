@@ -15,8 +15,8 @@ use std::{io, thread};
 /// How many milliseconds pass between two looks at the nodes that have not answered yet.
 const BETWEEN_LOOKS: u64 = 1;
 
-/// A node that closed the connection, as a node without room for a client does, is asked again
-/// every so many looks.
+/// A node that closed the connection, as a node without room for a client does, is asked again each
+/// time this many looks have passed.
 const LOOKS_AGAIN: u32 = 100;
 
 /// How many bytes are read at once.
@@ -46,9 +46,9 @@ pub struct Asked {
     contact: Contact,
 }
 
-/// Asks all the nodes at once, and waits for their lines, for at most `looks` looks of a
-/// millisecond. A node that closes the connection, as a node without room does, is asked again.
-/// The result is in the order of the nodes.
+/// Asks all the nodes at once, and waits for their lines, for at most `looks` looks, a millisecond
+/// apart. A node that closes the connection, as a node without room does, is asked again. The result
+/// is in the order of the nodes.
 ///
 /// # Errors
 /// If the system or memory fails. A silent node is no error.
@@ -98,8 +98,8 @@ fn wait_for_all<R: Net + Clock>(rt: &R, all: &mut [Asked], looks: u32) -> io::Re
     Ok(())
 }
 
-/// Whether nodes that closed the connection are asked again at this look: at every hundredth, from
-/// the fiftieth on. So a node has time to close once more before the last look.
+/// Whether nodes that closed the connection are asked again at this look: at every hundredth look,
+/// beginning with the fiftieth. So a node has time to close once more before the last look.
 fn is_time_again(look: u32) -> bool
     ensures { result ≡ (look % 100 == 49) }
 {
@@ -150,7 +150,8 @@ fn ask<R: Net>(
     })
 }
 
-/// A connection over which the question was sent; none if nobody takes it.
+/// Connects and sends the question. The contact is closed if the node does not take the question, and
+/// done if nobody listens.
 fn connect<R: Net>(rt: &R, question: Question, path: &str) -> io::Result<Contact> {
     match UnixStream::connect(rt, path) {
         Ok(mut stream) => match stream.write_all(question.words()) {
@@ -217,7 +218,7 @@ impl Asked {
     }
 }
 
-/// How many bytes were read; 0 if the connection was closed or broke. None if nothing has come since.
+/// How many bytes were read; 0 if the connection was closed or broke. None if nothing new has come.
 fn bytes_read(stream: &mut UnixStream, piece: &mut [u8]) -> Option<usize>
     ensures { IfSome result (λ count. count ≤ length piece.old) }
 {
@@ -230,7 +231,7 @@ fn bytes_read(stream: &mut UnixStream, piece: &mut [u8]) -> Option<usize>
     }
 }
 
-/// Whether the answer is there: its first line, or more bytes than that may have.
+/// Whether the answer is there: its first line, or more bytes than that line may have.
 fn is_answered(question: Question, came: &[u8]) -> bool
     ensures { result ≡ is_answered question came.now }
 {

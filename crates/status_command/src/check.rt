@@ -43,7 +43,7 @@ pub fn run<R: std::net::Net + Files + Clock + Print + AllocGlobal>(
     }
 }
 
-/// What is found.
+/// What the check finds.
 ///
 /// # Errors
 /// Why the nodes cannot be read.

@@ -12,11 +12,11 @@ use std::io::ErrorKind;
 use std::rt::Files;
 use std::{fs, io};
 
-/// The nodes that are asked: these, in this order; or, if none is named, those that have a socket in the
-/// folder, by ascending id.
+/// The nodes that are asked: the named ones, in their order; or, if none is named, those that have a
+/// socket in the folder, by ascending id.
 ///
 /// # Errors
-/// If none is named, and the folder cannot be read or has no socket of a node.
+/// If none is named, and the folder cannot be read or has no socket of a node; or if memory runs out.
 pub fn nodes_asked<'a, R: Files + AllocGlobal>(
     rt: &R,
     folder: &'a str,
@@ -38,7 +38,7 @@ pub fn nodes_asked<'a, R: Files + AllocGlobal>(
     }
 }
 
-/// The same nodes.
+/// A copy of the nodes.
 fn copied(alloc: Global, nodes: &[u16]) -> io::Result<Vec<u16>>
     ensures { IfOk result (λ all. all.items ≡ nodes.now) }
 {
@@ -57,8 +57,8 @@ pub fn why_no_nodes<'a>(kind: ErrorKind, folder: &'a str) -> StatusNotice<'a>
     }
 }
 
-/// Whether a folder has neither the socket nor the state of a node, so that it never ran there. If
-/// that cannot be seen, it may have run.
+/// Whether a folder has neither the socket nor the state of a node, so that it never ran there. If that
+/// cannot be seen, the node counts as one that may have run.
 pub fn was_never<R: Files + AllocGlobal>(rt: &R, folder: &str, node: u16) -> bool {
     match NodePaths::new(rt.alloc(), folder, node) {
         Ok(paths) => {

@@ -85,7 +85,7 @@ fn print_said<'a, R: Print + Eprint + AllocGlobal>(
     }
 }
 
-/// The line that came from a node, if it is a text; else the empty one.
+/// The line that came from a node, if it is a text; else an empty text.
 pub fn line_of(asked: &Asked) -> &str
     ensures { result.now ≡ text_in asked.now }
 {
@@ -95,7 +95,7 @@ pub fn line_of(asked: &Asked) -> &str
     }
 }
 
-/// These bytes, if they are a text; else the empty one.
+/// These bytes, if they are a text; else an empty text.
 fn text_or_empty(line: &[u8]) -> &str
     ensures { result.now ≡ text_or_empty line.now }
 {

@@ -146,7 +146,7 @@ impl fmt::Display for StatusNoticeLine<'_> {
     }
 }
 
-/// Reports why nothing is shown, unless the reader of it is gone, and returns the exit status.
+/// Reports why nothing is shown, unless the reader is gone, and returns the exit status.
 pub fn reported<R: Eprint>(rt: &R, notice: StatusNotice<'_>) -> u8
     ensures status { result ≡ notice_status notice.entry }
     ensures end { IsEnd result }
@@ -158,8 +158,8 @@ pub fn reported<R: Eprint>(rt: &R, notice: StatusNotice<'_>) -> u8
     1
 }
 
-/// Why nothing more is shown, by the error of standard output. If that refused it, the system's words
-/// are said on standard error.
+/// Why nothing more is shown, by the error of standard output. If the pipe is not broken and memory did
+/// not run out, the system's words are printed on standard error.
 pub fn why_not_written<'a, R: Eprint>(rt: &R, error: io::Error) -> StatusNotice<'a>
     ensures { result ≡ why_not_written (error_kind error) }
 {

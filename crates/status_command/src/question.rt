@@ -8,7 +8,8 @@ use lock_desk::ClientLine;
 use node_texts::MOST_STATUS_BYTES;
 use std::alloc::{AllocError, Global};
 
-/// The most bytes of a line for lookers. With 63 neighbours and the greatest numbers it has fewer.
+/// The most bytes of a line for lookers. Even with 63 neighbours and the greatest numbers it has
+/// fewer.
 pub const MOST_LOOK_BYTES: usize = 8192;
 
 /// What a node is asked.
@@ -34,7 +35,7 @@ impl Question {
         }
     }
 
-    /// What to write there.
+    /// What to write to that socket.
     pub fn words(&self) -> &'static [u8]
         ensures { AreWordsOf self.now result.now }
     {
@@ -44,7 +45,7 @@ impl Question {
         }
     }
 
-    /// The most bytes that the answer's line has.
+    /// The most bytes that the answer's line may have.
     pub fn most(&self) -> usize
         ensures { result ≡ most_bytes self.now }
     {

@@ -20,7 +20,7 @@ use std::{fs, io, thread};
 pub enum WatchEnd {
     /// Nobody asked for its end.
     NotYet,
-    /// Somebody did.
+    /// Somebody asked for its end.
     Asked,
 }
 
@@ -35,20 +35,22 @@ const END: &str = "\x1b[?7h\x1b[?25h\x1b[?1049l";
 pub enum Screen {
     /// On a terminal that had these settings.
     Terminal(String),
-    /// Elsewhere, as blocks; whether one was printed, so that an empty line comes next.
+    /// Elsewhere, as blocks: whether one was printed, so that an empty line comes before the next
+    /// one.
     Blocks(bool),
-    /// Elsewhere, as one line a reading.
+    /// Anywhere, as one line a reading.
     Lines,
 }
 
 impl Screen {
-    /// The terminal, if standard input and output are one and the form is lines. From then on keys
-    /// are not echoed, and Ctrl-C is a key.
+    /// The terminal, if both standard input and standard output are terminals and the form is
+    /// lines; else blocks, or lines for JSON. From then on keys are not echoed, and Ctrl-C is a
+    /// key.
     pub fn begin<R: Files<File = File> + Print + Processes + AllocGlobal>(
         rt: &R,
         form: AnswerForm,
     ) -> Screen
-        // JSON is for programs, also on a terminal.
+        // JSON is for programs, even on a terminal.
         ensures { form ≡ Json → result ≡ Lines }
     {
         if form == AnswerForm::Json {
@@ -84,7 +86,7 @@ impl Screen {
         Ok(())
     }
 
-    /// Rests for so many milliseconds, or until somebody types a key that ends the watch.
+    /// Rests for this many milliseconds, or until somebody types a key that ends the watch.
     pub fn rest<R: Clock + Input>(&self, rt: &R, millis: u64) -> WatchEnd
         // Keys are read only from a terminal.
         ensures { is_in_place self.now ≡ false → result ≡ NotYet }
@@ -132,7 +134,7 @@ fn stty<R: Processes>(rt: &R, alloc: Global, words: &[&str]) -> Option<String> {
     String::from_str(alloc, text.trim_ascii_end()).ok()
 }
 
-/// The same as bytes.
+/// What `stty` prints about the terminal on standard input, as bytes.
 fn stty_output<R: Processes>(rt: &R, alloc: Global, words: &[&str]) -> io::Result<Vec<u8>> {
     let output = stty_command(alloc, words)?.output(rt)?;
     if output.status.success() {
@@ -179,7 +181,7 @@ fn typed_end<R: Clock + Input>(rt: &R, rest: Duration) -> WatchEnd {
     WatchEnd::NotYet
 }
 
-/// As many keys are read at a time.
+/// The most keys that are read at a time.
 const KEYS: usize = 64;
 
 /// Whether a key that ends a watch was typed, or the terminal is gone.

@@ -32,11 +32,12 @@ pub enum AnswerForm {
     Json,
 }
 
-/// Prints the status line of each of these nodes, or, if none is named, of each that has a socket
-/// in the folder, by ascending id; and how many of them are privileged, and how many lend. A node
-/// that closes the connection, as a node without room does, is asked again, and then at its socket
+/// Prints the status line of each of these nodes, and how many of them are privileged, and how many
+/// lend. If no node is named, these are the nodes that have a socket in the folder, by ascending id. A
+/// node that closes the connection, as a node without room does, is asked again, and then at its socket
 /// for lookers. A node that gives no line within a second is reported as silent. Returns the exit
-/// status: 1 if a node gave no line, or there is no node; 141 if the reader of standard output is gone.
+/// status: 1 if a node gave no line, or nothing can be shown; 141 if the reader of standard output is
+/// gone.
 ///
 /// No contract can say what the nodes answer. [`StatusLine::read`](node_texts::StatusLine::read)
 /// says how their lines are read, and [`report`] what is printed of them.
@@ -69,8 +70,8 @@ fn print_status<'a, R: Net + Files + Clock + Print + Eprint + AllocGlobal>(
     }
 }
 
-/// What the nodes answer within so many milliseconds, in their order. For a node that has no room
-/// for a client, what it says at its socket for lookers counts.
+/// What the nodes answer within `wait` milliseconds, in their order. For a node that has no room for a
+/// client, what it says at its socket for lookers counts.
 ///
 /// # Errors
 /// If the system or memory fails.
@@ -99,7 +100,7 @@ pub fn why_not_asked<'a>(kind: ErrorKind) -> StatusNotice<'a>
     }
 }
 
-/// Prints what the nodes answered. Returns whether each did.
+/// Prints what the nodes answered. Returns whether each node gave an answer.
 fn print_answers<'a, R: Files + Print + Eprint + AllocGlobal>(
     rt: &R,
     folder: &'a str,

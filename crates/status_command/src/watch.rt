@@ -30,16 +30,17 @@ const WAIT: u32 = 300;
 pub struct Watch<'a> {
     /// The folder of the nodes' sockets.
     pub folder: &'a str,
-    /// The nodes; none for those that have a socket there.
+    /// The nodes; if none is named, those that have a socket there.
     pub nodes: &'a [u16],
     /// How many milliseconds pass between two readings.
     pub every: u64,
-    /// The form in which they are shown.
+    /// The form in which readings are shown.
     pub form: AnswerForm,
 }
 
-/// Shows how nodes stand again and again: in place on a terminal, until Ctrl-C or `q` is typed;
-/// elsewhere one after the other, with an empty line between, until the output fails. Returns the
+/// Shows how nodes stand again and again: in place on a terminal, until a key that ends the watch
+/// is typed, such as Ctrl-C or `q`; elsewhere one after the other, with an empty line between,
+/// until the output fails. JSON is shown one line after the other, even on a terminal. Returns the
 /// exit status.
 pub fn run<R: Net + Files<File = File> + Clock + Input + Print + Eprint + Processes + AllocGlobal>(
     rt: &R,
@@ -78,7 +79,7 @@ fn show_all<'a, R: Net + Files + Clock + Input + Print + Eprint + AllocGlobal>(
     Ok(())
 }
 
-/// What is shown of a reading.
+/// Takes a reading, and returns what is shown of it.
 fn shown<'a, R: Net + Files + Clock + AllocGlobal>(
     rt: &R,
     watch: &Watch<'a>,

@@ -8,11 +8,12 @@ use Rattle.status_readings.specs.declared.findings.Finding.{Finding}
 use Rattle.status_readings.specs.declared.findings.Finding.TheVariants.{AllWell, Silent, Wrong, TwoLentOnce, Nobody, TwoLend}
 use Rattle.status_readings.specs.Verdict.{is_faulty, severity, severity_word}
 
--- the node answered, with another distance or parent than the network gives
+-- the node answered with a wrong distance or parent by the network, or with an id that is none of
+-- its nodes
 abbrev pub is_wrong : Network → NodeAnswer → Bool
 is_wrong net answer = has_answered answer && is_faulty net answer
 
--- how many nodes were asked, and how many of them say what
+-- how many nodes were asked, and how many of them answered, are wrong, are privileged, or lend
 abbrev pub figures : Network → List NodeAnswer → Figures
 figures net answers = record {
   nodes = length answers;
@@ -31,7 +32,8 @@ finding_text TwoLentOnce = codes "two nodes lent in a reading, but not in each"
 finding_text Nobody = codes "no node answers"
 finding_text TwoLend = codes "two nodes lend in each reading"
 
--- a figure, after a space: its name, how many there are, no limits, and that there can be from 0 to so many
+-- a figure, after a space: its name, the count, no limits, and the range of the count, from 0 to
+-- `most`
 unfoldable pub figure_text : List ℕ → ℕ → ℕ → List ℕ
 figure_text label value most =
     codes " " ++ (label ++ (codes "=" ++ (decimal value ++ (codes ";;;0;" ++ decimal most))))

@@ -28,7 +28,7 @@ abbrev pub said_members : Option StatusLine → Members → Members
 said_members None others = others
 said_members (Some line) others = line_members line others
 
--- the node, whether it answered, and what
+-- the node, whether it answered, and what it answered
 abbrev pub node_members : NodeAnswer → Members → Members
 node_members answer others =
     said_members answer.line
@@ -40,7 +40,7 @@ node_data answer = object (node_members answer no_members)
 abbrev pub nodes_data : List NodeAnswer → Items
 nodes_data answers = items_of (map node_data answers)
 
--- what each node answered, and how many are privileged, and lend
+-- what each node answered, how many are privileged, and how many lend
 abbrev pub status_members : List NodeAnswer → Members → Members
 status_members answers others =
     put (codes "lending") (count (length (filter lends answers)))
@@ -50,6 +50,6 @@ status_members answers others =
 abbrev pub status_data : List NodeAnswer → Data
 status_data answers = object (status_members answers no_members)
 
--- a text is one line of JSON with that
+-- a text is one line of JSON with these data
 abbrev pub IsStatusLine : List NodeAnswer → List ℕ → Type 0
 IsStatusLine answers text = (line : List ℕ) × IsInOrder line (status_data answers) × (text ≡ line ++ codes "\n")

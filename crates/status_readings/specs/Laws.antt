@@ -7,11 +7,11 @@ use Rattle.status_readings.specs.Report.{lends}
 use Rattle.status_readings.specs.declared.findings.Severity.TheVariants.{Fine, Critical}
 use Rattle.status_readings.specs.Verdict.{finding, severity, is_faulty}
 
--- one node lends
+-- exactly one node lends
 abbrev pub OneLends : List NodeAnswer → Type 0
 OneLends answers = length (filter lends answers) ≡ 1
 
--- readings of which one has one node that lends are not critical
+-- three readings are not critical if exactly one node lends in at least one of them
 abbrev pub OneLoanIsNotCritical : Type 0
 OneLoanIsNotCritical = (net : Network) (a b c : List NodeAnswer)
     → OneLends a ⊎ (OneLends b ⊎ OneLends c) → severity (finding net a b c) ≢ Critical

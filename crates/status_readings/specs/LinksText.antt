@@ -21,7 +21,7 @@ abbrev pub link_lines : ℕ → List LinkSaid → List ℕ
 link_lines node [] = []
 link_lines node (link ∷ links) = link_line node link ++ link_lines node links
 
--- the same, or that it gave no answer
+-- the same lines, or that the node gave no answer
 abbrev pub links_or_none : ℕ → Option (List LinkSaid) → List ℕ
 links_or_none node None = codes "node " ++ (decimal node ++ codes " no answer\n")
 links_or_none node (Some links) = link_lines node links

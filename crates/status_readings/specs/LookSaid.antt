@@ -1,4 +1,4 @@
--- What a node's line for whoever looks says of its loans, of the token, and of its links.
+-- What a node's line for whoever looks at it says of its loans, of the token, and of its links.
 use Rattle.std.specs.Prelude.{ℕ, ◌==◌, if◌then◌else◌, Bool, List, [], ◌∷◌, Option, None, Some, codes, option_and_then}
 use Rattle.serde_json.specs.Data.{Data, Items, no_items, item}
 use Rattle.serde_json.specs.Find.{get, as_bool, as_array}
@@ -23,7 +23,7 @@ abbrev pub at_root : Option ℕ → Option ℕ → Option ℕ
 at_root (Some distance) (Some rounds) = Some (if distance == 0 then rounds else 0)
 at_root _ _ = None
 
--- how often the token came round at a node that takes itself for the root; 0 of any other one
+-- how often the token came round at a node that takes itself for the root; 0 at any other node
 abbrev pub root_rounds : Data → Option ℕ
 root_rounds value =
     at_root (member_number (codes "distance") value) (member_number (codes "rounds") value)
@@ -32,7 +32,7 @@ root_rounds value =
 abbrev pub loans_said : Data → Option LoansSaid
 loans_said value = option_and_then (members_loans (root_rounds value)) (get (codes "loans") value)
 
--- what a line says of them, if it is JSON
+-- what a line says of a node's loans, if it is JSON
 abbrev pub line_loans : List ℕ → Option LoansSaid
 line_loans line = option_and_then loans_said (read line)
 
@@ -71,6 +71,6 @@ links_listed value = option_and_then as_array (get (codes "links") value)
 abbrev pub links_said : Data → Option (List LinkSaid)
 links_said value = option_and_then all_links (links_listed value)
 
--- what a line says of them, if it is JSON
+-- what a line says of a node's links, if it is JSON
 abbrev pub line_links : List ℕ → Option (List LinkSaid)
 line_links line = option_and_then links_said (read line)

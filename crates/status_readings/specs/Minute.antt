@@ -14,7 +14,7 @@ loan_present loan = option_and_then (λ said. said.present) loan.said
 abbrev pub loans_at : List NodeLoans → ℕ → Option NodeLoans
 loans_at loans node = find (λ loan. loan.node == node) loans
 
--- how long the present loan of a node has been
+-- how long the present loan of a node has lasted
 abbrev pub present_at : List NodeLoans → ℕ → Option ℕ
 present_at loans node = option_and_then loan_present (loans_at loans node)
 
@@ -22,11 +22,12 @@ present_at loans node = option_and_then loan_present (loans_at loans node)
 abbrev pub capped : ℕ → ℕ
 capped count = min count (2 ^ 64 - 1)
 
--- nothing was lent
+-- a sample without any loan or round
 abbrev pub nothing_at : ℕ → Sample
 nothing_at at = record { at = at; count = 0; lately = 0; present = 0; rounds = 0 }
 
--- the same with what one more node said: counts are added, and of lengths the longest is kept
+-- the same sample with what one node more said: counts are added, and the longest of the lengths is
+-- kept
 abbrev pub sample_with : LoansSaid → Sample → Sample
 sample_with said s = record {
   at = s.at;
@@ -40,20 +41,21 @@ abbrev pub with_said : Option LoansSaid → Option Sample → Option Sample
 with_said (Some said) (Some s) = Some (sample_with said s)
 with_said _ _ = None
 
--- what all nodes said at a time; none, if one did not
+-- what all nodes said at one time; none if a node did not say it
 abbrev pub sample_of : ℕ → List NodeLoans → Option Sample
 sample_of at [] = Some (nothing_at at)
 sample_of at (loan ∷ loans) = with_said loan.said (sample_of at loans)
 
--- a sample is taken, and those are dropped that are older by more than a minute
+-- a sample is added, and those that are more than a minute older are dropped
 abbrev pub with_sample : Sample → List Sample → List Sample
 with_sample new samples = filter (λ old. nat_le (new.at - 60000) old.at) samples ++ new ∷ []
 
--- how many there were in ten seconds, of so many in so many milliseconds
+-- how many there were in ten seconds on average, if there were `count` in `millis` milliseconds
 abbrev pub in_ten_seconds : ℕ → ℕ → ℕ
 in_ten_seconds count millis = capped (count * 10000) / max millis 1
 
--- between two samples, between which a loan of this length was seen to stand
+-- the rates between two samples; `present` is the length of the longest loan that was seen while it
+-- stood
 abbrev pub rates_between : Sample → Sample → ℕ → Rates
 rates_between first last present = record {
   tenths = in_ten_seconds (last.count - first.count) (last.at - first.at);
@@ -61,7 +63,7 @@ rates_between first last present = record {
   rounds = in_ten_seconds (last.rounds - first.rounds) (last.at - first.at);
 }
 
--- the longest loan that was seen to stand
+-- the longest time for which a loan was seen to last while it still stood
 abbrev pub longest_present : List Sample → ℕ
 longest_present [] = 0
 longest_present (s ∷ samples) = max s.present (longest_present samples)
@@ -70,7 +72,7 @@ abbrev pub between_ends : Option Sample → Option Sample → ℕ → Option Rat
 between_ends (Some first) (Some last) present = Some (rates_between first last present)
 between_ends _ _ present = None
 
--- between the first and the last of two samples or more
+-- the rates between the first and the last sample, if there are two samples or more
 abbrev pub rates_of : List Sample → Option Rates
 rates_of samples =
     if nat_lt (length samples) 2 then None

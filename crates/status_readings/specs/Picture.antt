@@ -1,4 +1,4 @@
--- What a watch shows at a time.
+-- What a watch shows at one time.
 use Rattle.std.specs.Prelude.{ℕ, zero, suc, ◌/◌, ◌%◌, Bool, true, false, List, [], ◌∷◌, ◌++◌, length, filter}
 use Rattle.std.specs.Prelude.{Option, None, Some, if◌then◌else◌, ◌==◌, codes, decimal}
 use Rattle.node_texts.specs.declared.status_line.StatusLine.{StatusLine}
@@ -27,7 +27,7 @@ lent_text (Some ticket) None = codes " lent " ++ decimal ticket
 lent_text (Some ticket) (Some micros) =
     codes " lent " ++ (decimal ticket ++ (codes " for " ++ (seconds_text micros ++ codes " s")))
 
--- how many wait, if somebody does
+-- how many tickets wait, if any
 abbrev pub waiting_text : ℕ → List ℕ
 waiting_text waiting = if waiting == 0 then [] else codes " waiting " ++ decimal waiting
 
@@ -51,7 +51,7 @@ abbrev pub row_lines : List NodeLoans → List Row → List ℕ
 row_lines loans [] = []
 row_lines loans (row ∷ rows) = row_text loans row ++ row_lines loans rows
 
--- so many tenths, with a decimal
+-- a number of tenths, with one decimal
 abbrev pub tenths_text : ℕ → List ℕ
 tenths_text tenths = decimal (tenths / 10) ++ (codes "." ++ decimal (tenths % 10))
 

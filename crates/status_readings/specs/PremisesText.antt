@@ -1,4 +1,4 @@
--- What a node's line for whoever looks says of its turns, and what is printed of it.
+-- What a node's line for whoever looks at it says of its turns, and what is printed of it.
 use Rattle.std.specs.Prelude.{ℕ, List, [], ◌∷◌, ◌++◌, Option, None, Some, codes, decimal, option_and_then}
 use Rattle.serde_json.specs.Data.{Data}
 use Rattle.serde_json.specs.Find.{get, as_number, as_u64}
@@ -27,7 +27,7 @@ members_said turns =
 abbrev pub turns_said : Data → Option TurnsSaid
 turns_said value = option_and_then members_said (get (codes "turns") value)
 
--- what a line says of them, if it is JSON
+-- what a line says of a node's turns, if it is JSON
 abbrev pub line_said : List ℕ → Option TurnsSaid
 line_said line = option_and_then turns_said (read line)
 
@@ -41,7 +41,7 @@ premises_line node (Some said) =
     ++ (codes " ms lately " ++ (millis_text said.lately
     ++ (codes " ms late " ++ decimal said.late))))))))
 
--- the lines of all
+-- the lines of all nodes
 abbrev pub premises_text : List PremisesLine → List ℕ
 premises_text [] = []
 premises_text (line ∷ lines) = (premises_line line.node line.said ++ codes "\n") ++ premises_text lines

@@ -10,7 +10,7 @@ abbrev pub answer_text : ℕ → Option StatusLine → List ℕ
 answer_text node None = codes "node " ++ (decimal node ++ codes " no answer\n")
 answer_text node (Some line) = status_text line ++ codes "\n"
 
--- the lines of all
+-- the lines of all nodes
 abbrev pub answer_lines : List NodeAnswer → List ℕ
 answer_lines [] = []
 answer_lines (answer ∷ answers) = answer_text answer.node answer.line ++ answer_lines answers
@@ -30,18 +30,18 @@ is_privileged answer = line_is_privileged answer.line
 abbrev pub lends : NodeAnswer → Bool
 lends answer = line_lends answer.line
 
--- how many are privileged, and lend
+-- how many nodes are privileged, and how many lend
 abbrev pub counts_line : ℕ → ℕ → List ℕ
 counts_line privileged lending =
     codes "privileged " ++ (decimal privileged
     ++ (codes " lending " ++ (decimal lending ++ codes "\n")))
 
--- the lines of all, and how many are privileged and lend
+-- the lines of all nodes, how many are privileged, and how many lend
 abbrev pub report_text : List NodeAnswer → List ℕ
 report_text answers =
     answer_lines answers
     ++ counts_line (length (filter is_privileged answers)) (length (filter lends answers))
 
--- each node gave an answer
+-- a node gave an answer
 abbrev pub has_answered : NodeAnswer → Bool
 has_answered answer = is_some answer.line

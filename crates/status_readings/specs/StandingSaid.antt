@@ -1,4 +1,4 @@
--- What a node's line for whoever looks says of how it stands: the fields of its status line.
+-- What a node's line for whoever looks at it says of its state: the fields of its status line.
 use Rattle.std.specs.Prelude.{ℕ, nat_lt, if◌then◌else◌, Bool, List, Option, None, Some, codes, is_some, option_and_then}
 use Rattle.serde_json.specs.Data.{Data}
 use Rattle.serde_json.specs.Find.{get, as_null, as_number, as_u64}
@@ -19,7 +19,7 @@ abbrev pub some_number : Option ℕ → Option (Option ℕ)
 some_number None = None
 some_number (Some number) = Some (Some number)
 
--- null is no number; else it is a number below 65536
+-- no number if the value is null; else it must be a number below 65536
 abbrev pub number_or_null : Data → Option (Option ℕ)
 number_or_null value =
     if is_some (as_null value) then Some None
@@ -35,13 +35,13 @@ all_standing (Some node) (Some distance) (Some parent) (Some token) (Some lent) 
     Some (record { node = node; distance = distance; parent = parent; token = token; lent = lent; waiting = waiting })
 all_standing _ _ _ _ _ _ = None
 
--- what a JSON value says of how a node stands
+-- what a JSON value says of the state of a node
 abbrev pub standing_said : Data → Option StatusLine
 standing_said value =
     all_standing (member_id (codes "node") value) (member_id (codes "distance") value)
     (member_or_null (codes "parent") value) (member_truth (codes "token") value)
     (member_or_null (codes "lent") value) (member_id (codes "waiting") value)
 
--- what a line says of it, if it is JSON
+-- what a line says of the state of a node, if it is JSON
 abbrev pub line_standing : List ℕ → Option StatusLine
 line_standing line = option_and_then standing_said (read line)

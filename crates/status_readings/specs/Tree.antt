@@ -40,23 +40,24 @@ child_rows rows_of parent [] = []
 child_rows rows_of parent (answer ∷ answers) =
     (if has_parent answer parent then rows_of answer else []) ++ child_rows rows_of parent answers
 
--- a node and all under it, so many deep at most; at the left as deep as there are nodes
+-- a node and all nodes under it, at most this many levels in all; for a node at the left, as many
+-- as there are nodes
 abbrev pub below : List NodeAnswer → ℕ → NodeAnswer → List Row
 below all zero answer = []
 below all (suc left) answer =
     (record { depth = length all - suc left; answer = answer }) ∷ child_rows (below all left) answer.node all
 
--- of these nodes those that name no parent that was asked, and all under them
+-- those of these nodes that name no parent that was asked, and all nodes under them
 abbrev pub top_rows : List NodeAnswer → List NodeAnswer → List Row
 top_rows all [] = []
 top_rows all (answer ∷ answers) =
     (if is_top all answer then below all (length all) answer else []) ++ top_rows all answers
 
--- a node stands in one of these rows
+-- a node is in one of these rows
 abbrev pub is_placed : List Row → ℕ → Bool
 is_placed rows node = list_any (λ row. row.answer.node == node) rows
 
--- those nodes that stand in none of these rows
+-- the nodes that are in none of these rows
 abbrev pub rest_rows : List Row → List NodeAnswer → List Row
 rest_rows rows [] = []
 rest_rows rows (answer ∷ answers) =

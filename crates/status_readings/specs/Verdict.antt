@@ -12,7 +12,7 @@ use Rattle.status_readings.specs.declared.findings.Finding.TheVariants.{AllWell,
 use Rattle.status_readings.specs.declared.findings.Severity.{Severity}
 use Rattle.status_readings.specs.declared.findings.Severity.TheVariants.{Fine, Warning, Critical, Unknown}
 
--- two ids, or two times none
+-- two equal ids, or twice none
 abbrev pub same_id : Option ℕ → Option ℕ → Bool
 same_id None None = true
 same_id (Some v) (Some w) = v == w
@@ -52,16 +52,17 @@ is_nobody answers = not (list_any has_answered answers)
 abbrev pub two_lend : List NodeAnswer → Bool
 two_lend answers = nat_le 2 (length (filter lends answers))
 
--- two lent in a reading, or in none
+-- two or more lent in some reading, or in none
 abbrev pub lent_finding : List NodeAnswer → List NodeAnswer → List NodeAnswer → Finding
 lent_finding a b c = if two_lend a || two_lend b || two_lend c then TwoLentOnce else AllWell
 
--- a node is silent or wrong in a reading, the first of the first such reading; else what lending says
+-- the first node that is silent or wrong in the first reading that has one; else what is found of
+-- lending
 abbrev pub lesser_finding : Network → List NodeAnswer → List NodeAnswer → List NodeAnswer → Finding
 lesser_finding net a b c =
     unwrap_or (first_fault net a) (unwrap_or (first_fault net b) (unwrap_or (first_fault net c) (lent_finding a b c)))
 
--- nobody answers in any reading; or two lend in each; or something less
+-- no node answers in any reading; or two or more lend in each; or something less severe
 abbrev pub finding : Network → List NodeAnswer → List NodeAnswer → List NodeAnswer → Finding
 finding net a b c =
     if is_nobody a && is_nobody b && is_nobody c then Nobody

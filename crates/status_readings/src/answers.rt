@@ -18,8 +18,8 @@ pub struct NodeAnswer {
     pub line: Option<StatusLine>,
 }
 
-/// What is printed of the nodes' answers: the status line of each, or that it gave none; and how
-/// many of them are privileged, and lend.
+/// What is printed of the nodes' answers: the status line of each node, or that it gave none; and
+/// how many of the nodes are privileged, and how many lend.
 ///
 /// # Errors
 /// If memory runs out.
@@ -32,7 +32,7 @@ pub fn report(alloc: Global, answers: &[NodeAnswer]) -> Result<String, AllocErro
     Ok(text)
 }
 
-/// Adds the line that says how many are privileged, and lend.
+/// Adds the line that says how many nodes are privileged, and how many lend.
 pub fn push_counts(text: &mut String, privileged: usize, lending: usize) -> Result<(), AllocError>
     ensures { OnOk result (string_bytes text.new
         ≡ string_bytes text.old ++ counts_line privileged lending) }
@@ -47,7 +47,7 @@ pub fn all_answered(answers: &[NodeAnswer]) -> bool
     answers.iter().all(has_answered)
 }
 
-/// Adds the line of each.
+/// Adds the line of each node.
 fn push_lines(text: &mut String, answers: &[NodeAnswer]) -> Result<(), AllocError>
     ensures { OnOk result (string_bytes text.new
         ≡ string_bytes text.old ++ answer_lines answers.now) }

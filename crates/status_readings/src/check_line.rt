@@ -16,7 +16,8 @@ pub struct Figures {
     pub nodes: usize,
     /// How many answered.
     pub answering: usize,
-    /// How many of them have another distance or parent than the network gives.
+    /// How many of them have a wrong distance or parent by the network, or an id that is none of
+    /// its nodes.
     pub wrong: usize,
     /// How many are privileged.
     pub privileged: usize,
@@ -39,7 +40,8 @@ impl Figures {
     }
 }
 
-/// How many answered, with another distance or parent than the network gives.
+/// How many nodes answered with a wrong distance or parent by the network, or with an id that is
+/// none of its nodes.
 fn wrong(net: &Net, answers: &[NodeAnswer]) -> usize
     ensures { result ≡ length (filter (is_wrong net.now) answers.now) }
 {
@@ -49,7 +51,8 @@ fn wrong(net: &Net, answers: &[NodeAnswer]) -> usize
         .count()
 }
 
-/// Whether a node answered, with another distance or parent than the network gives.
+/// Whether a node answered with a wrong distance or parent by the network, or with an id that is
+/// none of its nodes.
 fn is_wrong(net: &Net, answer: &NodeAnswer) -> bool
     ensures { result ≡ is_wrong net.now answer.now }
 {
@@ -83,7 +86,7 @@ struct NodeCount {
 }
 
 impl NodeCount {
-    /// So many of so many.
+    /// A count of `value` nodes out of at most `most`.
     fn new(label: &'static str, value: usize, most: usize) -> NodeCount
         ensures label { result.label.now ≡ label.now }
         ensures counts { (result.value ≡ value) × (result.most ≡ most) }

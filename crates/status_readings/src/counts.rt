@@ -1,24 +1,24 @@
-//! How many nodes of a reading say what.
+//! How many nodes of a reading answered, are privileged, or lend.
 ghost use Rattle.std.specs.Prelude.{◌≡◌, length, filter};
 ghost use Rattle.status_readings.specs.Report.{is_privileged, lends, has_answered};
 
 use crate::answers::NodeAnswer;
 
-/// How many gave their status line.
+/// How many nodes gave their status line.
 pub fn answering(answers: &[NodeAnswer]) -> usize
     ensures { result ≡ length (filter has_answered answers.now) }
 {
     answers.iter().copied().filter(has_answered).count()
 }
 
-/// How many are privileged.
+/// How many nodes say that they are privileged.
 pub fn privileged(answers: &[NodeAnswer]) -> usize
     ensures { result ≡ length (filter is_privileged answers.now) }
 {
     answers.iter().copied().filter(is_privileged).count()
 }
 
-/// How many lend.
+/// How many nodes say that they lend.
 pub fn lending(answers: &[NodeAnswer]) -> usize
     ensures { result ≡ length (filter lends answers.now) }
 {

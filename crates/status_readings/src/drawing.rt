@@ -1,4 +1,4 @@
-//! What a watch shows at a time.
+//! What a watch shows at one time.
 ghost use Rattle.std.specs.Prelude.{◌≡◌, ◌++◌, IfOk, OnOk, length, filter, string_bytes, Some};
 ghost use Rattle.status_readings.specs.Picture.{indent, said_text, lent_text, waiting_text, row_text, row_lines};
 ghost use Rattle.status_readings.specs.Picture.{loans_line, rounds_line, rates_lines, picture_text};
@@ -13,8 +13,9 @@ use std::alloc::{AllocError, Global};
 use std::fmt;
 use std::fmt::Write;
 
-/// The lines of a reading: a line for each node, under its parent; how many are privileged, and lend; and
-/// the loans of the last minute and how often the token came round, if they are known.
+/// The lines of a reading: a line for each node, under its parent; how many nodes are privileged,
+/// and how many lend; and the loans of the last minute and how often the token came round in it, if
+/// these are known.
 ///
 /// # Errors
 /// If memory runs out.
@@ -94,7 +95,7 @@ fn push_lent(text: &mut String, lent: Option<u16>, present: Option<u64>) -> Resu
     }
 }
 
-/// Adds how many wait, if somebody does.
+/// Adds how many tickets wait, if any.
 fn push_waiting(text: &mut String, waiting: u16) -> Result<(), AllocError>
     ensures { OnOk result (string_bytes text.new ≡ string_bytes text.old ++ waiting_text waiting) }
 {
@@ -139,7 +140,7 @@ fn push_rounds(text: &mut String, rates: Rates) -> Result<(), AllocError>
     )
 }
 
-/// So many tenths, printed with a decimal.
+/// A number of tenths, printed with one decimal.
 #[derive(Drop)]
 struct Tenths(u64);
 

@@ -17,13 +17,14 @@ pub enum Finding {
     AllWell,
     /// This node gave no answer in a reading.
     Silent(u16),
-    /// This node had another distance or parent than the network gives, or is none of the network.
+    /// This node answered with a wrong distance or parent by the network, or with an id that is
+    /// none of its nodes.
     Wrong(u16),
-    /// Two lent in a reading, but not in each.
+    /// Two or more lent in a reading, but not in each reading.
     TwoLentOnce,
     /// Nobody answered in any reading.
     Nobody,
-    /// Two lent in each reading.
+    /// Two or more lent in each reading.
     TwoLend,
 }
 
@@ -32,11 +33,11 @@ pub enum Finding {
 pub enum Severity {
     /// All is well.
     Fine,
-    /// A node is missing or wrong.
+    /// A node is silent or wrong, or two or more lent in a reading, but not in each.
     Warning,
-    /// The lock does not serve.
+    /// No node answers, or two or more lend in each reading.
     Critical,
-    /// It could not be looked at.
+    /// The network could not be looked at.
     Unknown,
 }
 
@@ -79,9 +80,9 @@ impl Finding {
     }
 }
 
-/// What three readings of the nodes of a network say. The worst comes first: nobody answers in any; two
-/// lend in each; then the first node of the first reading in which one is silent or wrong; then two that
-/// lend in one.
+/// What three readings of the nodes of a network say. The worst comes first: that nobody answers in
+/// any reading; that two or more lend in each; then the first node that is silent or wrong in the
+/// first reading that has one; then that two or more lend in some reading.
 pub fn verdict(
     net: &Net,
     first: &[NodeAnswer],
@@ -140,7 +141,7 @@ fn first_fault(net: &Net, answers: &[NodeAnswer]) -> Option<Finding>
     first_faulty(net, answers).map(fault_of)
 }
 
-/// The first node's answer that is silent or wrong.
+/// The answer of the first node that is silent or wrong.
 fn first_faulty(net: &Net, answers: &[NodeAnswer]) -> Option<NodeAnswer>
     ensures { result ≡ find (is_faulty net.now) answers.now }
 {

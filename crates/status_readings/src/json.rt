@@ -12,10 +12,10 @@ use node_texts::StatusLine;
 use serde_json::{Map, Value, push, put};
 use std::alloc::{AllocError, Global};
 
-/// A JSON object with what each node answered, and how many are privileged, and lend. Names are those
-/// of the status line; `none` is null, and `yes` true. Of a node that gave no answer only its id stands
-/// there, and that it did not. It is one line, without its newline, and members are in the order of their
-/// names.
+/// A JSON object with what each node answered, how many nodes are privileged, and how many lend.
+/// Names are those of the status line; `none` is null, and `yes` true. For a node that gave no
+/// answer, it has only the node's id, and that there was no answer. It is one line, without its
+/// newline, and members are in the order of their names.
 ///
 /// # Errors
 /// If memory runs out.

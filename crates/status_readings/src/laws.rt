@@ -1,8 +1,9 @@
 //! Laws of verdicts, each the contract of a function that does nothing.
 ghost use Rattle.status_readings.specs.Laws.{OneLoanIsNotCritical, FineIsTrue};
 
-/// Readings of which one has one node that lends are never critical. So two readings with one lending, or
-/// one, do not wake whoever is called at night.
+/// If exactly one node lends in at least one of the three readings, the verdict is never critical.
+/// So it wakes nobody at night if two nodes lend in only one or two of the readings, and exactly
+/// one in another.
 pub fn one_loan_is_not_critical()
     ensures { OneLoanIsNotCritical }
 {}

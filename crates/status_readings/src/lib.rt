@@ -1,7 +1,7 @@
 //! What is made of the readings of a network: a report, the verdict of a check, JSON, and the picture of a watch.
 //!
-//! A *reading* is what each node answered when it was asked once. The nodes answer one after the other, so
-//! a reading is of no one instant.
+//! A *reading* is what each node answered when it was asked once. The nodes answer one after the
+//! other, so a reading does not show a single instant.
 //!
 //! ```
 //! let text = report(alloc, &answers)?;                 // what `status` prints
@@ -13,7 +13,7 @@
 //!
 //! Nothing here asks a node.
 //!
-//! The trap: two that lend in one reading may have lent one after the other.
+//! The trap: two nodes that lend in one reading may have lent one after the other.
 #![tactic(auto)]
 
 mod answers;

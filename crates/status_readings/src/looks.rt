@@ -1,4 +1,4 @@
-//! What the lines for whoever looks say of links and loans.
+//! What a node's line for whoever looks at it says of links and loans.
 ghost use Rattle.std.specs.Prelude.{◌≡◌, ◌++◌, IfOk, OnOk, string_bytes};
 ghost use Rattle.std.specs.Option.{option_map};
 ghost use Rattle.serde_json.specs.Read.{read};
@@ -15,22 +15,23 @@ use std::alloc::{AllocError, Global};
 use std::fmt;
 use std::fmt::Write;
 
-/// The loans of a node, and how often the token came round, as its line for whoever looks says. Lengths
-/// are in microseconds.
+/// The loans of a node, and how often the token came round, as its line for whoever looks at it
+/// says. Lengths are in microseconds.
 #[derive(Clone, Copy, Drop)]
 pub struct LoansSaid {
     /// The loans so far.
     pub count: u64,
     /// The longest of those that ended in the last minute.
     pub lately: u64,
-    /// How long the present one has been, if there is one.
+    /// How long the present one has lasted, if there is one.
     pub present: Option<u64>,
     /// How often the token came round, if the node takes itself for the root; else 0.
     pub rounds: u64,
 }
 
 impl LoansSaid {
-    /// What a line says, if it is a JSON object with all these numbers.
+    /// What a line says, if it is a JSON object with a distance and with all these numbers. Only
+    /// the length of the present loan may be absent.
     ///
     /// # Errors
     /// If memory runs out.
@@ -42,7 +43,7 @@ impl LoansSaid {
     }
 }
 
-/// What a line says, if it is JSON.
+/// The value of a line, if it is JSON.
 ///
 /// # Errors
 /// If memory runs out.
@@ -69,7 +70,7 @@ fn loans_said(value: &Value) -> Option<LoansSaid>
     })
 }
 
-/// How often the token came round at a node that takes itself for the root; 0 of any other one.
+/// How often the token came round at a node that takes itself for the root; 0 at any other node.
 fn root_rounds(value: &Value) -> Option<u64>
     ensures { result ≡ root_rounds (view value.now) }
 {
@@ -92,12 +93,12 @@ pub fn member_truth(object: &Value, name: &str) -> Option<bool>
     object.get(name)?.as_bool()
 }
 
-/// The link to a neighbour, as a line for whoever looks says.
+/// The link to a neighbour, as a node's line for whoever looks at it says.
 #[derive(Clone, Copy, Drop)]
 pub struct LinkSaid {
     /// The neighbour.
     pub node: u64,
-    /// Whether a connection stands.
+    /// Whether the link is connected.
     pub is_up: bool,
     /// How long this has been so, in microseconds.
     pub since: u64,
@@ -117,8 +118,8 @@ fn link_said(value: &Value) -> Option<LinkSaid>
     })
 }
 
-/// What a line says of a node's links, if it is a JSON object with a list `links`. What is no link in that
-/// list is left out.
+/// What a line says of a node's links, if it is a JSON object with a list `links`. Anything in that
+/// list that is not a link is left out.
 ///
 /// # Errors
 /// If memory runs out.

@@ -16,7 +16,7 @@ pub struct NodeLoans {
     pub said: Option<LoansSaid>,
 }
 
-/// How long the present loan of a node has been, in microseconds, if it has said so.
+/// How long the present loan of a node has lasted, in microseconds, if the node said so.
 pub fn present_at(loans: &[NodeLoans], node: u16) -> Option<u64>
     ensures { result ≡ present_at loans.now node }
 {
@@ -30,7 +30,7 @@ fn loans_at(loans: &[NodeLoans], node: u16) -> Option<NodeLoans>
     loans.iter().copied().find(|loan| loan.node == node)
 }
 
-/// The loans of all nodes at a time.
+/// The loans of all nodes at one time.
 #[derive(Clone, Copy, Drop)]
 pub struct Sample {
     /// The time, in milliseconds.
@@ -39,7 +39,7 @@ pub struct Sample {
     pub count: u64,
     /// The longest of those that ended in the last minute, in microseconds.
     pub lately: u64,
-    /// How long the longest of the present ones has been, in microseconds.
+    /// How long the longest of the present ones has lasted, in microseconds.
     pub present: u64,
     /// How often the token came round at the root.
     pub rounds: u64,
@@ -56,7 +56,7 @@ impl Sample {
         }
     }
 
-    /// Nothing was lent.
+    /// A sample without any loan or round.
     fn nothing(at: u64) -> Sample
         ensures { result ≡ nothing_at at }
     {
@@ -69,7 +69,7 @@ impl Sample {
         }
     }
 
-    /// The same with those of one more node.
+    /// The same sample with the loans of one node more.
     fn with(&self, said: &LoansSaid) -> Sample
         ensures { result ≡ sample_with said.now self.now }
     {
@@ -88,7 +88,7 @@ impl Sample {
 pub struct Rates {
     /// How many loans there were in ten seconds, rounded down.
     pub tenths: u64,
-    /// The longest, in microseconds.
+    /// The longest loan, in microseconds.
     pub longest: u64,
     /// How often the token came round in ten seconds, rounded down.
     pub rounds: u64,
@@ -113,7 +113,7 @@ impl Minute {
         }
     }
 
-    /// Adds a sample, and drops those that are older by more than a minute.
+    /// Adds a sample, and drops those that are more than a minute older.
     ///
     /// # Errors
     /// If memory runs out.
@@ -133,7 +133,7 @@ impl Minute {
         self.samples.retain(|old| old.at >= oldest);
     }
 
-    /// The loans of the minute; none with fewer than two samples.
+    /// The rates of the minute; none with fewer than two samples.
     pub fn rates(&self) -> Option<Rates>
         ensures { result ≡ rates_of self.now.samples.items }
     {
@@ -141,7 +141,7 @@ impl Minute {
     }
 }
 
-/// The loans between the first and the last of these samples; none with fewer than two.
+/// The rates between the first and the last of these samples; none with fewer than two.
 fn rates_of(samples: &[Sample]) -> Option<Rates>
     ensures { result ≡ rates_of samples.now }
 {
@@ -152,7 +152,7 @@ fn rates_of(samples: &[Sample]) -> Option<Rates>
     Some(rates_between(first, last, longest_present(samples)))
 }
 
-/// How long the longest loan has been that was seen to stand.
+/// The longest time for which a loan was seen to last while it still stood.
 fn longest_present(samples: &[Sample]) -> u64
     ensures { result ≡ longest_present samples.now }
 {
@@ -162,7 +162,8 @@ fn longest_present(samples: &[Sample]) -> u64
     }
 }
 
-/// The loans between two samples, between which a loan of this length was seen to stand.
+/// The rates between two samples. `present` is the length of the longest loan that was seen while
+/// it stood.
 fn rates_between(first: &Sample, last: &Sample, present: u64) -> Rates
     ensures { result ≡ rates_between first.now last.now present }
 {
@@ -174,7 +175,8 @@ fn rates_between(first: &Sample, last: &Sample, present: u64) -> Rates
     }
 }
 
-/// How many there were in ten seconds, of so many in so many milliseconds.
+/// How many of something there were in ten seconds on average, if there were `count` in `millis`
+/// milliseconds.
 fn in_ten_seconds(count: u64, millis: u64) -> u64
     ensures { result ≡ in_ten_seconds count millis }
 {

@@ -1,4 +1,5 @@
-//! What a node's line for whoever looks says of its turns, and what `status --premises` prints of it.
+//! What a node's line for whoever looks at it says of its turns, and what `status --premises`
+//! prints of it.
 ghost use Rattle.std.specs.Prelude.{◌≡◌, ◌++◌, IfOk, OnOk, codes, string_bytes, Some};
 ghost use Rattle.serde_json.specs.View.{view};
 ghost use Rattle.status_readings.specs.PremisesText.{turns_said, line_said};
@@ -11,14 +12,14 @@ use std::alloc::{AllocError, Global};
 use std::fmt;
 use std::fmt::Write;
 
-/// The turns of a node, as its line for whoever looks says. In microseconds.
+/// The turns of a node, as its line for whoever looks at it says. Times are in microseconds.
 #[derive(Clone, Copy, Drop)]
 pub struct TurnsSaid {
     /// The turns so far.
     pub count: u64,
-    /// The longest time between the ends of two.
+    /// The longest time between the ends of two turns, one after the other.
     pub longest: u64,
-    /// The longest of the last minute.
+    /// The longest such time in the last minute.
     pub lately: u64,
     /// How many turns were late.
     pub late: u64,
@@ -63,7 +64,7 @@ pub fn premises_report(alloc: Global, lines: &[PremisesLine]) -> Result<String, 
     Ok(text)
 }
 
-/// Adds the line of each.
+/// Adds the line of each node.
 fn push_all(text: &mut String, lines: &[PremisesLine]) -> Result<(), AllocError>
     ensures { OnOk result (string_bytes text.new
         ≡ string_bytes text.old ++ premises_text lines.now) }

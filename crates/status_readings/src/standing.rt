@@ -1,4 +1,4 @@
-//! What the lines for whoever looks say of how a node stands.
+//! What a node's line for whoever looks at it says of the node's state.
 ghost use Rattle.std.specs.Prelude.{◌≡◌, IfOk};
 ghost use Rattle.serde_json.specs.View.{view};
 ghost use Rattle.status_readings.specs.PremisesText.{member_number};
@@ -11,7 +11,8 @@ use node_texts::StatusLine;
 use serde_json::Value;
 use std::alloc::{AllocError, Global};
 
-/// What a line says of how its node stands, if it is a JSON object with all that a status line says.
+/// What a line says of the state of its node, if it is a JSON object with all that a status line
+/// says.
 ///
 /// # Errors
 /// If memory runs out.
@@ -22,7 +23,7 @@ pub fn read_standing(alloc: Global, line: &str) -> Result<Option<StatusLine>, Al
     Ok(value.as_ref().and_then(standing_said))
 }
 
-/// What a value says of how a node stands.
+/// What a value says of the state of a node.
 fn standing_said(value: &Value) -> Option<StatusLine>
     ensures { result ≡ standing_said (view value.now) }
 {

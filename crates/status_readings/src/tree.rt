@@ -10,15 +10,17 @@ use std::alloc::{AllocError, Global};
 /// A line of the picture.
 #[derive(Clone, Copy, Drop)]
 pub struct Row {
-    /// Under how many others the node stands.
+    /// How many nodes the node is under.
     pub depth: usize,
     /// What the node answered.
     pub answer: NodeAnswer,
 }
 
-/// The nodes with each under the parent that it names, by ascending ids, as the tour of the tree comes to
-/// them first. At the left stand the root, nodes that gave no answer and nodes whose parent was not asked.
-/// Nodes that are each other's parents, as after damage, come last, at the left too.
+/// The nodes, each under the parent that it names, in the order in which the tour of the tree first
+/// reaches them. The children of a node are in the order of the answers. At the left are nodes that
+/// name no parent, such as the root, nodes that gave no answer, and nodes whose parent was not
+/// asked. Nodes that are under none of these, such as nodes that are each other's parents after
+/// damage, come last, also at the left.
 ///
 /// # Errors
 /// If memory runs out.
@@ -44,7 +46,7 @@ fn top_rows(alloc: Global, answers: &[NodeAnswer]) -> Result<Vec<Row>, AllocErro
     Ok(rows)
 }
 
-/// Adds a node and all under it, `left` deep at most.
+/// Adds a node and all nodes under it, at most `left` levels in all.
 fn push_below(
     rows: &mut Vec<Row>,
     all: &[NodeAnswer],
@@ -66,7 +68,7 @@ fn push_below(
     Ok(())
 }
 
-/// Those nodes that stand in none of these rows.
+/// The nodes that are in none of these rows.
 fn rest_rows(alloc: Global, rows: &[Row], answers: &[NodeAnswer]) -> Result<Vec<Row>, AllocError>
     ensures { IfOk result (λ rest. rest.items ≡ rest_rows rows.now answers.now) }
 {
@@ -82,7 +84,7 @@ fn rest_rows(alloc: Global, rows: &[Row], answers: &[NodeAnswer]) -> Result<Vec<
     Ok(rest)
 }
 
-/// Whether a node stands in one of these rows.
+/// Whether a node is in one of these rows.
 fn is_placed(rows: &[Row], node: u16) -> bool
     ensures { result ≡ is_placed rows.now node }
 {
@@ -96,7 +98,7 @@ fn has_parent(answer: &NodeAnswer, parent: u16) -> bool
     matches!(answer.line, Some(line) if line.parent == Some(parent))
 }
 
-/// Whether a node stands at the left: it names no parent that was asked.
+/// Whether a node is at the left: it names no parent that was asked.
 fn is_top(all: &[NodeAnswer], answer: &NodeAnswer) -> bool
     ensures { result ≡ is_top all.now answer.now }
 {

@@ -11,8 +11,9 @@ use Rattle.subcommands.specs.declared.measure.MeasurePlan.{MeasurePlan}
 abbrev pub has_settled : Settling → ℕ → Bool
 has_settled s bound = nat_le bound s.seen && nat_le s.served bound
 
--- its seed and its events, and after how many sweeps the links were stable, the tree reached, the token
--- ring good, and the network served, for good; these four are empty if the run has not served
+-- its seed, how many events it had, and after how many sweeps the links were stable, the tree was
+-- reached, the token ring was good, and the network served, permanently; these four are empty if
+-- the run has not served
 abbrev pub csv_row : ℕ → Settling → List ℕ
 csv_row bound s =
     decimal s.seed ++ (codes "," ++ (decimal s.events

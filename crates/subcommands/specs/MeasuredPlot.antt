@@ -13,7 +13,7 @@ use Rattle.subcommands.specs.MeasuredCsv.{csv_text, has_settled, HaveSettled}
 use Rattle.subcommands.specs.declared.measure.MeasurePlan.{MeasurePlan}
 use Rattle.subcommands.specs.declared.measure_plot.PlanReport.{PlanReport}
 
--- after how many sweeps a layer stood for good in a run
+-- after how many sweeps a layer stood permanently in a run
 abbrev pub sweeps_of : PlottedLayer → Settling → ℕ
 sweeps_of Links s = s.links
 sweeps_of Tree s = s.tree
@@ -26,8 +26,9 @@ settled_sweeps bound layer [] = []
 settled_sweeps bound layer (s ∷ ss) =
     if has_settled s bound then sweeps_of layer s ∷ settled_sweeps bound layer ss else settled_sweeps bound layer ss
 
--- What is plotted of the runs of a plan on a network: when each layer stood for good in those that
--- served, and by when no run is later, as the theorem on layers says (`IsSettlingWithin`).
+-- What is plotted of the runs of a plan on a network: when each layer stood permanently in the runs
+-- that served, and the bound that no run exceeds, as the theorem on layers says
+-- (`IsSettlingWithin`).
 pub record IsFigureOf (net : Network) (plan : MeasurePlan) (runs : List Settling) (f : Figure) : Type 0 where
   pub nodes : f.nodes ≡ net.nodes
   pub all : f.runs ≡ plan.runs

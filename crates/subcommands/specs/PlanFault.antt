@@ -4,7 +4,7 @@ use Rattle.experiments.specs.declared.plan.PlanFault.TheVariants.{Memory as Memo
 use Rattle.command_parts.specs.command_faults.declared.fault.Fault.{Fault}
 use Rattle.command_parts.specs.command_faults.declared.fault.Fault.TheVariants.{Memory, Output}
 
--- memory or output that failed
+-- memory that was refused, or output that failed
 abbrev pub fault_of : PlanFault → Fault
 fault_of MemoryRefused = Memory
 fault_of Sink = Output

@@ -21,7 +21,7 @@ worst_text net searches seed delay =
 abbrev pub IsJudged : Network → LatestRun → Type 0
 IsJudged net found = IsReplayed net found.run.harms.items found.run.events.items (Some found.run.delay)
 
--- there were as many searches as were asked for; of those that go on for minutes there are at least 16
+-- there were as many searches as were asked for; if they go on for minutes, there were at least 16
 abbrev pub AreAsMany : Extent → ℕ → Type 0
 AreAsMany (Searches asked) searches = searches ≡ asked
 AreAsMany (Minutes minutes) searches = 16 ≤ searches

@@ -14,7 +14,7 @@ use std::{fs, io};
 /// Shortens a file to its first `most` bytes. A shorter file stays as it is.
 ///
 /// # Errors
-/// If the file cannot be written, is not there, or is no plain file.
+/// If the file cannot be written, does not exist, or is no plain file.
 pub fn run<'a, R: Files>(rt: &R, path: &'a str, most: u32) -> Result<ExitCode, PathFault<'a>>
     ensures ok { DoneMeansZero result }
     ensures err { IfErr result (λ fault. fault ≡ Unwritable path.entry) }

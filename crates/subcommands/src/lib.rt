@@ -1,10 +1,10 @@
 //! The work of the commands of `tokentree`: their files and texts, and how they end.
 //!
-//! A command is a module here, and its `run` takes the words that it was given. The crates below
-//! work out the answers; here files are read and answers printed. Every failure is one
+//! Each command is a module here, and its `run` takes the arguments of the command. The crates
+//! below work out the answers; here files are read and answers printed. Every failure is one
 //! [`Fault`](command_parts::Fault), or a [`PathFault`](command_parts::PathFault) if a command
-//! changes a file. `bound` and `network` are in `network_commands`,
-//! `draw` is in `run_picture`, `threads` in `live_commands`.
+//! changes a file. `bound` and `network` are in `network_commands`, `draw` is in `run_picture`,
+//! `threads` in `live_commands`.
 //!
 //! ```
 //! // prints what the events lead to, and what has settled then; "-" is standard input
@@ -19,8 +19,8 @@
 //! let status = measure::run(rt, "two-nodes.toml", plan, Form::Lines)?;
 //! ```
 //!
-//! The trap: what was printed before a fault stays printed. `simulate` has then named the refused
-//! lines of all that it had read.
+//! The trap: what was printed before a fault stays printed. By then, `simulate` has named the
+//! refused lines among all that it had read.
 #![tactic(auto)]
 
 pub mod cut;

@@ -150,8 +150,8 @@ pub(crate) fn have_served(runs: &[Recovery], bound: u32) -> bool
     runs.iter().all(|run| has_served(run, bound))
 }
 
-/// The lines of the runs, of all or only of those that have not served, and the lines that sum
-/// them up.
+/// The lines of all runs, with a table, or else of those that have not served; and the lines that
+/// sum up the runs.
 pub fn measured_text(
     alloc: Global,
     net: &Net,
@@ -225,7 +225,7 @@ fn push_run(text: &mut String, run: &Recovery, bound: u32) -> Result<(), AllocEr
     }
 }
 
-/// The sweeps after which the runs that served did so.
+/// After how many sweeps each of the runs that served did so.
 pub(crate) fn served_sweeps(
     alloc: Global,
     runs: &[Recovery],

@@ -1,4 +1,4 @@
-//! `measure FILE --csv`: when each layer stood for good in scrambled worlds, as rows.
+//! `measure FILE --csv`: when each layer stood permanently in scrambled worlds, as rows.
 ghost use Rattle.std.specs.Prelude.{◌≡◌, ◌↔◌, ◌++◌, OnOk, IfOk, IsTrue};
 ghost use Rattle.std.specs.Prelude.{string_bytes};
 ghost use Rattle.subcommands.specs.MeasuredCsv.{csv_row, csv_rows, csv_text, has_settled};

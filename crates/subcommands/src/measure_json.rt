@@ -84,7 +84,7 @@ fn put_summary(
     put(map, alloc, "most", or_null(summary.map(|sums| sums.most)))
 }
 
-/// The runs that are shown.
+/// The list of the runs that are shown.
 fn runs_value(
     alloc: Global,
     runs: &[Recovery],
@@ -117,7 +117,7 @@ fn push_runs(
     Ok(())
 }
 
-/// A run.
+/// The object of a run.
 fn run_value(alloc: Global, run: &Recovery, bound: u32) -> Result<Value, AllocError>
     ensures { IfOk result (λ value. view value ≡ run_data bound run.now) }
 {

@@ -20,7 +20,7 @@ use std::thread::Threads;
 use std::time::Clock;
 use topology::Net;
 
-/// What is said of the runs of a plan.
+/// What is reported of the runs of a plan.
 #[derive(Drop)]
 pub struct PlanReport {
     /// A row for each run, after the names of the columns.
@@ -58,7 +58,7 @@ pub fn run<'a, R: Files + Print + Eprint + Clock + AllocGlobal + Threads + Sync>
     )?)
 }
 
-/// Makes the runs of a plan, and what is said of them.
+/// Makes the runs of a plan, and the report on them.
 fn report_of<R: Eprint + Clock + Threads + Sync>(
     rt: &R,
     alloc: Global,
@@ -76,8 +76,8 @@ fn report_of<R: Eprint + Clock + Threads + Sync>(
     })
 }
 
-/// What is plotted of the runs of a plan: when each layer stood for good in those that served, and
-/// by when it stands in each run, as is proved.
+/// What is plotted of the runs of a plan: when each layer stood permanently in the runs that
+/// served, and by when it is proved to stand in each run.
 pub fn figure_of(
     alloc: Global,
     net: &Net,
@@ -111,7 +111,7 @@ pub fn figure_of(
     })
 }
 
-/// After how many sweeps a layer stood for good, in each of the runs that served by the bound.
+/// After how many sweeps a layer stood permanently, in each of the runs that served by the bound.
 fn settled_sweeps(
     alloc: Global,
     runs: &[Settling],
@@ -129,7 +129,7 @@ fn settled_sweeps(
     Ok(sweeps)
 }
 
-/// After how many sweeps a layer stood for good in a run.
+/// After how many sweeps a layer stood permanently in a run.
 fn sweeps_of(run: &Settling, layer: PlottedLayer) -> u64
     ensures { result ≡ sweeps_of layer run.now }
 {

@@ -106,8 +106,8 @@ pub fn run<R: Files + Print + Eprint + AllocGlobal>(
 }
 
 /// Writes the lines of a schedule's events: the damage of a scramble, if a seed is given, and then
-/// its turns. It writes all of them; after a fault, those up to there. If `loan` is given, a
-/// client releases the lock after that many ticks of its node.
+/// its turns. It writes all of the lines; after a fault, those up to the fault. If `loan` is given,
+/// whoever has the lock releases it after that many ticks of its node; 0 counts as 1.
 ///
 /// # Errors
 /// If memory runs out, or the writer fails.

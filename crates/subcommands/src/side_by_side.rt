@@ -47,7 +47,7 @@ impl Measurement for Recovery {
     }
 }
 
-/// When each layer stood for good.
+/// When each layer stood permanently.
 impl Measurement for Settling {
     ghost is_of = { IsSettlingOf };
 

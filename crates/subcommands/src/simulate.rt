@@ -15,8 +15,9 @@ use std::rt::Files;
 use topology::Net;
 
 /// Prints what the events of a file, or of standard input for `-`, lead to on the network of a
-/// file, and with `layers` what has settled. Then it says on standard error, in a line each, that
-/// lines were refused because they end in a carriage return, and what holds up the sweeps.
+/// file, and with `layers` what has settled. Then it prints hints on standard error, each on a line
+/// of its own: that lines were refused because they end in a carriage return, if that is so, and
+/// what holds up the sweeps, if anything does.
 ///
 /// # Errors
 /// If the file gives no network, the events cannot be read or are too long, memory runs out, or
@@ -70,7 +71,7 @@ fn print_layers<R: Print + Eprint + AllocGlobal>(rt: &R, world: &World) -> Resul
     printed(rt, rt.print(text.as_str()))
 }
 
-/// The hint if there were too few sweeps so far, and a loan that no lease ends holds them up.
+/// The hint if there were too few sweeps and a loan that no lease ends holds them up.
 fn loan_hint(lease: u16, bound: u32, summary: &Summary) -> Option<&'static str>
     ensures { option_map (λ text. text.now) result ≡ loan_hint lease bound summary.now }
 {

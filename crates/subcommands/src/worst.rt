@@ -25,27 +25,28 @@ use std::thread::Threads;
 use std::time::{Clock, Instant};
 use topology::Net;
 
-/// How many searches are begun together, as long as there is time.
+/// How many searches are made together, as long as there is time.
 const BATCH: u32 = 16;
 
-/// How often that is done at most: for a million searches.
+/// The most batches of searches: a million searches in all.
 const MOST_BATCHES: u32 = 62_500;
 
 /// How many searches there are.
 #[derive(Clone, Copy)]
 pub enum Extent {
-    /// This many; 0 counts as 1.
+    /// This many. With 0, the run is the one that a search with the first seed finds.
     Searches(u32),
-    /// 16, and again 16 until so many minutes have passed; at most a million. Without a clock there are 16.
+    /// 16, and 16 more each time until this many minutes have passed; at most a million. Without a
+    /// clock there are 16.
     Minutes(u32),
 }
 
-/// What is searched.
+/// What to search.
 #[derive(Clone, Copy)]
 pub struct SearchPlan {
     /// How many searches there are.
     pub extent: Extent,
-    /// The first one's seed; each other has the next one.
+    /// The seed of the first search; each further search has the next seed.
     pub seed: u32,
     /// How many changes each tries.
     pub steps: u32,
@@ -53,7 +54,7 @@ pub struct SearchPlan {
     pub progress: bool,
 }
 
-/// The latest run that was found.
+/// The run that serves latest of all that were found.
 #[derive(Drop)]
 pub struct LatestRun {
     /// How many searches there were.
@@ -64,12 +65,12 @@ pub struct LatestRun {
     pub run: SlowRun,
 }
 
-/// Searches for runs that serve late, and prints after how many sweeps the latest one served. If a path is given,
-/// its events are written there first.
+/// Searches for runs that serve late, and prints after how many sweeps the latest one served. If
+/// `events` gives a path, the events of that run are written there first.
 ///
 /// # Errors
-/// If no network is read of the file, memory runs out, the file of events cannot be written, or
-/// standard output does not take the text: the first of these that is met.
+/// If the file gives no network, memory runs out, the file of events cannot be written, or standard
+/// output fails: the first of these that happens.
 pub fn run<R: Files + Print + Eprint + Clock + AllocGlobal + Threads + Sync>(
     rt: &R,
     network: &str,
@@ -88,19 +89,20 @@ pub fn run<R: Files + Print + Eprint + Clock + AllocGlobal + Threads + Sync>(
     done(printed(rt, rt.print(text.as_str())))
 }
 
-/// Which of some searches found the latest run, the first of the like.
+/// Which of some searches found the latest run; the first of them, if several found equally late
+/// runs.
 #[derive(Clone, Copy)]
 struct Best {
     /// How many searches there were.
     searches: u32,
-    /// Which of them found it.
+    /// Which search found the latest run, counted from 0.
     place: u32,
     /// After how many sweeps it serves.
     sweeps: u64,
 }
 
 impl Best {
-    /// No search yet.
+    /// Before any search.
     const NONE: Best = Best {
         searches: 0,
         place: 0,
@@ -125,14 +127,14 @@ impl Best {
     }
 }
 
-/// The latest run of all searches, the first of the like.
+/// The latest run of all searches; the first of these, if several are equally late.
 pub(crate) fn latest<R: Eprint + Clock + Threads + Sync>(
     rt: &R,
     alloc: Global,
     net: &Net,
     plan: SearchPlan,
 ) -> Result<LatestRun, AllocError>
-    // It is judged again from its start, whatever the searches did.
+    // The run is judged again from its start, whatever the searches did.
     ensures judged { IfOk result (IsJudged net.now) }
     ensures searches { IfOk result (λ found. AreAsMany plan.extent found.searches) }
 {
@@ -149,7 +151,7 @@ pub(crate) fn latest<R: Eprint + Clock + Threads + Sync>(
     })
 }
 
-/// Makes all searches, and shows its progress if that is asked for.
+/// Makes all searches, and shows their progress if that is asked for.
 fn all_searched<R: Eprint + Clock + Threads + Sync>(
     rt: &R,
     alloc: Global,
@@ -180,7 +182,7 @@ fn begin_progress<R: Clock>(rt: &R, plan: SearchPlan) -> Option<Progress> {
     }
 }
 
-/// Makes searches, a batch at a time, until so many minutes have passed.
+/// Makes searches, a batch at a time, until this many minutes have passed.
 fn until<R: Eprint + Clock + Threads + Sync>(
     rt: &R,
     alloc: Global,
@@ -206,7 +208,7 @@ fn until<R: Eprint + Clock + Threads + Sync>(
     Ok(latest)
 }
 
-/// How many whole minutes have passed since then; the greatest number if the clock does not say it.
+/// How many whole minutes have passed since `started`; the greatest number if the clock fails.
 fn minutes_since<R: Clock>(rt: &R, started: Option<Instant>) -> u32 {
     let Some(started) = started else {
         return u32::MAX;
@@ -217,7 +219,7 @@ fn minutes_since<R: Clock>(rt: &R, started: Option<Instant>) -> u32 {
     }
 }
 
-/// Makes `count` searches more.
+/// Makes `count` more searches.
 fn batch<R: Eprint + Clock + Threads + Sync>(
     rt: &R,
     alloc: Global,
@@ -233,8 +235,8 @@ fn batch<R: Eprint + Clock + Threads + Sync>(
     Ok(latest.and(count, delays.as_slice()))
 }
 
-/// Makes `count` searches from the `first` of them on, over as many threads as there are processors. After how
-/// many sweeps the latest run of each serves.
+/// Makes `count` searches, after `first` others, on as many threads as there are processors.
+/// Returns after how many sweeps the run that each found serves.
 fn searched<R: Eprint + Clock + Threads + Sync>(
     rt: &R,
     alloc: Global,
@@ -260,7 +262,7 @@ fn searched<R: Eprint + Clock + Threads + Sync>(
         .collect(rt, alloc)?
 }
 
-/// The place of the first of the greatest numbers, and that number; both 0 if there is none.
+/// The place of the first of the greatest numbers, and that number; both 0 if there are no numbers.
 fn first_greatest(numbers: &[u64]) -> (u32, u64) {
     let mut best = (0u32, 0u64);
     let mut place = 0u32;
@@ -308,12 +310,12 @@ fn save_run<R: Files + AllocGlobal>(rt: &R, path: &str, run: &SlowRun) -> Result
     write_run(run, &mut text).map_err(|_| Fault::EventsUnwritable)
 }
 
-/// Writes the lines of a run's harms and events, and sees to it that all of them are written.
+/// Writes the lines of a run's harms and events, and flushes them.
 ///
 /// # Errors
 /// If the writer fails.
 pub fn write_run<W: Write + Drop>(run: &SlowRun, text: &mut EventText<W>) -> Result<(), Failed>
-    // If the writer says what its bytes are, they are the text.
+    // If the writer shows its bytes, they are the text.
     ensures text { OnOk result (GrowsByText (writer_contents W.contents text.old.writer)
         (run.now.harms.items ++ run.now.events.items)
         (writer_contents W.contents text.new.writer)) }

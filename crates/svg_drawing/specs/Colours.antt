@@ -4,8 +4,8 @@ use Rattle.svg_drawing.specs.declared.colours.Colour.{Colour}
 use Rattle.svg_drawing.specs.declared.colours.Colour.TheVariants.{Pale, Grey, Gold, Red, Ink, Blue, Faint, Paper, Sky, Green, Purple, Vermilion}
 
 -- Colours as SVG writes them. Those of the marks grow darker in the order pale, gold, grey, red, so
--- that they are told apart without any colour too. The last four are of the palette of M. Okabe and
--- K. Ito, "Color Universal Design" (2008), which the colour-blind tell apart.
+-- that a reader can distinguish them without any colour, too. The last four are from the palette of
+-- M. Okabe and K. Ito, "Color Universal Design" (2008), which the colour-blind can distinguish.
 abbrev pub colour_code : Colour → List ℕ
 colour_code Pale = codes "#e6edf2"
 colour_code Gold = codes "#f2b705"

@@ -37,7 +37,7 @@ shown_of e = record { name = e.name.now; attributes = map given_of e.attributes.
 abbrev pub drawn : Canvas → List Shown
 drawn canvas = map shown_of canvas.elements.items
 
--- an element with one attribute more
+-- an element with one more attribute
 abbrev pub with_given : Shown → Given → Shown
 with_given e given = record { name = e.name; attributes = e.attributes ++ given ∷ []; text = e.text }
 
@@ -55,7 +55,7 @@ with_text e text = record { name = e.name; attributes = e.attributes; text = e.t
 
 -- ---- what can be drawn
 
--- an element that is not seen, but says something of the drawing
+-- an element that is not seen, but says something about the drawing
 abbrev pub note_shown : List ℕ → List ℕ → Shown
 note_shown name text = record { name = name; attributes = []; text = text }
 
@@ -87,7 +87,7 @@ pub record Pen : Type 0 where
 abbrev pub whole : Colour → ℕ → Pen
 whole colour width = record { colour = colour; width = width; dashes = codes "none" }
 
--- how the code says it
+-- a line's stroke in the code, as such a pen
 abbrev pub pen_of : Stroke → Pen
 pen_of stroke = record { colour = stroke.colour; width = stroke.width.0; dashes = stroke.dashes.now }
 
@@ -101,7 +101,7 @@ path_shown steps pen = record {
   text = [];
 }
 
--- a straight line, from a place to another
+-- a straight line, from one place to another
 abbrev pub line_shown : ℕ → ℕ → ℕ → ℕ → Pen → Shown
 line_shown x y end_x end_y pen =
     path_shown (codes "M" ++ (decimal x ++ (codes " " ++ (decimal y ++ (codes "L" ++ (decimal end_x ++ (codes " " ++ decimal end_y))))))) pen
@@ -114,7 +114,7 @@ form_shown steps colour = record {
   text = [];
 }
 
--- which part of a text stands at its place: its left end, its middle or its right end
+-- which part of a text is at its place: its left end, its middle or its right end
 abbrev pub anchor_code : Anchor → List ℕ
 anchor_code Start = codes "start"
 anchor_code Middle = codes "middle"

@@ -1,4 +1,4 @@
--- What is drawn where elements hold others, as it is meant, before it is spelled.
+-- What is drawn if elements hold others, as it is meant, before it is spelled.
 use Rattle.std.specs.Prelude.{List, [], ◌∷◌, ◌++◌, map}
 use Rattle.svg_drawing.specs.Drawn.{Given, Shown, given_of, shown_of}
 use Rattle.svg_drawing.specs.declared.element.Group.{Group}
@@ -13,7 +13,7 @@ pub record Grouped : Type 0 where
 abbrev pub grouped_of : Group → Grouped
 grouped_of g = record { element = shown_of g.element; inside = map shown_of g.inside.items }
 
--- a group with one element more inside
+-- a group with one more element inside
 abbrev pub with_inside : Grouped → Shown → Grouped
 with_inside g shown = record { element = g.element; inside = g.inside ++ shown ∷ [] }
 

@@ -8,7 +8,7 @@ use Rattle.svg_drawing.specs.declared.element.Group.{Group}
 use Rattle.svg_drawing.specs.declared.element.GroupedDrawing.{GroupedDrawing}
 use Rattle.svg_drawing.specs.declared.element.Document.{Document}
 
--- a byte as it is written: no `<`, `>`, `&` or `"` stands in a text
+-- a byte as it is written: `<`, `>`, `&` and `"` are replaced by references
 abbrev pub escaped_byte : ℕ → List ℕ
 escaped_byte byte =
     if byte == 60 then codes "&lt;"
@@ -40,7 +40,7 @@ abbrev pub drawing_text : Drawing → List ℕ
 drawing_text d =
     start_tag (codes "svg") d.attributes.items ++ (codes "\n" ++ (flat_map element_text d.elements.items ++ (end_tag (codes "svg") ++ codes "\n")))
 
--- an element with its text, those that it holds, each in a line, and a newline
+-- an element with its text, the elements that it holds, each on a line, and a newline
 abbrev pub group_text : Group → List ℕ
 group_text g =
     start_tag g.element.name.now g.element.attributes.items
@@ -51,11 +51,11 @@ abbrev pub scene_text : GroupedDrawing → List ℕ
 scene_text s =
     start_tag (codes "svg") s.attributes.items ++ (codes "\n" ++ (flat_map group_text s.groups.items ++ (end_tag (codes "svg") ++ codes "\n")))
 
--- what stands before any content of a document, so that a browser takes it for HTML
+-- what comes before any content of a document, so that a browser takes it for HTML
 abbrev pub doctype : List ℕ
 doctype = codes "<!DOCTYPE html>\n"
 
--- an element `html` that holds what stands before the drawing, the drawing, and what stands after it
+-- an element `html` that holds what comes before the drawing, the drawing, and what comes after it
 abbrev pub document_content : Document → List ℕ
 document_content d =
     start_tag (codes "html") [] ++ (codes "\n" ++ (flat_map group_text d.before.items

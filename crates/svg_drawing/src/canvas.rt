@@ -12,13 +12,13 @@ use std::alloc::{AllocError, Global};
 /// A place on the page.
 #[derive(Clone, Copy)]
 pub struct Point {
-    /// How far it is from the left end.
+    /// How far it is from the left edge.
     pub x: Px,
-    /// How far it is from the upper end.
+    /// How far it is from the upper edge.
     pub y: Px,
 }
 
-/// Which part of a text stands at its place.
+/// Which part of a text is at its place.
 #[derive(Clone, Copy)]
 pub enum Anchor {
     /// Its left end.
@@ -30,7 +30,7 @@ pub enum Anchor {
 }
 
 impl Anchor {
-    /// How SVG writes it.
+    /// The anchor as SVG writes it.
     fn code(self) -> &'static str
         ensures { result.now ≡ anchor_code self }
     {
@@ -49,12 +49,12 @@ pub struct Stroke {
     pub colour: Colour,
     /// Its width.
     pub width: Px,
-    /// The lengths of dashes and gaps; `none` for a whole line.
+    /// The lengths of dashes and gaps; `none` for a line without gaps.
     pub dashes: &'static str,
 }
 
 impl Stroke {
-    /// A whole line.
+    /// A line without gaps.
     pub fn whole(colour: Colour, width: u32) -> Stroke
         ensures { pen_of result ≡ whole colour width }
     {
@@ -84,7 +84,7 @@ impl Canvas {
         }
     }
 
-    /// What memory is taken from.
+    /// The allocator that memory is taken from.
     pub fn alloc(&self) -> Global {
         self.alloc
     }
@@ -97,7 +97,7 @@ impl Canvas {
         Ok(())
     }
 
-    /// An element that only says something of the drawing.
+    /// Adds an element that only says something about the drawing.
     pub fn note(&mut self, name: &'static str, text: &str) -> Result<(), AllocError>
         ensures { OnOk result (drawn self.new
             ≡ drawn self.old ++ note_shown name.now text.now ∷ []) }
@@ -106,7 +106,7 @@ impl Canvas {
         self.add(note)
     }
 
-    /// A filled rectangle.
+    /// Adds a filled rectangle.
     pub fn rect(
         &mut self,
         at: Point,
@@ -126,7 +126,7 @@ impl Canvas {
         self.add(rect)
     }
 
-    /// A filled circle.
+    /// Adds a filled circle.
     pub fn circle(&mut self, at: Point, radius: Px, colour: Colour) -> Result<(), AllocError>
         ensures { OnOk result (drawn self.new
             ≡ drawn self.old ++ circle_shown at.x.0 at.y.0 radius.0 colour ∷ []) }
@@ -139,7 +139,7 @@ impl Canvas {
         self.add(circle)
     }
 
-    /// A straight line.
+    /// Adds a straight line.
     pub fn line(&mut self, from: Point, to: Point, stroke: Stroke) -> Result<(), AllocError>
         ensures { OnOk result (drawn self.new
             ≡ drawn self.old ++ line_shown from.x.0 from.y.0 to.x.0 to.y.0 (pen_of stroke) ∷ []) }
@@ -149,7 +149,7 @@ impl Canvas {
         self.path(steps.as_str(), stroke)
     }
 
-    /// A line of any form: its steps are those of an SVG path.
+    /// Adds a line of any form: its steps are those of an SVG path.
     pub fn path(&mut self, steps: &str, stroke: Stroke) -> Result<(), AllocError>
         ensures { OnOk result (drawn self.new
             ≡ drawn self.old ++ path_shown steps.now (pen_of stroke) ∷ []) }
@@ -163,7 +163,7 @@ impl Canvas {
         self.add(path)
     }
 
-    /// A filled form: its steps are those of an SVG path.
+    /// Adds a filled form: its steps are those of an SVG path.
     pub fn form(&mut self, steps: &str, colour: Colour) -> Result<(), AllocError>
         ensures { OnOk result (drawn self.new
             ≡ drawn self.old ++ form_shown steps.now colour ∷ []) }
@@ -174,7 +174,7 @@ impl Canvas {
         self.add(form)
     }
 
-    /// A text in one line, its baseline at the place.
+    /// Adds a text in one line, its baseline at the place.
     pub fn words(
         &mut self,
         at: Point,
@@ -194,7 +194,7 @@ impl Canvas {
         self.add(words)
     }
 
-    /// A heading, its baseline at the place.
+    /// Adds a heading, its baseline at the place.
     pub fn heading(&mut self, at: Point, text: &str) -> Result<(), AllocError>
         ensures { OnOk result (drawn self.new
             ≡ drawn self.old ++ heading_shown at.x.0 at.y.0 text.now ∷ []) }

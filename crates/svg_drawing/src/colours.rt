@@ -2,8 +2,8 @@
 ghost use Rattle.std.specs.Prelude.{◌≡◌};
 ghost use Rattle.svg_drawing.specs.Colours.{colour_code};
 
-/// A colour. Those of the marks grow darker in the order pale, gold, grey, red, so that they are
-/// told apart without any colour too.
+/// A colour. Those of the marks grow darker in the order pale, gold, grey, red, so that a reader
+/// can distinguish them without any colour, too.
 #[derive(Clone, Copy)]
 pub enum Colour {
     /// A node whose distance and parent are true.
@@ -22,8 +22,8 @@ pub enum Colour {
     Faint,
     /// The background.
     Paper,
-    /// The links, the first of the four layers of the proof. The colours of these four are of the
-    /// palette that Okabe and Ito made so that the colour-blind tell them apart.
+    /// The links, the first of the four layers of the proof. The colours of these four are from the
+    /// palette that Okabe and Ito made so that the colour-blind can distinguish them.
     Sky,
     /// The tree, the second layer.
     Green,
@@ -34,7 +34,7 @@ pub enum Colour {
 }
 
 impl Colour {
-    /// How SVG writes it.
+    /// The colour as SVG writes it.
     pub fn code(self) -> &'static str
         ensures { result.now ≡ colour_code self }
     {

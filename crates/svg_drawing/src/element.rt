@@ -11,7 +11,7 @@ use std::alloc::{AllocError, Global};
 pub struct Attribute {
     /// Its name.
     pub name: &'static str,
-    /// Its value, as it is meant: what writes it escapes it.
+    /// Its value, unescaped: it is escaped when it is written.
     pub value: String,
 }
 
@@ -48,19 +48,19 @@ fn push_all(
     Ok(())
 }
 
-/// An element that holds a text alone.
+/// An element that holds only a text.
 #[derive(Drop)]
 pub struct Element {
     /// Its name.
     pub name: &'static str,
     /// Its attributes, in the order in which they are written.
     pub attributes: Vec<Attribute>,
-    /// Its text, as it is meant: what writes it escapes it.
+    /// Its text, unescaped: it is escaped when it is written.
     pub text: String,
 }
 
 impl Element {
-    /// An element without attributes and text.
+    /// An element without attributes or text.
     pub fn new(alloc: Global, name: &'static str) -> Element
         ensures { shown_of result ≡ note_shown name.now [] }
     {
@@ -71,7 +71,7 @@ impl Element {
         }
     }
 
-    /// The element with one attribute more.
+    /// The element with one more attribute.
     pub fn with(
         mut self,
         alloc: Global,
@@ -85,7 +85,7 @@ impl Element {
         Ok(self)
     }
 
-    /// The element with these attributes more.
+    /// The element with these attributes after its own.
     pub fn with_all(mut self, alloc: Global, fixed: &[Fixed]) -> Result<Element, AllocError>
         ensures { IfOk result (λ element. shown_of element ≡ with_all (shown_of self) fixed.now) }
     {
@@ -93,7 +93,7 @@ impl Element {
         Ok(self)
     }
 
-    /// The element with one attribute more, whose value is a number.
+    /// The element with one more attribute, whose value is a number.
     pub fn with_number(
         mut self,
         alloc: Global,
@@ -130,7 +130,7 @@ pub struct Drawing {
 /// An element that may hold others.
 #[derive(Drop)]
 pub struct Group {
-    /// The element; its text stands before what it holds.
+    /// The element; its text comes before what it holds.
     pub element: Element,
     /// The elements that it holds, the undermost first.
     pub inside: Vec<Element>,
@@ -147,7 +147,7 @@ impl Group {
         }
     }
 
-    /// The element with one more inside, over the others.
+    /// The group with one more element inside, over the others.
     pub fn holding(mut self, element: Element) -> Result<Group, AllocError>
         ensures { IfOk result (λ group. grouped_of group
             ≡ with_inside (grouped_of self) (shown_of element)) }
@@ -166,13 +166,13 @@ pub struct GroupedDrawing {
     pub groups: Vec<Group>,
 }
 
-/// A document of HTML with one drawing: what stands before it, the drawing, and what stands after it.
+/// An HTML document with one drawing: what comes before it, the drawing, and what comes after it.
 #[derive(Drop)]
 pub struct Document {
-    /// What stands before the drawing.
+    /// What comes before the drawing.
     pub before: Vec<Group>,
     /// The drawing.
     pub scene: GroupedDrawing,
-    /// What stands after the drawing.
+    /// What comes after the drawing.
     pub after: Vec<Group>,
 }

@@ -1,6 +1,6 @@
 //! A drawing, and its text as SVG 1.1.
 //!
-//! A [`Canvas`] takes elements, one over the other: rectangles, circles, lines and forms, texts in
+//! A [`Canvas`] takes elements, one over the other: rectangles, circles, lines, forms, and texts in
 //! one line. Lengths are [`Px`], in units of the page. A [`Drawing`] is an element `svg` that holds
 //! such [`Element`]s, and [`spelled`] writes it:
 //!
@@ -11,10 +11,11 @@
 //! let text = spelled(alloc, &drawing)?;      // bytes of a file that a browser shows
 //! ```
 //!
-//! It knows nothing of networks and runs, and measures no text: what is drawn, and where, is the
-//! caller's.
+//! It knows nothing about networks and runs, and measures no text: what is drawn, and at which
+//! place, is up to the caller.
 //!
-//! The trap: lengths stay within 0 and what 32 bits hold, so what would stand beyond stands there.
+//! The trap: lengths stay between 0 and what 32 bits hold, so what would be beyond these ends is
+//! drawn at them.
 #![tactic(auto)]
 
 mod canvas;

@@ -4,8 +4,8 @@ ghost use Rattle.svg_drawing.specs.Lengths.{px};
 
 use std::ops::{Add, Mul, Sub};
 
-/// A length, or a place from the left or the top, in units of the page. What is computed of lengths
-/// stays within 0 and the greatest value.
+/// A length, or a place from the left or the top, in units of the page. What is computed from
+/// lengths stays between 0 and the greatest value.
 #[derive(Clone, Copy, Debug)]
 pub struct Px(pub u32);
 

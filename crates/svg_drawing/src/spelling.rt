@@ -72,7 +72,7 @@ fn push_groups(text: &mut Vec<u8>, groups: &[Group]) -> Result<(), AllocError>
     Ok(())
 }
 
-/// Adds an element with those that it holds, and a newline.
+/// Adds an element with the elements that it holds, and a newline.
 fn push_group(text: &mut Vec<u8>, group: &Group) -> Result<(), AllocError>
     ensures { OnOk result (text.new.items ≡ text.old.items ++ group_text group.now) }
 {
@@ -84,7 +84,7 @@ fn push_group(text: &mut Vec<u8>, group: &Group) -> Result<(), AllocError>
     text.extend_from_slice(b"\n")
 }
 
-/// Adds elements, each in a line.
+/// Adds elements, each on a line.
 fn push_elements(text: &mut Vec<u8>, elements: &[Element]) -> Result<(), AllocError>
     ensures { OnOk result (text.new.items
         ≡ text.old.items ++ flat_map element_text elements.now) }

@@ -1,4 +1,4 @@
-//! How a test ends, by what it found.
+//! How a test ends, depending on what it found.
 ghost use Rattle.std.specs.Prelude.{◌≡◌, ◌↔◌, IsOk, IfOk, Bool, true};
 
 use std::fmt::Debug;

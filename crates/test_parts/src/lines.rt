@@ -3,7 +3,7 @@ use std::alloc::Global;
 use std::io::Read;
 use std::test::Fail;
 
-/// The next line, without its newline, of at most 500 bytes.
+/// The next line, without its newline; of a longer line, the first 500 bytes.
 ///
 /// # Errors
 /// If a byte cannot be read, or memory is refused.

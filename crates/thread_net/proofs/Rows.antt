@@ -1,5 +1,5 @@
 -- Rows: the ends of links, what is left on them, two nodes that did one turn each, and what is no such run.
-use Rattle.std.proofs.Common.{◌≡◌, ℕ, ◌<◌, ◌≤◌, true, false, IsTrue, Some, None, List, [], ◌∷◌, map, ◌++◌, length, if◌then◌else◌, ap, refl, ◌∙◌, sym, arith, zero, suc, min, All, inl, inr}
+use Rattle.std.proofs.Common.{◌≡◌, ℕ, ◌<◌, ◌≤◌, true, false, IsTrue, Some, None, List, [], ◌∷◌, ◌++◌, length, if◌then◌else◌, ap, refl, ◌∙◌, sym, arith, min, All, inl, inr}
 use Rattle.std.proofs.lemmas.Bool.{true≢false}
 use Rattle.std.proofs.lemmas.Grind.{common_steps}
 use Rattle.std.proofs.lemmas.List.{length_push}
@@ -11,8 +11,8 @@ use Rattle.judge.specs.configuration.LinksView.{LinksView, under_way}
 use Rattle.node_runner.proofs.RowsTwo.{two_nodes, each-link, each-node}
 use Rattle.judge.specs.run_model.World.{World}
 use Rattle.node_runner.specs.weaving.declared.journal.Stamped.{Stamped}
-use Rattle.node_runner.specs.weaving.Matched.{items, AreMatched, IsLinkMatched}
 use Rattle.node_runner.proofs.RowsRun.{after_tick, start}
+use Rattle.node_runner.proofs.RowsBoth.{account, events, first_frame, journal, last, matched, rising, woven}
 use Rattle.node_runner.specs.declared.ports.Outgoing.{Outgoing}
 use Rattle.node_runner.specs.declared.ports.Incoming.{Incoming}
 use Rattle.node_runner.specs.declared.runner.RunnerPort.{RunnerPort}
@@ -23,15 +23,11 @@ use Rattle.thread_net.specs.Seats.{entry_room}
 use Rattle.thread_net.specs.declared.prepare.Prepared.{Prepared}
 use Rattle.thread_net.specs.Outcomes.{have_run, turns_of}
 use Rattle.std.specs.declared.alloc.Global.{Global}
-use Rattle.std.proofs.lemmas.Bool.Decides.{nat_tests}
 use Rattle.topology.specs.Network.{neighbours_of}
 use Rattle.judge.specs.run_model.Step.{has_room}
-use Rattle.judge.specs.run_model.Run.{run}
 use Rattle.judge.specs.run_model.declared.event.Event.{Event}
 use Rattle.judge.specs.run_model.declared.event.Event.TheVariants.{Send, Tick}
-use Rattle.node_runner.specs.weaving.declared.journal.JournalEntry.{JournalEntry}
-use Rattle.node_runner.specs.weaving.Account.{Note, entry_of, Ticked, Sent, sent_to, taken_from, Leads}
-use Rattle.node_runner.specs.weaving.Woven.{AreRising, IsWoven, Placed, entries_of}
+use Rattle.node_runner.specs.weaving.Account.{Ticked, Sent}
 use Rattle.node_runner.specs.Rounds.{AreRounds, IsRound}
 use Rattle.node_runner.specs.FirstTurn.{IsFirstTurn, count_of, deeds_of, is_tick_of, is_send_on, is_take_on, before_tick}
 use Rattle.thread_net.specs.ThreadRun.{IsThreadRun}
@@ -148,79 +144,6 @@ module _ {A : Type 0} (w : World) (turns : ℕ) (p : Prepared A) (some : 0 < w.n
   not-with_events more prepared = let none = ap length prepared.nothing in omega (arith, more, none)
 
 -- ---- two nodes that did one turn each on threads of their own
-
--- what v sends in its first turn
-abbrev first_frame : ℕ → ℕ → Stamped
-first_frame v u = after_tick v u 2
-
--- ---- each ticks, and sends to the other
-
-abbrev account : ℕ → List Note
-account zero = Ticked 1 ∷ Sent 1 (first_frame 0 1) ∷ []
-account (suc zero) = Ticked 1 ∷ Sent 0 (first_frame 1 0) ∷ []
-account (suc (suc v)) = []
-
-abbrev journal : ℕ → List JournalEntry
-journal v = map (entry_of v) (account v)
-
-abbrev events : List Event
-events = Tick 0 ∷ Tick 1 ∷ Send 0 1 ∷ Send 1 0 ∷ []
-
-abbrev last : World
-last = run start events
-
-abbrev in_order : List Placed
-in_order =
-    record { node = 0; entry = record { stamp = 1; event = Tick 0 } } ∷ record { node = 1; entry = record { stamp = 1; event = Tick 1 } }
-    ∷ record { node = 0; entry = record { stamp = 2; event = Send 0 1 } } ∷ record { node = 1; entry = record { stamp = 2; event = Send 1 0 } } ∷ []
-
-complete : (v : ℕ) → entries_of v in_order ≡ journal v
-complete zero = refl
-complete (suc zero) = refl
-complete (suc (suc v)) = grind (arith, common_steps)
-
-woven : IsWoven journal events
-woven = record {
-  placed = in_order;
-  are_events = refl;
-  ordered = (
-    (inr (refl, omega arith), (inl (omega arith), (inl (omega arith), tt))),
-    ((inl (omega arith), (inl (omega arith), tt)), ((inr (refl, omega arith), tt), (tt, tt))),
-  );
-  complete = complete;
-}
-
-rising : (v : ℕ) → AreRising (journal v)
-rising zero = ((omega arith, tt), (tt, tt))
-rising (suc zero) = ((omega arith, tt), (tt, tt))
-rising (suc (suc v)) = tt
-
-leads-each : (v : ℕ) → Leads two_nodes v (start.node v) (account v) (last.node v)
-leads-each zero = ((refl, tt, tt), ((0, omega arith, refl), refl, refl))
-leads-each (suc zero) = ((refl, tt, tt), ((0, omega arith, refl), refl, refl))
-leads-each (suc (suc v)) = (tt, grind (arith, common_steps, nat_tests))
-
-nobody : (v : ℕ) → 2 ≤ v → account v ≡ []
-nobody zero few = absurd (omega arith)
-nobody (suc zero) few = absurd (omega arith)
-nobody (suc (suc v)) few = refl
-
-untouched : (sent taken : List Stamped) (left : List Item) → sent ≡ [] → taken ≡ [] → left ≡ [] → IsLinkMatched 1 [] sent taken left
-untouched sent taken left s t l = rw (s, t, l) (record { kept = refl; taken_later = tt; sent_later = tt })
-
-matched-each : (u v : ℕ) → IsLinkMatched 1 (start.link u v) (sent_to v (account u)) (taken_from u (account v)) (last.link u v)
-matched-each zero zero = untouched _ _ _ refl refl refl
-matched-each zero (suc zero) = record { kept = refl; taken_later = tt; sent_later = tt }
-matched-each zero (suc (suc v)) = untouched _ _ _ (grind (arith, nat_tests)) refl (grind (arith, common_steps, nat_tests))
-matched-each (suc zero) zero = record { kept = refl; taken_later = tt; sent_later = tt }
-matched-each (suc zero) (suc zero) = untouched _ _ _ refl refl refl
-matched-each (suc zero) (suc (suc v)) = untouched _ _ _ (grind (arith, nat_tests)) refl (grind (arith, common_steps, nat_tests))
-matched-each (suc (suc u)) zero = untouched _ _ _ refl (grind (arith, nat_tests)) (grind (arith, common_steps, nat_tests))
-matched-each (suc (suc u)) (suc zero) = untouched _ _ _ refl (grind (arith, nat_tests)) (grind (arith, common_steps, nat_tests))
-matched-each (suc (suc u)) (suc (suc v)) = untouched _ _ _ refl refl (grind (arith, common_steps, nat_tests))
-
-matched : AreMatched start account last
-matched = record { network = refl; spares = refl; nodes = leads-each; nobody = nobody; links = matched-each }
 
 -- a round of a node with one neighbour: a tick and a send
 one-round : (v u : ℕ) → AreRounds (u ∷ []) 1 (Ticked 1 ∷ Sent u (first_frame v u) ∷ [])

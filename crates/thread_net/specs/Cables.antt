@@ -29,15 +29,15 @@ IsCable p q = AreEnds p.outgoing q.incoming × AreEnds q.outgoing p.incoming
 abbrev pub rows_of : {A : Type 0} → List (Runner A) → List (List (RunnerPort A))
 rows_of runners = map (λ r. r.ports.items) runners
 
--- the ports of x; what is no node has none
+-- the ports of x; if x is no node, it has none
 abbrev pub row : {A : Type 0} → List (List (RunnerPort A)) → ℕ → List (RunnerPort A)
 row rows x = slice_index_or rows x []
 
--- the neighbours of some ports
+-- the neighbours that some ports lead to
 abbrev pub ids_in : {A : Type 0} → List (RunnerPort A) → List ℕ
 ids_in ports = map (λ p. p.neighbour) ports
 
--- what a runner has beside its ports
+-- what a runner has besides its ports
 abbrev pub Seat : Type 0 → Type 0
 Seat A = ℕ × NodeView × ℕ × Journal A
 
@@ -51,7 +51,7 @@ seats_of runners = map seat_of runners
 abbrev pub AreWithin : LinksView → Type 0
 AreWithin l = (u v : ℕ) → IsTrue (are_joined l.net.edges u v) → length (under_way l u v) ≤ l.net.capacity
 
--- the world's network and links are these
+-- these are the world's network and links
 abbrev pub IsOver : World → LinksView → Type 0
 IsOver w l = (w.net ≡ l.net) × (w.link ≡ under_way l)
 
@@ -70,7 +70,7 @@ IsCableOn None q = ⊥
 abbrev pub IsCableBetween : {A : Type 0} → List (List (RunnerPort A)) → ℕ → ℕ → Type 0
 IsCableBetween rows u v = IsCableOn (port_to (row rows u) v) (port_to (row rows v) u)
 
--- this holds of each two nodes that are joined
+-- this holds of every two nodes that are joined
 abbrev pub AreCabled : {A : Type 0} → Network → List (List (RunnerPort A)) → Type 0
 AreCabled net rows = (u v : ℕ) → IsTrue (are_joined net.edges u v) → IsCableBetween rows u v
 
@@ -82,8 +82,8 @@ IsOtherPair i j u v = (i == u && j == v) ≡ false
 abbrev pub ends_at : {X : Type 0} → ℕ → X → ℕ → X → ℕ → List X
 ends_at u near v far x = if x == u then near ∷ [] else (if x == v then far ∷ [] else [])
 
--- One cable more joins u and v: its ends are the last ports of the two, as a run from a world over
--- these links begins with them, and lead to each other.
+-- One more cable joins u and v: its ends are the last ports of the two, are as a run from a world
+-- over these links begins with them, and lead to each other.
 pub record IsCabledOnce {A : Type 0} (l : LinksView) (u v : ℕ) (rows more : List (List (RunnerPort A))) : Type 0 where
   pub near : RunnerPort A
   pub far : RunnerPort A
@@ -93,8 +93,8 @@ pub record IsCabledOnce {A : Type 0} (l : LinksView) (u v : ℕ) (rows more : Li
   pub cable : IsCable near far
   pub grown : (x : ℕ) → row more x ≡ row rows x ++ ends_at u near v far x
 
--- Each node has a port to each of its neighbours, ascending, as a run from this world begins, and
--- the ports of neighbours to each other are the ends of the same links.
+-- Each node has a port to each of its neighbours, in ascending order, as a run from this world
+-- begins with them. The ports of neighbours to each other are the ends of the same links.
 pub record AreFurnished {A : Type 0} (w : World) (rows : List (List (RunnerPort A))) : Type 0 where
   pub ids : (x : ℕ) → x < w.net.nodes → ids_in (row rows x) ≡ neighbours_of w.net x
   pub said : (x : ℕ) → x < w.net.nodes → All (IsPortNoted w x []) (row rows x)

@@ -21,7 +21,7 @@ use Rattle.thread_net.specs.Seats.{entries_of_all}
 use Rattle.thread_net.specs.Tables.{AreEmptySeats}
 use Rattle.thread_net.specs.ThreadRun.{IsThreadRun}
 
--- v did as many rounds since it was as in the world, of which the first is a whole turn
+-- v did this many rounds since it was as in the world, and the first of them is a whole turn
 pub record HasDone {A : Type 0} (w : World) (v turns : ℕ) (r : Runner A) : Type 0 where
   pub notes : List Note
   pub said : IsNoted w v notes r
@@ -34,12 +34,12 @@ pub record HaveDone {A : Type 0} (w : World) (turns : ℕ → ℕ) (runners : Li
   pub each : (v : ℕ) (d : Runner A) → v < w.net.nodes → HasDone w v (turns v) (slice_index_or runners v d)
   pub cabled : AreCabled w.net (rows_of runners)
 
--- a world in range, of whose nodes there are as many as its network says
+-- a world in range, with as many nodes as its network says
 pub record IsStart (w : World) : Type 0 where
   pub range : IsWorldInRange w
   pub beyond : (v : ℕ) → w.net.nodes ≤ v → w.node v ≡ default_node (ranges_of w.net)
 
--- all that a world and a list of events are made of, when each node has done its rounds
+-- everything that a world and a list of events are made of, when each node has done its rounds
 pub record IsGatherable {A : Type 0} (w : World) (turns : ℕ → ℕ) (runners : List (Runner A)) (links : LinksView) (room : StretchView) (seats : RunnerSeats A) (events : Vec Event A) : Type 0 where
   pub start : IsStart w
   pub done : HaveDone w turns runners

@@ -1,4 +1,4 @@
--- What stands if nodes did not run all their turns.
+-- What holds if nodes did not run all their turns.
 use Rattle.std.specs.Prelude.{◌≡◌, ◌⊎◌, ℕ, ◌<◌, List}
 use Rattle.judge.specs.run_model.World.{World}
 use Rattle.judge.specs.run_model.declared.event.Event.{Event}

@@ -1,4 +1,4 @@
--- What a thread hands back of the runner that it got.
+-- The runner that a thread hands back, by the one that it got.
 use Rattle.std.specs.Prelude.{◌≡◌, ℕ, ◌+◌, ◌*◌, ◌<◌, ◌≤◌, Bool, true, false, List, length, vec_capacity}
 use Rattle.node_runner.specs.weaving.Account.{Note}
 use Rattle.node_runner.specs.declared.runner.Runner.{Runner}

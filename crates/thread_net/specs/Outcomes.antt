@@ -1,4 +1,4 @@
--- What starting a runner gives, and what comes back.
+-- What starting a runner results in, and what comes back.
 use Rattle.std.specs.Prelude.{◌≡◌, ℕ, Bool, true, false, ◌&&◌, if◌then◌else◌, List, [], ◌∷◌, map, slice_index_or}
 use Rattle.std.specs.declared.alloc.Global.{Global}
 use Rattle.node_runner.specs.declared.runner.Runner.{Runner}
@@ -7,7 +7,7 @@ use Rattle.thread_net.specs.declared.threads.StartedRunner.{StartedRunner}
 use Rattle.thread_net.specs.declared.threads.StartedRunner.TheVariants.{Running, Back}
 pub use Rattle.thread_net.specs.Keeps.{Keeps, MayRun, HasRun}
 
--- all turns of the runner, or the runner as it was
+-- the runner after all its turns, or as it was
 abbrev pub IsOutcomeOf : ℕ → Runner Global → ReturnedRunner → Type 0
 IsOutcomeOf turns r o = Keeps turns r o.runner o.ran
 

@@ -7,11 +7,11 @@ use Rattle.node_runner.specs.declared.runner.Runner.{Runner}
 use Rattle.node_runner.specs.Runner.{IsNoted, IsReady, round_room}
 use Rattle.thread_net.specs.Cables.{AreCabled, rows_of, Seat}
 
--- the node of each
+-- the node of each runner
 abbrev pub nodes_of : {A : Type 0} → List (Runner A) → List NodeView
 nodes_of runners = map (λ r. r.node) runners
 
--- the entries of each
+-- the journal entries of each runner
 abbrev pub entries_of_all : {A : Type 0} → List (Runner A) → List (List JournalEntry)
 entries_of_all runners = map (λ r. r.journal.entries.items) runners
 

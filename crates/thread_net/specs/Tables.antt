@@ -8,7 +8,7 @@ use Rattle.thread_net.specs.declared.seats.RunnerSeats.{RunnerSeats}
 abbrev pub rows_in : {A : Type 0} → List (Vec (RunnerPort A) A) → List (List (RunnerPort A))
 rows_in tables = map (λ table. table.items) tables
 
--- the tables are empty, with room for the parts of as many runners
+-- the tables are empty, with room for the parts of this many runners
 pub record AreEmptySeats {A : Type 0} (count : ℕ) (seats : RunnerSeats A) : Type 0 where
   pub nodes : seats.nodes.items ≡ []
   pub journals : seats.journals.items ≡ []

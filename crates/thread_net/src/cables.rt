@@ -16,7 +16,7 @@ use rtrb::{Producer, RingBuffer};
 use std::alloc::{AllocError, Allocator};
 use topology::laws as topology_laws;
 
-/// What is under way on a link goes into its ring, with stamp 0.
+/// Puts what is under way on a link into its ring, with stamp 0.
 fn load<A: Allocator + Copy>(
     links: &Links<A>,
     from: u16,
@@ -71,7 +71,7 @@ fn link_ends<A: Allocator + Copy>(
     Ok((outgoing, incoming))
 }
 
-/// A port of each of two neighbours to the other.
+/// The ports of two neighbours to each other.
 fn cable<A: Allocator + Copy>(
     alloc: A,
     links: &Links<A>,
@@ -103,7 +103,7 @@ fn cable<A: Allocator + Copy>(
     Ok((near, far))
 }
 
-/// One more port of a node.
+/// Adds a port to a node.
 #[tactic(auto, using(crate::proofs::Maps::map_set_same))]
 fn plug<A: Allocator>(
     runners: &mut Vec<Runner<A>, A>,
@@ -120,7 +120,7 @@ fn plug<A: Allocator>(
     Ok(())
 }
 
-/// The ports that join two neighbours.
+/// Adds the ports that join two neighbours.
 fn join<A: Allocator + Copy>(
     alloc: A,
     links: &Links<A>,
@@ -144,7 +144,7 @@ fn join<A: Allocator + Copy>(
     Ok(())
 }
 
-/// The ports of all nodes, each by ascending ids of its neighbours.
+/// Adds the ports of all nodes, those of each node by ascending ids of its neighbours.
 pub(crate) fn cable_all<A: Allocator + Copy>(
     alloc: A,
     links: &Links<A>,

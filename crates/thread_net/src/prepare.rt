@@ -1,5 +1,5 @@
-//! A world becomes runners whose rings are its links. Whatever memory a run takes is taken here, or
-//! by the start of a thread.
+//! Makes a world into runners whose rings are its links. All memory that a run takes is taken here,
+//! or by the start of a thread.
 ghost use Rattle.std.specs.Prelude.{◌≡◌, ◌≤◌, ℕ, [], IfOk, IfErr, OnOk, All, length, vec_len};
 ghost use Rattle.std.specs.Prelude.{vec_capacity};
 ghost use Rattle.judge.specs.run_model.World.{World};
@@ -17,7 +17,7 @@ use judge::{Event, Links, Parts, Stretch};
 use node_runner::Runner;
 use std::alloc::{AllocError, Allocator};
 
-/// All that a run needs, made before its first turn.
+/// Everything that a run needs, made before its first turn.
 #[derive(Drop)]
 pub struct Prepared<A: Allocator + Copy> {
     pub(crate) runners: Vec<Runner<A>, A>,
@@ -30,7 +30,7 @@ pub struct Prepared<A: Allocator + Copy> {
     pub(crate) events: Vec<Event, A>,
 }
 
-/// Journals, rings and the list of events, for runners that are new.
+/// Makes the journals, the rings and the list of events for runners that are new.
 #[tactic(auto, using(crate::proofs::Starting::nodes_from))]
 fn furnish<A: Allocator + Copy>(
     alloc: A,
@@ -58,7 +58,7 @@ fn furnish<A: Allocator + Copy>(
     Ok(events)
 }
 
-/// Empty tables for as many runners, and for their parts.
+/// Empty tables for this many runners, and for their parts.
 fn tables<A: Allocator + Copy>(
     alloc: A,
     count: usize,
@@ -71,8 +71,8 @@ fn tables<A: Allocator + Copy>(
     Ok((runners, seats))
 }
 
-/// Makes all that a run of a world needs. If memory is refused for any of it, the world's parts come
-/// back as they were.
+/// Makes everything that a run of a world needs. If memory is refused for any of it, the world's
+/// parts come back as they were.
 pub fn prepare<A: Allocator + Copy>(
     alloc: A,
     parts: Parts<A>,

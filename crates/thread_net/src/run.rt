@@ -1,4 +1,4 @@
-//! A world's nodes run on threads, and what they did is a run.
+//! Runs the nodes of a world on threads; what they do is a run.
 ghost use Rattle.std.specs.Prelude.{◌≡◌, ◌≤◌, [], IfOk, IfErr, vec_len, vec_capacity};
 ghost use Rattle.judge.specs.run_model.World.{IsWorldInRange};
 ghost use Rattle.judge.specs.configuration.ConfigurationView.{world_of};
@@ -18,11 +18,11 @@ use std::alloc::{AllocError, Allocator, Global};
 use std::sync::Wait;
 use std::thread::Threads;
 
-/// What nodes did on threads of their own: the world that came of it, and the events that led
-/// there, in one order.
+/// What nodes did on threads of their own: the world that resulted, and the events that led to it,
+/// in one order.
 #[derive(Drop)]
 pub struct Woven<A: Allocator + Copy = Global> {
-    /// The world that came of it.
+    /// The world that resulted.
     pub world: World<A>,
     /// What the nodes did, by stamps, then by nodes.
     pub events: Vec<Event, A>,
@@ -33,12 +33,12 @@ pub struct Woven<A: Allocator + Copy = Global> {
 pub enum RunFault {
     /// Memory was refused before the first turn. The world is as it was.
     Memory(World),
-    /// A thread was refused. This is what the nodes did whose threads were started before; the
-    /// others did nothing.
+    /// A thread was refused. This is what the nodes did whose threads had been started; the others
+    /// did nothing.
     Spawn(Woven),
 }
 
-/// The tables of what comes of each thread, and of the runners that came back.
+/// Empty tables for what each thread returns, and for the runners that came back.
 fn new_tables(alloc: Global, count: usize) -> Result<(Vec<ReturnedRunner>, Vec<Runner>), AllocError>
     ensures done { IfOk result (λ r. (r.0.items ≡ []) × (count ≤ vec_capacity r.0)) }
     ensures back { IfOk result (λ r. (r.1.items ≡ []) × (count ≤ vec_capacity r.1)) }
@@ -48,7 +48,7 @@ fn new_tables(alloc: Global, count: usize) -> Result<(Vec<ReturnedRunner>, Vec<R
     Ok((done, back))
 }
 
-/// Whether all ran; their runners go to a table.
+/// Moves the runners to a table, and returns whether all of them ran.
 fn collect(outcomes: Vec<ReturnedRunner>, runners: &mut Vec<Runner>) -> bool
     requires { (runners.old.items ≡ []) × (vec_len outcomes ≤ vec_capacity runners.old) }
     ensures runners { runners.new.items ≡ runners_in outcomes.items }
@@ -95,8 +95,8 @@ fn gather<A: Allocator + Copy>(
     }
 }
 
-/// Makes all that a run of a world needs. If memory is refused for any of it, the world comes back as
-/// it was.
+/// Makes everything that a run of a world needs. If memory is refused for any of it, the world
+/// comes back as it was.
 pub fn prepare_world<A: Allocator + Copy>(
     alloc: A,
     world: World<A>,
@@ -106,23 +106,24 @@ pub fn prepare_world<A: Allocator + Copy>(
     ensures ready { IfOk result (IsPrepared (world_of world) turns) }
     ensures unchanged { IfErr result (λ back. back ≡ world) }
 {
-    world.assure_ranges();
+    world.ranges_hold();
     match prepare(alloc, world.into_parts(), turns) {
         Ok(prepared) => Ok(prepared),
         Err(parts) => Err(World::from_parts(parts)),
     }
 }
 
-/// Runs each node of a world on a thread of its own, as many turns each, and waits for all. A turn
-/// is a tick, then to each neighbour at most one send, then from each at most two takes; the gate
-/// holds a node before and after each. What the nodes did, in one list, is a run from the world
-/// handed in to the one that comes back, whatever the scheduler did.
+/// Runs each node of a world on a thread of its own, for `turns` turns each, and waits for all. A
+/// turn is a tick, then to each neighbour at most one send, then from each at most two takes; the
+/// gate holds a node before and after each turn. What the nodes did, in one list, is a run from the
+/// world handed in to the one that comes back, whatever the scheduler did.
 ///
-/// All memory is taken before the first thread starts, but what the start of a thread takes.
+/// All memory is taken before the first thread starts, except what the start of a thread takes.
 ///
 /// # Errors
-/// [`RunFault::Memory`] if memory is refused, before the first turn; the world comes back as it was.
-/// [`RunFault::Spawn`] if a thread is refused, with what the nodes did that were started.
+/// [`RunFault::Memory`] if memory is refused, before the first turn; the world comes back as it
+/// was. [`RunFault::Spawn`] if a thread is refused, with what the nodes did whose threads had been
+/// started.
 pub fn run_threads<R: Threads + Wait + Sync, G: Gate>(
     rt: &R,
     alloc: Global,

@@ -21,7 +21,7 @@ pub(crate) struct RunnerSeats<A: Allocator> {
     pub(crate) rows: Vec<Vec<RunnerPort<A>, A>, A>,
 }
 
-/// Empty tables for the parts of as many runners.
+/// Empty tables for the parts of this many runners.
 pub(crate) fn new_seats<A: Allocator + Copy>(
     alloc: A,
     count: usize,
@@ -44,7 +44,7 @@ pub(crate) fn entry_room(turns: u32, neighbours: usize) -> usize
     turns as usize * (1 + 3 * neighbours)
 }
 
-/// Each node becomes a runner, without a port or an entry, its clock at 0.
+/// Makes each node a runner, without a port or an entry, its clock at 0.
 pub(crate) fn seat_all<A: Allocator + Copy>(
     alloc: A,
     nodes: Vec<Node<A>, A>,
@@ -98,7 +98,7 @@ pub(crate) fn reserve_journals<A: Allocator + Copy>(
     Ok(total)
 }
 
-/// The runners' parts go to the tables.
+/// Moves the runners' parts to the tables.
 pub(crate) fn unseat_all<A: Allocator>(runners: Vec<Runner<A>, A>, seats: &mut RunnerSeats<A>)
     requires { AreEmptySeats (vec_len runners) seats.old }
     ensures nodes { seats.new.nodes.items ≡ nodes_of runners.items }

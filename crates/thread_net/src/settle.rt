@@ -1,4 +1,4 @@
-//! Rings are links again, with what is left in them.
+//! Turns rings into links again, with what is left in them.
 ghost use Rattle.std.specs.Prelude.{◌≡◌, ◌≢◌, ◌<◌, ◌==◌, ℕ, IsTrue, length};
 ghost use Rattle.std.specs.List.{position};
 ghost use Rattle.topology.specs.Network.{are_joined};
@@ -16,7 +16,7 @@ use node_runner::{Incoming, Outgoing, RunnerPort};
 use std::alloc::Allocator;
 use topology::{Net, laws as topology_laws};
 
-/// The item, or noise in place of a frame that is out of range. No run brings such a frame about.
+/// The item, or noise in place of a frame that is out of range. No run produces such a frame.
 fn fitting<A: Allocator + Copy>(net: &Net<A>, item: Item) -> Item
     ensures fits { IsTrue (item_fits (ranges_of net.now) result) }
     ensures same { IsTrue (item_fits (ranges_of net.now) item) → result ≡ item }
@@ -27,7 +27,7 @@ fn fitting<A: Allocator + Copy>(net: &Net<A>, item: Item) -> Item
     }
 }
 
-/// What is left of a link's ring is under way on the link again.
+/// Puts what is left in a link's ring on the link again, in place of what was there.
 fn drain<A: Allocator + Copy>(
     links: &mut Links<A>,
     from: u16,
@@ -74,7 +74,7 @@ fn take_from<A: Allocator>(ports: &mut Vec<RunnerPort<A>, A>, to: u16) -> Option
     }
 }
 
-/// Takes a node's port to another, if it has one.
+/// Takes a node's port to another node, if it has one.
 fn take_port<A: Allocator>(
     rows: &mut Vec<Vec<RunnerPort<A>, A>, A>,
     node: u16,
@@ -90,7 +90,8 @@ fn take_port<A: Allocator>(
     take_from(&mut rows[usize::from(node)], to)
 }
 
-/// Takes the ports of two nodes that lead to each other: their links have what is left.
+/// Takes the ports of two nodes that lead to each other, and gives their links what is left in the
+/// rings.
 fn settle_edge<A: Allocator + Copy>(
     links: &mut Links<A>,
     rows: &mut Vec<Vec<RunnerPort<A>, A>, A>,
@@ -130,7 +131,7 @@ fn settle_edge<A: Allocator + Copy>(
     drain(links, other, one, &mut far.outgoing, &mut near.incoming);
 }
 
-/// Settles all links: each has what is left in its ring.
+/// Settles all links: each gets what is left in its ring.
 pub(crate) fn settle_all<A: Allocator + Copy>(
     links: &mut Links<A>,
     rows: &mut Vec<Vec<RunnerPort<A>, A>, A>,

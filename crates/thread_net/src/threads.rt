@@ -1,4 +1,4 @@
-//! Runners start, each on a thread of its own, and come back.
+//! Starts runners, each on a thread of its own, and takes them back.
 ghost use Rattle.std.specs.Prelude.{◌≡◌, ◌≤◌, [], reverse, vec_len, vec_capacity, All};
 ghost use Rattle.std.specs.List.{AllZip};
 ghost use Rattle.std.specs.Vec.Iter.{into_iter_items, into_iter_len};
@@ -51,7 +51,7 @@ pub(crate) enum StartedRunner {
     Back(ReturnedRunner),
 }
 
-/// The turns of a runner, unless a start was refused before.
+/// Does the turns of a runner, unless a start was refused before.
 fn run_one<G: Gate>(runner: Runner, gate: &G, stop: &AtomicBool, turns: u32) -> ReturnedRunner
     requires { MayRun turns runner }
     ensures { Keeps turns runner result.runner result.ran }
@@ -125,8 +125,8 @@ fn run_each<'s, E, R: Threads, G: Gate>(
     }
 }
 
-/// Each runner does its turns on a thread of its own. One for which there is no thread comes back
-/// as it was.
+/// Lets each runner do its turns on a thread of its own. A runner for which there is no thread
+/// comes back as it was.
 pub(crate) fn run_all<R: Threads + Wait + Sync, G: Gate>(
     rt: &R,
     gate: &G,

@@ -15,15 +15,15 @@
 //! sweeps 1 of 69
 //! ```
 //!
-//! It keeps no state of its own and no lock by itself: what a command does stands in the crates
-//! below, and what its words are in `command_line`.
+//! It keeps no state and holds no lock itself. The crates below do what a command does;
+//! `command_line` has the commands' options and help.
 //!
-//! Statuses: 0 done, help too; 1 a file, memory or the output refused, with one line `tokentree:
-//! ..` on standard error; 2 the command line refused; 3 `simulate` is done, and refused some lines.
-//! `lock` has its command's, and 122 to 127 (`help lock`).
-//! A standard stream that is closed is the null device, so that no file is written to in its place.
-//! Faults are looked for in this order: the command line, the network, a node's id, the command's
-//! own files.
+//! Exit statuses: 0 done, also after help; 1 a file, memory or the output failed, and a line
+//! `tokentree: ..` on standard error says which; 2 invalid arguments; 3 `simulate` is done, and
+//! refused some lines. `lock` exits with its command's status, or with 122 to 127 (`help lock`).
+//! A standard stream that is closed counts as the null device, so that no file is written to in its
+//! place. Faults are looked for in this order: the arguments, the network, a node's id, the
+//! command's own files.
 #![tactic(auto)]
 
 use command_line::{begin, run_words};

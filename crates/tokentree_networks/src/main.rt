@@ -1,6 +1,6 @@
-//! The part of `tokentree` that knows networks: `bound` and `network`, as the whole program does them. It is
-//! built and proved without nodes and clients, and so in much less time; the launcher runs it until the
-//! whole program is built.
+//! The part of `tokentree` that deals with networks: `bound` and `network`, as the whole program does them.
+//! It is built and proved without nodes and clients, and so in much less time; the launcher runs it until
+//! the whole program is built.
 //!
 //! ```text
 //! $ tokentree_networks bound two-nodes.toml

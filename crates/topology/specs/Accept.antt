@@ -1,4 +1,4 @@
--- When values make a network, and by which name they are refused.
+-- When values make a network, and by which fault they are invalid.
 use Rattle.std.specs.Prelude.{◌≡◌, Some, None}
 use Rattle.topology.specs.Network.{Network, IsAcceptedNetwork, IsConnected}
 use Rattle.topology.specs.Refusal.{Values, values_of, value_fault}

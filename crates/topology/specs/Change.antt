@@ -1,4 +1,4 @@
--- One edge joins a network or goes: why it is refused, and what it leaves as it is.
+-- One edge joins a network or parts from it: why that is refused, and what stays as it is.
 use Rattle.std.specs.Prelude.{ℕ, Bool, not, ◌&&◌, ◌||◌, ◌==◌, if◌then◌else◌, nat_le, length, Option, Some, None}
 use Rattle.std.specs.List.{remove}
 use Rattle.topology.specs.Network.{Network, are_joined, parted_net}
@@ -6,7 +6,7 @@ use Rattle.topology.specs.Tree.{is_connected}
 use Rattle.topology.specs.declared.fault.NetFault.{NetFault}
 use Rattle.topology.specs.declared.fault.NetFault.TheVariants.{TooBig, BadEdge, LoopEdge, DoubleEdge, NoEdge, Apart}
 
--- one of the two is no node
+-- one of the two is not a node
 abbrev pub has_no_node : Network → ℕ → ℕ → Bool
 has_no_node net u v = nat_le net.nodes u || nat_le net.nodes v
 

@@ -5,7 +5,7 @@ use Rattle.std.specs.List.{range_with_len}
 use Rattle.topology.specs.Network.{Network, IsDistance, IsAcceptedNetwork, bound_of}
 use Rattle.topology.specs.Tree.{distance_of}
 
--- no node is further from the root than this, and some node is as far
+-- no node is further from the root than this, and some node is exactly as far
 pub record IsEccentricity (net : Network) (greatest : ℕ) : Type 0 where
   pub most : (v distance : ℕ) → v < net.nodes → IsDistance net v distance → distance ≤ greatest
   pub attained : (v : ℕ) × (v < net.nodes) × IsDistance net v greatest
@@ -15,7 +15,7 @@ abbrev pub eccentricity_of : Network → ℕ
 eccentricity_of net = fold max 0 (map (distance_of net) (range_with_len 0 net.nodes))
 
 -- The sweeps after which the system is legitimate, whatever the capacity, with e the greatest
--- distance: 6 until the links count rightly, 4(e+2) until the tree stands, 16(n-1) until the ring
+-- distance: 6 until the links count correctly, 4(e+2) until the tree stands, 16(n-1) until the ring
 -- has one token, and one until no loan is left without the privilege.
 abbrev pub sharp_of : Network → ℕ
 sharp_of net = 16 * (net.nodes - 1) + 4 * eccentricity_of net + 15

@@ -1,9 +1,9 @@
--- By which name a network's refusal is reported.
+-- The name by which a network's fault is reported.
 use Rattle.std.specs.Prelude.{ℕ, List, codes}
 use Rattle.topology.specs.declared.fault.NetFault.{NetFault}
 use Rattle.topology.specs.declared.fault.NetFault.TheVariants.{NotToml, Missing, Shape, TooSmall, TooBig, BadRoot, BadCapacity, BadLease, BadEdge, LoopEdge, DoubleEdge, Apart, Memory, NoEdge}
 
--- the name of a refusal
+-- the name of a fault
 abbrev pub fault_name : NetFault → List ℕ
 fault_name NotToml = codes "NotToml"
 fault_name Missing = codes "Missing"

@@ -1,4 +1,4 @@
--- What a `Net` keeps beside its network: the neighbours and the distance of each node.
+-- What a `Net` keeps besides its network: the neighbours and the distance of each node.
 use Rattle.std.specs.Prelude.{◌≡◌, ℕ, ◌<◌, ◌≤◌, List, All, map, length, Vec, slice_index}
 use Rattle.std.specs.Vec.{vec_capacity}
 use Rattle.std.specs.List.{range_with_len}
@@ -23,8 +23,8 @@ pub record IsLaidOut {A : Type 0} (net : Network) (neighbours : List (Vec ℕ A)
   pub all_distances : length distances ≡ net.nodes
   pub distances_are : (v : ℕ) → v < net.nodes → IsDistance net v (slice_index distances v)
 
--- there is room for 256 edges, and in each node's list for all nodes, so that edges may join and go
--- without new memory
+-- there is room for 256 edges, and in each node's list for all nodes, so that edges may join and
+-- part without new memory
 pub record HasRoom {A : Type 0} (nodes : ℕ) (edges : Vec Edge A)
     (neighbours : List (Vec ℕ A)) : Type 0 where
   pub for_edges : 256 ≤ vec_capacity edges

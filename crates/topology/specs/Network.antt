@@ -10,8 +10,8 @@ use Rattle.std.specs.List.{list_any, range_with_len}
 abbrev pub Edge : Type 0
 Edge = ℕ × ℕ
 
--- how many nodes there are, which of them is the root, how many items a link holds, for how many
--- ticks the lock is lent at most, and the edges
+-- how many nodes there are, which of them is the root, how many items a link holds, the most ticks
+-- for which the lock is lent, and the edges
 pub record Network : Type 0 where
   pub nodes : ℕ
   pub root : ℕ
@@ -19,7 +19,7 @@ pub record Network : Type 0 where
   pub lease : ℕ
   pub edges : List Edge
 
--- the network of these
+-- the network with these numbers and edges
 abbrev pub network_by : ℕ → ℕ → ℕ → ℕ → List Edge → Network
 network_by n r c l es = record { nodes = n; root = r; capacity = c; lease = l; edges = es }
 
@@ -62,7 +62,7 @@ pub record IsTrueParent (net : Network) (v p : ℕ) : Type 0 where
   pub nearer : IsNearer net v p
   pub smallest : (q : ℕ) → IsNearer net v q → p ≤ q
 
--- the edge has two different ends, both nodes of n
+-- the edge has two different ends, both of them below n
 pub record IsEdgeBelow (n : ℕ) (e : Edge) : Type 0 where
   pub first : e.0 < n
   pub second : e.1 < n
@@ -72,7 +72,7 @@ pub record IsEdgeBelow (n : ℕ) (e : Edge) : Type 0 where
 abbrev pub is_same_edge : Edge → Edge → Bool
 is_same_edge e f = is_between e.0 e.1 f
 
--- some edge stands twice, either way round
+-- some edge is listed twice, either way round
 abbrev pub has_double_edge : List Edge → Bool
 has_double_edge [] = false
 has_double_edge (e ∷ es) = list_any (is_same_edge e) es || has_double_edge es
@@ -122,9 +122,9 @@ counter_of net = 2 * net.capacity + 3
 abbrev pub ring_of : Network → ℕ
 ring_of net = 6 * (net.nodes - 1) + 1
 
--- the sweeps after which the system is legitimate: 4(C+1) until the links count rightly, 4 for each
--- distance and 4 for the parents until the tree stands, 8(n-1) for each of the ring's 6(n-1) steps,
--- and one until no loan is left without the privilege
+-- the sweeps after which the system is legitimate: 4(C+1) until the links count correctly, 4 for
+-- each distance and 4 for the parents until the tree stands, 8(n-1) for each of the ring's 6(n-1)
+-- steps, and one until no loan is left without the privilege
 abbrev pub bound_of : Network → ℕ
 bound_of net =
     4 * (net.capacity + 1) + 4 * (net.nodes + 1) + 48 * (net.nodes - 1) * (net.nodes - 1) + 1

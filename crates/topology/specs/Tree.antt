@@ -1,11 +1,10 @@
--- Distances and true parents as functions that compute. What a distance and a true parent are is
--- said by walks, in Network; the laws say that these functions agree with it on each accepted
--- network.
+-- Distances and true parents as functions that compute. Network says by walks what a distance and a
+-- true parent are; the laws say that these functions agree with it on each accepted network.
 use Rattle.std.specs.Prelude.{ℕ, zero, suc, ◌+◌, Bool, ◌==◌, if◌then◌else◌, nat_lt, Option}
 use Rattle.std.specs.List.{list_any, list_all, find, range_with_len}
 use Rattle.topology.specs.Network.{Network, neighbours_of}
 
--- a walk of the number of steps leads from the root to v
+-- a walk of this many steps leads from the root to v
 abbrev pub reaches : Network → ℕ → ℕ → Bool
 reaches net zero v = v == net.root
 reaches net (suc steps) v = list_any (reaches net steps) (neighbours_of net v)

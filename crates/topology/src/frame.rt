@@ -2,12 +2,12 @@
 ghost use Rattle.std.specs.Prelude.{◌≡◌};
 ghost use Rattle.topology.specs.Ranges.{payload_fits, frame_fits};
 
-/// What a node says of itself to one neighbour.
+/// What a node says about itself to one neighbour.
 #[derive(Clone, Copy, Debug, PartialEq, Eq)]
 pub struct Payload {
     /// Its distance from the root, 0 to the number of nodes.
     pub distance: u16,
-    /// The neighbour that it takes for its parent, if any.
+    /// The neighbour that it takes to be its parent, if any.
     pub parent: Option<u16>,
     /// The value of its machine that leaves towards that neighbour, below the ring's modulus.
     pub ring: u16,
@@ -20,7 +20,7 @@ pub struct Frame {
     pub seq: u16,
     /// The last number that the sender accepted from the receiver, below the counters' modulus.
     pub ack: u16,
-    /// What the sender says of itself.
+    /// What the sender says about itself.
     pub payload: Payload,
 }
 

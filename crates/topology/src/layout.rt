@@ -1,5 +1,4 @@
-//! What follows from the edges of a network and is kept: the neighbours and the distance of each
-//! node.
+//! What a network keeps that follows from its edges: the neighbours and the distance of each node.
 ghost use Rattle.std.specs.Prelude.{◌≡◌, ◌<◌, ◌≤◌, All, IfOk};
 ghost use Rattle.std.specs.List.{list_any};
 ghost use Rattle.topology.specs.Network.{IsEdgeBelow};

@@ -1,4 +1,4 @@
-//! A network that was accepted, and what is read of it.
+//! An accepted network, and what is read from it.
 ghost use Rattle.std.specs.Prelude.{◌≡◌, ◌≢◌, ◌<◌, IfSome, IsNone, IsSome, IsTrue, false};
 ghost use Rattle.topology.specs.Network.{are_joined, IsAcceptedNetwork, IsDistance, IsNearer};
 ghost use Rattle.topology.specs.Network.{IsTrueParent, neighbours_of, counter_of, ring_of};
@@ -19,8 +19,8 @@ use std::marker::Model;
 /// A connected undirected graph of 2 to 64 nodes with a root, the capacity of its links and the
 /// lease of its lock.
 ///
-/// Its nodes are 0 to `nodes() - 1`. What takes a node, as [`Net::distance`], must be given one of
-/// these.
+/// Its nodes are 0 to `nodes() - 1`. A function that requires a node, such as [`Net::distance`],
+/// must be given one of these.
 #[derive(Debug, Drop)]
 pub struct Net<A: Allocator + Copy = Global> {
     nodes: u16,
@@ -71,7 +71,7 @@ impl<A: Allocator + Copy> Net<A> {
         self.capacity
     }
 
-    /// For how many ticks the lock is lent at most, 0 to 65535; 0 is no limit.
+    /// The most ticks for which the lock is lent, 0 to 65535; 0 means no limit.
     pub fn lease(&self) -> u16
         ensures lease { result ≡ self.now.lease }
         ensures network { IsAcceptedNetwork self.now }
@@ -94,7 +94,7 @@ impl<A: Allocator + Copy> Net<A> {
         &self.layout.neighbours[v as usize]
     }
 
-    /// Whether an edge joins the two nodes. It looks through the edges; the ids may be any.
+    /// Whether an edge joins the two nodes. It looks through the edges; any ids are allowed.
     pub fn are_joined(&self, v: u16, w: u16) -> bool
         ensures { result ≡ are_joined self.now.edges v w }
     {
@@ -103,8 +103,8 @@ impl<A: Allocator + Copy> Net<A> {
 
     /// The modulus of a link's counters: 2C+3 for a capacity of C.
     ///
-    /// The numbers of one direction stand at most at 2C+2 places; a ring of copies settles if
-    /// there are more values than places (Dijkstra 1974).
+    /// The numbers of one direction stand at 2C+2 places at most; a ring of copies settles if there
+    /// are more values than places (Dijkstra 1974).
     pub fn counter(&self) -> u16
         ensures { result ≡ counter_of self.now }
     {
@@ -119,7 +119,7 @@ impl<A: Allocator + Copy> Net<A> {
         6 * (self.nodes - 1) + 1
     }
 
-    /// The sweeps after which the system is legitimate, from whatever state: 4(C+1) + 4(n+1) +
+    /// The sweeps after which the system is legitimate, from any state: 4(C+1) + 4(n+1) +
     /// 48(n-1)(n-1) + 1.
     ///
     /// It is a bound, not a forecast: most runs are legitimate far sooner.
@@ -152,7 +152,7 @@ impl<A: Allocator + Copy> Net<A> {
     /// The distance of a node: the least length of a walk from the root to it, below `nodes()`.
     pub fn distance(&self, v: u16) -> u16
         requires { v < self.now.nodes }
-        // By walks, as a distance is meant; and the function that computes it.
+        // By walks, as a distance is defined; and by the function that computes it.
         ensures walk { IsDistance self.now v result }
         ensures computed { result ≡ distance_of self.now v }
     {
@@ -163,7 +163,7 @@ impl<A: Allocator + Copy> Net<A> {
     /// for the root.
     pub fn parent(&self, v: u16) -> Option<u16>
         requires { v < self.now.nodes }
-        // By walks, as a true parent is meant; and the function that computes it.
+        // By walks, as a true parent is defined; and by the function that computes it.
         ensures root { v ≡ self.now.root → IsNone result }
         ensures some { IfSome result (IsTrueParent self.now v) }
         ensures other { v ≢ self.now.root → IsSome result }
@@ -178,7 +178,7 @@ impl<A: Allocator + Copy> Net<A> {
         None
     }
 
-    /// Whether a node is a neighbour at one less than the distance.
+    /// Whether `w` is a neighbour of `v` whose distance is one less than `distance`.
     fn is_nearer(&self, v: u16, w: u16, distance: u16) -> bool
         requires v_in { v < self.now.nodes }
         requires w_in { w < self.now.nodes }

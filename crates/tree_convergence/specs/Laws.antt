@@ -50,7 +50,7 @@ NumbersMove =
 
 -- ---- payloads on a stable link
 
--- an event leaves what u has staged for v, or stages what u says of itself to v then
+-- an event leaves what u has staged for v, or stages what u then says about itself to v
 abbrev pub StagedIsPresent : Type 0
 StagedIsPresent =
     (w : World) (e : Event) (u v : ℕ) → IsWorldInRange w → is_damage w e ≡ false
@@ -58,8 +58,7 @@ StagedIsPresent =
     → (((step w e).node u).port v).staged ≡ ((w.node u).port v).staged
     ⊎ (((step w e).node u).port v).staged ≡ present w u v
 
--- on a stable link an event leaves what v has copied from u, or copies what u has staged for v
--- then
+-- on a stable link an event leaves what v has copied from u, or copies what u then has staged for v
 abbrev pub CopyIsStaged : Type 0
 CopyIsStaged =
     (w : World) (e : Event) (u v : ℕ) → IsWorldInRange w → is_damage w e ≡ false
@@ -67,7 +66,7 @@ CopyIsStaged =
     → (((step w e).node v).port u).copy ≡ ((w.node v).port u).copy
     ⊎ (((step w e).node v).port u).copy ≡ ((w.node u).port v).staged
 
--- on a stable link, what holds for all that u says of itself to v throughout three sweeps holds
+-- on a stable link, what holds for all that u says about itself to v throughout three sweeps holds
 -- for what is staged and copied at their end
 abbrev pub PayloadsTurnFresh : Type 0
 PayloadsTurnFresh =
@@ -77,8 +76,8 @@ PayloadsTurnFresh =
     → (test (((run w es).node u).port v).staged ≡ true)
     × (test (((run w es).node v).port u).copy ≡ true)
 
--- what holds for all that u says of itself to v throughout two sweeps holds for what is staged at
--- their end
+-- what holds for all that u says about itself to v throughout two sweeps holds for what is staged
+-- at their end
 abbrev pub StagedTurnsFresh : Type 0
 StagedTurnsFresh =
     (test : Payload → Bool) (w : World) (es : List Event) (u v : ℕ) → IsWorldInRange w

@@ -7,7 +7,7 @@ use Rattle.run_model.specs.data_link.Edge.{moves_in}
 use Rattle.run_model.specs.Project.{present, edge_of, edge_events}
 use Rattle.run_model.specs.declared.event.Event.{Event}
 
--- at every moment of a run, what u says of itself to v passes the test
+-- at every moment of a run, what u says about itself to v passes the test
 abbrev pub AlwaysPresent : (Payload → Bool) → World → List Event → ℕ → ℕ → Type 0
 AlwaysPresent test w [] u v = test (present w u v) ≡ true
 AlwaysPresent test w (e ∷ es) u v =

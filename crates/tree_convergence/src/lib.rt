@@ -2,12 +2,12 @@
 //! a network, over every list of events without damage, in any order (Dolev, Israeli, Moran 1993;
 //! Dolev, Self-Stabilization, 2000).
 //!
-//! Each law is for the sweeps that it uses, and holds at every later moment too: 4(C + 1) sweeps
-//! for the links, or six; on stable links three sweeps for all that is staged and copied, four for
-//! a stage of the tree, 4(n + 1) for the whole tree. No law claims that sweeps occur.
+//! Each law is for the number of sweeps that it uses, and holds at every later moment too: 4(C + 1)
+//! sweeps for the links, or six; on stable links three sweeps for all that is staged and copied,
+//! four for a stage of the tree, 4(n + 1) for the whole tree. No law claims that sweeps occur.
 //!
-//! The statements stand in `specs/Laws.antt`; a proof that needs one calls the law function and
-//! cites its clause:
+//! The statements are in `specs/Laws.antt`; a proof that needs one calls the law function and cites
+//! its clause:
 //!
 //! ```
 //! tree_convergence::laws::tree();     // its clauses: reached, reached_by_depth, stay

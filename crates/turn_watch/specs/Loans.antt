@@ -9,7 +9,7 @@ use Rattle.turn_watch.specs.Turns.{one_more, none_kept, gap_noted}
 abbrev pub no_loans : LoanTimes
 no_loans = record { count = 0; longest = 0; since = None; lately = none_kept 0 }
 
--- how long a loan has been that began then
+-- how long a loan that began then has lasted
 abbrev pub loan_length : ℕ → ℕ → ℕ
 loan_length now since = now - since
 

@@ -1,4 +1,4 @@
--- In which order the links are noted.
+-- The order in which the links are noted.
 use Rattle.std.specs.Prelude.{ℕ, ◌+◌, nat_lt, if◌then◌else◌}
 
 -- after the last node of the network comes the first

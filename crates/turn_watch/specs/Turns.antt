@@ -25,7 +25,7 @@ begun now = record {
   lately = none_kept now;
 }
 
--- so many half minutes later: what ended three half minutes ago or earlier is forgotten
+-- after `steps` half minutes more: what ended three half minutes ago or earlier is forgotten
 abbrev pub moved_by : ℕ → ℕ → Lately → Lately
 moved_by steps half l =
     if steps == 0 then l

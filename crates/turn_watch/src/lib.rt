@@ -1,7 +1,7 @@
 //! What a node notes of its own turns, loans and links, and of the token, for whoever looks.
 //!
-//! The theorems on time rest on premises: that each node takes a turn every so many microseconds, that
-//! connections stand, that loans end. These records say what was true of them so far.
+//! The theorems on time rest on premises: that each node takes a turn in each stretch of a given length,
+//! that connections stand, that loans end. These records say what was true of them so far.
 //!
 //! ```
 //! let mut turns = TurnTimes::begin(0);
@@ -12,11 +12,11 @@
 //! turns.longest_lately(90_000_000);                   // 0
 //! ```
 //!
-//! A note takes some nanoseconds, whatever was noted before; it takes no memory and asks no clock. All
+//! A note takes a few nanoseconds, whatever was noted before; it takes no memory and reads no clock. All
 //! times are microseconds of one clock that never goes back.
 //!
-//! The trap: a note is as exact as the turns are. A loan that ends in a turn ends at that turn's end, and
-//! a link is noted when its port's turn comes.
+//! The trap: a note is as exact as the turns are. A loan that ends in a turn counts as ended at that
+//! turn's end, and a link is noted when its port's turn comes.
 #![tactic(auto)]
 
 pub mod laws;

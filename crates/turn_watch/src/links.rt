@@ -1,4 +1,4 @@
-//! Since when a node's links are up or down.
+//! Since when a node's links have been up or down.
 ghost use Rattle.std.specs.Prelude.{◌≡◌};
 ghost use Rattle.turn_watch.specs.Links.{down_since, link_seen, break_count};
 
@@ -7,7 +7,7 @@ ghost use Rattle.turn_watch.specs.Links.{down_since, link_seen, break_count};
 pub struct LinkSight {
     /// Whether a connection stands.
     pub is_up: bool,
-    /// How many connections there were so far, with the one that stands.
+    /// How many connections there have been so far, including the one that stands.
     pub made: u64,
 }
 
@@ -20,7 +20,7 @@ impl LinkSight {
     }
 }
 
-/// The link to a neighbour, and since when it is so, in microseconds.
+/// The link to a neighbour, and since when it has been like this, in microseconds.
 #[derive(Clone, Copy)]
 pub struct LinkTimes {
     /// What was seen last.

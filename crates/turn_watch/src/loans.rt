@@ -78,15 +78,15 @@ impl LoanTimes {
         }
     }
 
-    /// The longest loan that ended in the last minute, seen at that time. It may be one that ended up
-    /// to half a minute earlier.
+    /// The longest loan that ended in the last minute, as seen at that time. It may be one that ended
+    /// up to half a minute earlier.
     pub fn longest_lately(&self, now: u64) -> u64
         ensures { result ≡ longest_lately now self.now.lately }
     {
         self.lately.longest(now)
     }
 
-    /// How long the present loan has been, if there is one.
+    /// How long the present loan has lasted, if there is one.
     pub fn present(&self, now: u64) -> Option<u64>
         ensures { result ≡ option_map (loan_length now) self.now.since }
     {

@@ -46,7 +46,7 @@ impl TurnNotes {
         }
     }
 
-    /// A turn has ended, and the desk stands so.
+    /// Takes note that a turn has ended, with the desk in this state.
     pub fn turn_ended(&mut self, now: u64, desk: DeskSight)
         ensures { self.new ≡ record self.old {
           turns = turn_ended self.old.limit now self.old.turns;
@@ -57,7 +57,8 @@ impl TurnNotes {
         self.loans.note(now, desk);
     }
 
-    /// The node did something that is no turn, and lends now or does not. No loan begins by it.
+    /// Takes note that the node did something that is no turn, and whether it lends now. No loan
+    /// begins by that.
     pub fn attended(&mut self, now: u64, lends: bool)
         ensures { self.new ≡ record self.old {
           loans = desk_seen now (record { has_granted = false; lends = lends }) self.old.loans;
@@ -77,7 +78,7 @@ impl TurnNotes {
         self.rounds.note(sight);
     }
 
-    /// Whose link to note now: that of each node of a network of `nodes` nodes, in turn.
+    /// The node whose link is noted now: each node of a network of `nodes` nodes, in turn.
     pub fn next_link(&mut self, nodes: u16) -> u16
         ensures next { result ≡ self.old.next }
         ensures after { self.new ≡ record self.old { next = next_of nodes self.old.next } }
@@ -124,7 +125,7 @@ impl TurnNotes {
         &self.rounds
     }
 
-    /// The link to a node; to an id above 63 none was ever made.
+    /// The link to a node; for an id above 63, one over which no connection was ever made.
     pub fn link(&self, id: u16) -> LinkTimes
         ensures { result ≡ link_of self.now.links id }
     {

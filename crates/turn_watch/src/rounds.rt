@@ -32,7 +32,8 @@ impl RoundCount {
         }
     }
 
-    /// Takes note of the machine after a turn. If another machine was seen before, nothing is counted.
+    /// Takes note of the machine after a turn. If a different machine was seen before, nothing is
+    /// counted.
     pub fn note(&mut self, sight: Option<MachineSight>)
         ensures { self.new ≡ machine_seen sight self.old }
     {
@@ -43,7 +44,7 @@ impl RoundCount {
     }
 }
 
-/// Whether both are of the same machine, with another value.
+/// Whether both are of the same machine, with different values.
 fn has_moved(before: Option<MachineSight>, after: Option<MachineSight>) -> bool
     ensures { result ≡ has_moved before after }
 {

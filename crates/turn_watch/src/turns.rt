@@ -2,8 +2,8 @@
 ghost use Rattle.std.specs.Prelude.{◌≡◌};
 ghost use Rattle.turn_watch.specs.Turns.{begun, none_kept, moved_to, gap_noted, longest_lately, turn_ended};
 
-/// How long a turn may take to be in time, in microseconds, unless another limit is named: the longest
-/// rest of 2 milliseconds, and a tenth of that for the turn itself.
+/// How long a turn may take and still be in time, in microseconds, unless a different limit is given:
+/// the longest rest of 2 milliseconds, and a tenth of that for the turn itself.
 pub const USUAL_LIMIT: u64 = 2_200;
 
 /// Half a minute, in microseconds.
@@ -63,7 +63,7 @@ impl Lately {
         self.present = self.present.max(gap);
     }
 
-    /// The longest gap of the last minute, seen at that time.
+    /// The longest gap of the last minute, as seen at that time.
     pub(crate) fn longest(&self, now: u64) -> u64
         ensures { result ≡ longest_lately now self.now }
     {
@@ -117,8 +117,8 @@ impl TurnTimes {
         self.lately.note(now, gap);
     }
 
-    /// The longest gap that ended in the last minute, seen at that time. It may be one that ended up
-    /// to half a minute earlier.
+    /// The longest gap that ended in the last minute, as seen at that time. It may be one that ended
+    /// up to half a minute earlier.
     pub fn longest_lately(&self, now: u64) -> u64
         ensures { result ≡ longest_lately now self.now.lately }
     {

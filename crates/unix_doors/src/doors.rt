@@ -31,12 +31,12 @@ const CONNECTION: Token = Token(3);
 /// The socket for whoever looks.
 const LOOKS: Token = Token(4);
 
-/// How many events one wait takes. What it leaves, the next wait takes.
+/// The most events that one wait takes. The next wait takes what it leaves.
 const EVENTS: usize = 64;
 
-/// What a wait waits with, and what the last one reported.
+/// A poll, and what its last wait reported.
 #[derive(Drop)]
-struct Watch {
+struct Polling {
     poll: Poll,
     events: Events,
 }
@@ -44,14 +44,14 @@ struct Watch {
 /// Doors over three listening Unix sockets, and the addresses of all nodes. A wait ends as soon as
 /// anything comes.
 ///
-/// A poll reports a socket once, when something new comes. So a listener is asked again until it
-/// has nobody more, and only then is a call left out.
+/// A poll reports a socket once, when something new comes. So a listener is asked again until
+/// nobody more has come, and only then is a call left out.
 #[derive(Drop)]
 pub struct UnixDoors<'a, N> {
     net: &'a N,
-    watch: Watch,
+    polling: Polling,
     listeners: Listeners,
-    /// Of each node by its id, where the nodes of greater ids connect.
+    /// By the id of each node, the address at which the nodes of greater ids connect.
     addresses: Vec<SocketAddr>,
     links_may_come: bool,
     clients_may_come: bool,
@@ -76,11 +76,11 @@ impl<'a, N: Net> UnixDoors<'a, N> {
             × (doors.clients_may_come ≡ true) × (doors.looks_may_come ≡ true)) }
         ensures none_closed { IfOk result (λ doors. doors.seats.closed ≡ 0) }
     {
-        let watch = watch_over(net, alloc, &mut listeners)?;
+        let polling = polling_of(net, alloc, &mut listeners)?;
         let seats = Seats::new(alloc)?;
         Ok(UnixDoors {
             net,
-            watch,
+            polling,
             listeners,
             addresses,
             links_may_come: true,
@@ -92,14 +92,14 @@ impl<'a, N: Net> UnixDoors<'a, N> {
         })
     }
 
-    /// Has each wait end when standard input can be read too, or is at its end.
+    /// Makes each wait end also when standard input can be read, or is at its end.
     ///
     /// # Errors
     /// If no poll waits for standard input: it is closed, a file, or `/dev/null`.
     pub fn watch_input(&mut self) -> io::Result<()>
         ensures { self.new.failures ≡ self.old.failures }
     {
-        watch_input(self.watch.poll.registry(), INPUT, true)
+        watch_input(self.polling.poll.registry(), INPUT, true)
     }
 
     /// Whether standard input, if it is watched, is at its end.
@@ -113,49 +113,49 @@ impl<'a, N: Net> UnixDoors<'a, N> {
         }
         self.input_has_news = false;
         read_input(rt) != InputSight::Open
-            || watch_input(self.watch.poll.registry(), INPUT, false).is_err()
+            || watch_input(self.polling.poll.registry(), INPUT, false).is_err()
     }
 
-    /// Listens for neighbours at this socket from now on, in place of that before.
+    /// Listens for neighbours at this socket from now on, in place of the one before.
     ///
     /// # Errors
-    /// If the system does not watch it; then all stays as it was.
+    /// If the system does not watch it; then nothing changes.
     pub fn listen_for_links(&mut self, mut links: UnixListener) -> io::Result<()>
         ensures failures { self.new.failures ≡ self.old.failures }
         ensures listens { OnOk result (self.new.links_may_come ≡ true) }
         ensures stays { IsErr result → self.new.links_may_come ≡ self.old.links_may_come }
     {
-        listen(&self.watch.poll, &mut links, LINKS)?;
+        listen(&self.polling.poll, &mut links, LINKS)?;
         self.listeners.links = links;
         self.links_may_come = true;
         Ok(())
     }
 
-    /// Listens for clients at this socket from now on, in place of that before.
+    /// Listens for clients at this socket from now on, in place of the one before.
     ///
     /// # Errors
-    /// If the system does not watch it; then all stays as it was.
+    /// If the system does not watch it; then nothing changes.
     pub fn listen_for_clients(&mut self, mut clients: UnixListener) -> io::Result<()>
         ensures failures { self.new.failures ≡ self.old.failures }
         ensures listens { OnOk result (self.new.clients_may_come ≡ true) }
         ensures stays { IsErr result → self.new.clients_may_come ≡ self.old.clients_may_come }
     {
-        listen(&self.watch.poll, &mut clients, CLIENTS)?;
+        listen(&self.polling.poll, &mut clients, CLIENTS)?;
         self.listeners.clients = clients;
         self.clients_may_come = true;
         Ok(())
     }
 
-    /// Listens for whoever looks at this socket from now on, in place of that before.
+    /// Listens at this socket for whoever looks from now on, in place of the one before.
     ///
     /// # Errors
-    /// If the system does not watch it; then all stays as it was.
+    /// If the system does not watch it; then nothing changes.
     pub fn listen_for_looks(&mut self, mut looks: UnixListener) -> io::Result<()>
         ensures failures { self.new.failures ≡ self.old.failures }
         ensures listens { OnOk result (self.new.looks_may_come ≡ true) }
         ensures stays { IsErr result → self.new.looks_may_come ≡ self.old.looks_may_come }
     {
-        listen(&self.watch.poll, &mut looks, LOOKS)?;
+        listen(&self.polling.poll, &mut looks, LOOKS)?;
         self.listeners.looks = looks;
         self.looks_may_come = true;
         Ok(())
@@ -181,7 +181,7 @@ impl<'a, N: Net> UnixDoors<'a, N> {
     pub fn looker(&mut self) -> Option<UnixPipe>
         ensures failures { self.new.failures ≡ self.old.failures }
         ensures nobody { self.old.looks_may_come ≡ false → (result ≡ None) × (self.new ≡ self.old) }
-        // After one came, the next is asked for.
+        // After one has come, the next is asked for.
         ensures more { IsSome result → self.new.looks_may_come ≡ true }
     {
         if !self.looks_may_come {
@@ -200,7 +200,7 @@ impl<'a, N: Net> UnixDoors<'a, N> {
     fn note_events(&mut self)
         ensures { self.new.failures ≡ self.old.failures }
     {
-        for event in self.watch.events.iter() {
+        for event in self.polling.events.iter() {
             match event.token() {
                 LINKS => self.links_may_come = true,
                 CLIENTS => self.clients_may_come = true,
@@ -221,18 +221,18 @@ impl<'a, N: Net> UnixDoors<'a, N> {
         }
     }
 
-    /// This connection, whose bytes end a wait from now on, or why it is none.
+    /// This connection, whose bytes end a wait from now on, or why there is none.
     fn watched_door(&mut self, mut stream: UnixStream) -> Door<UnixPipe>
         ensures { Opens result self.old.failures self.new.failures }
     {
-        let registry = self.watch.poll.registry();
+        let registry = self.polling.poll.registry();
         match registry.register(&mut stream, CONNECTION, Interest::READABLE) {
             Ok(()) => Door::Came(UnixPipe::new(stream)),
             Err(error) => self.no_door(error.kind()),
         }
     }
 
-    /// Why there is no connection: nobody has come, or it failed, which is counted.
+    /// Why there is no connection: nobody has come, or it failed; a failure is counted.
     fn no_door(&mut self, kind: io::ErrorKind) -> Door<UnixPipe>
         ensures opens { Opens result self.old.failures self.new.failures }
         ensures nobody { (kind ≡ WouldBlock) ⊎ (kind ≡ Interrupted) → result ≡ Nobody }
@@ -252,11 +252,11 @@ impl<'a, N: Net> Doors for UnixDoors<'a, N> {
     ghost failures = { λ d. d.failures };
 
     fn wait(&mut self, rest: u64) {
-        // A wait that fails ends at once, and the turn asks all the same.
-        let waited = self
-            .watch
-            .poll
-            .poll(&mut self.watch.events, Some(Duration::from_micros(rest)));
+        // A wait that fails ends at once, and the turn then asks all listeners.
+        let waited = self.polling.poll.poll(
+            &mut self.polling.events,
+            Some(Duration::from_micros(rest)),
+        );
         if waited.is_err() {
             self.links_may_come = true;
             self.clients_may_come = true;
@@ -302,21 +302,21 @@ impl<'a, N: Net> Doors for UnixDoors<'a, N> {
     }
 }
 
-/// A poll to which these sockets are new, and which reports them.
+/// A new poll, which reports these sockets.
 ///
 /// # Errors
 /// If the system gives no poll or does not watch a socket, or memory runs out.
-fn watch_over<N: Net>(net: &N, alloc: Global, listeners: &mut Listeners) -> io::Result<Watch> {
-    let watch = new_watch(net, alloc)?;
-    listen_to_all(&watch.poll, listeners)?;
-    Ok(watch)
+fn polling_of<N: Net>(net: &N, alloc: Global, listeners: &mut Listeners) -> io::Result<Polling> {
+    let polling = new_polling(net, alloc)?;
+    listen_to_all(&polling.poll, listeners)?;
+    Ok(polling)
 }
 
 /// A poll that reports nothing yet.
-fn new_watch<N: Net>(net: &N, alloc: Global) -> io::Result<Watch> {
+fn new_polling<N: Net>(net: &N, alloc: Global) -> io::Result<Polling> {
     let poll = Poll::new(net)?;
     let events = Events::with_capacity(alloc, EVENTS)?;
-    Ok(Watch { poll, events })
+    Ok(Polling { poll, events })
 }
 
 /// Has a poll report these sockets, each under its token.

@@ -7,9 +7,9 @@
 //! run.wait(watch.now());                               // until something comes, or is due
 //! ```
 //!
-//! What a turn of a node does stands in the crate `node_loop`, over doors. What the system answers
-//! is not known to contracts, so the functions that call it say little: that failures are counted,
-//! that an end is no `later`, and that the clock never goes back.
+//! The crate `node_loop` has what a turn of a node does, over doors. Contracts know nothing of the
+//! system's answers, so the functions that call the system promise little: that failures are
+//! counted, that an end is no `later`, and that the clock never goes back.
 //!
 //! The trap: a poll reports a socket once, when something new comes.
 #![tactic(auto)]

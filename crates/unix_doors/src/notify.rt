@@ -1,5 +1,5 @@
-//! Says to the service manager that started this process that it is ready: one datagram, by `socket` and
-//! `sendto` of the C library, since the kit has no datagram sockets of Unix.
+//! Reports to the service manager that started this process that the process is ready: in one datagram, by
+//! `socket` and `sendto` of the C library, since the kit has no Unix datagram sockets.
 ghost use Rattle.std.specs.Prelude.{◌≡◌, ◌≤◌, ◌+◌, None, IfSome, length};
 
 use libc::close;
@@ -7,17 +7,17 @@ use libc::net::{_SS_SIZE, AF_UNIX, MSG_NOSIGNAL, SOCK_CLOEXEC, SOCK_DGRAM, sendt
 use std::env;
 use std::rt::Env;
 
-/// The most bytes that the name of a Unix socket has.
+/// The most bytes of the name of a Unix socket.
 const LONGEST_NAME: usize = 107;
 
-/// A socket for datagrams, which no process inherits that is started from this one.
+/// A socket for datagrams, which no process that is started from this one inherits.
 const DATAGRAMS: i32 = SOCK_DGRAM | SOCK_CLOEXEC;
 
 /// What is said to the manager.
 const READY: &[u8] = b"READY=1";
 
-/// Says to the socket that `NOTIFY_SOCKET` names, if there is one, that this process is ready. Nothing
-/// comes of a socket that takes nothing: the manager then waits, and says so.
+/// Reports to the socket that `NOTIFY_SOCKET` names, if there is one, that this process is ready. A socket
+/// that takes nothing is passed over: the manager then waits, and says so.
 pub fn tell_ready<R: Env + AllocGlobal>(rt: &R) {
     let mut address = [0; _SS_SIZE];
     if let Ok(name) = env::var(rt, "NOTIFY_SOCKET")
@@ -27,8 +27,9 @@ pub fn tell_ready<R: Env + AllocGlobal>(rt: &R) {
     }
 }
 
-/// Writes the address of a Unix socket over zeroes, and says how many of its bytes count: of a path, or of an
-/// abstract name, which begins with `@`. None, and nothing is written, if the name is neither, or too long.
+/// Writes the address of a Unix socket over zeroes, and returns how many of its bytes count. The name is a
+/// path, or an abstract name, which begins with `@`. If it is neither, or too long, the result is none, and
+/// nothing is written.
 fn write_address(name: &str, address: &mut [u8; _SS_SIZE]) -> Option<u32>
     ensures length { IfSome result (λ count. (count ≤ 109) × (count ≡ length name.now + 2)) }
     ensures nothing { result ≡ None → address.new ≡ address.old }
@@ -46,7 +47,7 @@ fn write_address(name: &str, address: &mut [u8; _SS_SIZE]) -> Option<u32>
     Some(bytes.len() as u32 + 2)
 }
 
-/// Sends a datagram to the Unix socket of an address, which waits for nobody's answer.
+/// Sends a datagram to the Unix socket of an address, and waits for no answer.
 fn send(address: &[u8; _SS_SIZE], length: u32, bytes: &[u8])
     requires { length ≤ 109 }
 {

@@ -3,7 +3,7 @@ ghost use Rattle.std.specs.Prelude.{◌≡◌, ◌↔◌, ◌⊎◌, IsTrue};
 ghost use Rattle.std.specs.declared.io.ErrorKind.TheVariants.{WouldBlock, Interrupted};
 ghost use Rattle.node_connections.specs.socket_links.Counts.{Counts};
 
-use crate::seats::Seat;
+use crate::seats::HeldSeat;
 use libc::net::{SO_SNDBUF, SOL_SOCKET, setsockopt};
 use mio::net::UnixStream;
 use node_connections::{Pipe, ReadAnswer, WriteAnswer};
@@ -18,8 +18,9 @@ pub struct UnixPipe {
     later: u64,
     closed: u64,
     failed: u64,
-    /// A client's connection has one, which nobody reads: it shows that the connection is not closed.
-    _seat: Option<Seat>,
+    /// The seat that a client's connection has. Nobody reads it: it shows that the connection is not
+    /// closed.
+    _seat: Option<HeldSeat>,
 }
 
 impl UnixPipe {
@@ -37,7 +38,7 @@ impl UnixPipe {
     }
 
     /// The same pipe, which holds a seat until it is closed.
-    pub(crate) fn with_seat(self, seat: Seat) -> UnixPipe
+    pub(crate) fn with_seat(self, seat: HeldSeat) -> UnixPipe
         ensures { (result.stream ≡ self.stream) × (result.later ≡ self.later)
             × (result.closed ≡ self.closed) × (result.failed ≡ self.failed) }
     {
@@ -90,7 +91,7 @@ impl Pipe for UnixPipe {
 }
 
 /// The same socket with the least send buffer that the system gives, so that few frames are under
-/// way in it: an unread one took 6 writes with it, and 278 without.
+/// way in it: an unread socket took 6 writes with it, and 278 without.
 ///
 /// # Errors
 /// If the system refuses it.
@@ -104,7 +105,8 @@ pub fn hold_few(stream: UnixStream) -> io::Result<UnixStream> {
     Ok(stream)
 }
 
-/// Whether the same call may succeed a moment later: a socket that is empty or full, and a signal.
+/// Whether the same call may succeed a moment later: the socket was empty or full, or a signal
+/// came.
 pub fn is_passing(kind: ErrorKind) -> bool
     ensures { IsTrue result ↔ ((kind ≡ WouldBlock) ⊎ (kind ≡ Interrupted)) }
 {

@@ -6,11 +6,12 @@ use crate::pipe::UnixPipe;
 use std::alloc::{AllocError, Global};
 use std::rc::Rc;
 
-/// So many clients may be connected. The crate `node_connections` closes a further one as soon as it has come.
+/// The most clients that may be connected. The crate `node_connections` closes a further one as soon as it has
+/// come.
 const PLACES: usize = 128;
 
 /// What the connection of a client holds until it is closed.
-pub(crate) type Seat = Rc<()>;
+pub(crate) type HeldSeat = Rc<()>;
 
 /// What is seen of the clients that come to a node.
 #[derive(Clone, Copy)]
@@ -25,7 +26,7 @@ pub struct ClientSight {
 #[derive(Drop)]
 pub(crate) struct Seats {
     /// Each connection of a client holds a clone.
-    shared: Seat,
+    shared: HeldSeat,
     /// How many clients were closed at once since the last look.
     closed: u64,
 }
@@ -46,7 +47,7 @@ impl Seats {
         Rc::strong_count(&self.shared) - 1
     }
 
-    /// A client comes when so many are connected.
+    /// Notes a client that comes when this many are connected.
     fn note_comer(&mut self, connected: usize)
         ensures { self.new ≡ record self.old { closed = closed_after connected self.old.closed } }
     {

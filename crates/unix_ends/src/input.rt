@@ -10,19 +10,19 @@ use std::io::{ErrorKind, Input, Read};
 /// The descriptor of standard input.
 const STANDARD_INPUT: i32 = 0;
 
-/// What standard input has.
+/// The state of standard input.
 #[derive(Clone, Copy)]
 pub enum InputSight {
     /// It is open.
     Open,
     /// It is at its end.
     Ended,
-    /// It cannot be read, as a terminal by a process in the background.
+    /// It cannot be read, for instance a terminal by a process in the background.
     Unreadable,
 }
 
-/// Has a poll report, under this token, when standard input can be read or is at its end; again each
-/// time that it is called.
+/// Makes a poll report, under this token, when standard input can be read or is at its end. Each
+/// call makes it report again.
 ///
 /// # Errors
 /// If standard input is closed, or is a file or `/dev/null`, for which no poll waits.
@@ -35,16 +35,16 @@ pub fn watch_input(registry: &Registry, token: Token, is_first: bool) -> io::Res
     }
 }
 
-/// As many bytes of standard input are read at a time.
+/// The most bytes of standard input that are read at a time.
 const PIECE: usize = 512;
 
-/// Reads what standard input has now, which a poll has reported, and says what it has.
+/// Reads standard input, which a poll has reported, and returns its state.
 pub fn read_input<R: Input>(rt: &R) -> InputSight {
     let mut buffer = [0; PIECE];
     input_sight(&rt.reader().read(&mut buffer))
 }
 
-/// What standard input has, by what a read of it answered.
+/// The state of standard input, by what a read of it returned.
 fn input_sight(answer: &io::Result<usize>) -> InputSight
     ensures { result ≡ input_sight answer.now }
 {

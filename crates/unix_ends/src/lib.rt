@@ -1,4 +1,4 @@
-//! At what a process waits: its listening sockets, and the end of its standard input.
+//! What a process waits for: its listening sockets, and the end of its standard input.
 //!
 //! ```
 //! watch_input(poll.registry(), token, true)?;          // the poll reports it from now on

@@ -1,13 +1,13 @@
 //! The sockets of a node.
 use mio::net::UnixListener;
 
-/// The sockets of a node, which listen.
+/// The listening sockets of a node.
 #[derive(Drop)]
 pub struct Listeners {
     /// For neighbours.
     pub links: UnixListener,
     /// For clients.
     pub clients: UnixListener,
-    /// For whoever looks.
+    /// For lookers.
     pub looks: UnixListener,
 }

@@ -8,7 +8,7 @@ use Rattle.node_log.specs.declared.event.Level.TheVariants.{Notice}
 use Rattle.process_parts.specs.declared.rights.Rights.TheVariants.{Usual, GroupLocks}
 use Rattle.up_process.specs.declared.left.LastLine.TheVariants.{Left, Gone}
 use Rattle.up_process.specs.Children.{rights_options, log_options, record_options, child_options, child_words, end_of}
-use Rattle.up_process.specs.Extents.{IsOfNetwork}
+use Rattle.up_process.specs.Sizes.{IsOfNetwork}
 use Rattle.up_process.specs.Texts.{good_end, last_end, last_line}
 use Rattle.topology.proofs.Rows.{two, two-accepted}
 
@@ -70,8 +70,8 @@ module _ (s : ExitStatus) where
   ended_not-stopped bits = rw bits refl
 
 -- a network of two nodes; none has one, and no link holds so many frames
-extent-two : IsOfNetwork (record { nodes = 2; capacity = 1 })
-extent-two = (two, two-accepted, refl, refl)
+size-two : IsOfNetwork (record { nodes = 2; capacity = 1 })
+size-two = (two, two-accepted, refl, refl)
 
 extent_not-one : IsOfNetwork (record { nodes = 1; capacity = 1 }) → ⊥
 extent_not-one (net, accepted, nodes, capacity) = let least = accepted.limits.two in let few : 1 ≡ net.nodes = nodes in omega (arith, least, few)

@@ -13,7 +13,7 @@ use Rattle.process_parts.specs.node_texts.declared.lines.End.{End}
 use Rattle.process_parts.specs.node_texts.declared.lines.End.TheVariants.{Status, Signal, Unknown}
 
 -- the options that make this program a node in this manner: a child that names itself, ends with
--- its input, and has late turns after this many microseconds
+-- its input, and whose turns are late after this many microseconds
 abbrev pub child_options : Manner → ℕ → List (List ℕ)
 child_options manner turn =
     codes "node" ∷ codes "--child"
@@ -31,7 +31,7 @@ abbrev pub log_options : Option Level → List (List ℕ)
 log_options None = []
 log_options (Some level) = codes "--log" ∷ decimal (priority_of level) ∷ []
 
--- the options for its record, in two files of at most so many bytes each
+-- the options for its record, in two files of at most this many bytes each
 abbrev pub record_options : Option RecordSize → List (List ℕ)
 record_options None = []
 record_options (Some size) = codes "--record" ∷ codes "--record-size" ∷ decimal size.bytes ∷ []
@@ -43,9 +43,9 @@ child_words manner turn rights log size file id dir =
     ++ (rights_options rights
     ++ (log_options log ++ (record_options size ++ codes "--" ∷ file ∷ decimal id ∷ dir ∷ [])))
 
--- how a process ended, by POSIX's wait status: low seven bits of 0 mean that it ended by itself,
--- and the next byte is its status; else they are the signal that ended it; 127 means that it has
--- not ended
+-- how a process ended, by POSIX's wait status: if its low seven bits are 0, the process ended by
+-- itself, and the next byte is its status; if they are 127, it has not ended; else they are the
+-- signal that ended it
 abbrev pub end_of : ExitStatus → End
 end_of s =
     if status_bits s % 128 == 0 then Status (status_bits s / 256 % 256)

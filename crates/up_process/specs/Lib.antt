@@ -1,3 +1,3 @@
 pub mod Children
-pub mod Extents
+pub mod Sizes
 pub mod Texts

@@ -12,7 +12,7 @@ last_end (Signal signal) = codes "was ended by signal " ++ decimal signal
 last_end Unknown = codes "ended"
 last_end Unstarted = codes "cannot be started"
 
--- how a node that was asked to end did end; after a good end the line just says that it has ended
+-- how a node that was asked to end ended; after a good end the line says only that it has ended
 abbrev pub good_end : End → List ℕ
 good_end (Status status) = if status == 0 then codes "has ended" else last_end (Status status)
 good_end end = last_end end

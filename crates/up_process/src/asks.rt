@@ -13,10 +13,10 @@ use std::rt::{Clock, Files};
 use std::time::Duration;
 use std::{io, thread};
 
-/// How long one look at the processes takes at most, in milliseconds.
+/// The longest time that one look at the processes takes, in milliseconds.
 const LOOK: u64 = 50;
 
-/// How long one look takes while the processes are to end, in milliseconds.
+/// How long one look takes while the processes end, in milliseconds.
 const LOOK_AT_END: u64 = 10;
 
 /// Standard input in a poll.
@@ -136,7 +136,8 @@ impl<P: OpenProcess + Drop> Asks<P> {
     }
 }
 
-/// Whether this poll waits for standard input from now on. `is_first` is whether it did not before.
+/// Whether this poll waits for standard input from now on. `is_first` says whether it did not do so
+/// before.
 fn can_watch(poll: &Poll, is_first: bool) -> bool {
     watch_input(poll.registry(), INPUT, is_first).is_ok()
 }
@@ -166,7 +167,7 @@ fn end_process<P: OpenProcess + Drop>(child: &mut Child<P>) {
     let _ = child.wait();
 }
 
-/// Starts a process that waits, and holds no signal back, if that can be done.
+/// Starts a process that waits and holds no signal back, if possible.
 fn begin_sleeper<R: Processes + AllocGlobal>(rt: &R, beside: &mut Option<Child<R::Started>>) {
     *beside = sleeper(rt).ok();
 }
@@ -179,7 +180,7 @@ fn sleeper<R: Processes + AllocGlobal>(rt: &R) -> io::Result<Child<R::Started>> 
     child
 }
 
-/// Starts the command that waits, for so many seconds.
+/// Starts the command that waits, for `SECONDS` seconds.
 fn spawn_sleeper<R: Processes>(rt: &R, command: &mut Command) -> io::Result<Child<R::Started>> {
     command.arg(SECONDS)?;
     command.stdin(Stdio::null()).stdout(Stdio::null());

@@ -5,7 +5,7 @@ ghost use Rattle.up_process.specs.Texts.{last_line, last_end};
 use process_parts::End;
 use std::fmt;
 
-/// The line which says how a node ended that is not started again.
+/// The line which says how a node that is not started again ended.
 #[derive(Clone, Copy)]
 pub enum LastLine {
     /// The node failed at its start for the third time, and is left alone.

@@ -7,8 +7,8 @@
 //! ```
 //!
 //! `node_keeping` decides what it does with a node that ended. Contracts know nothing of the system's
-//! answers, so the functions that call it promise little: in which order a start goes, which fault ends
-//! it, and which words a child is given.
+//! answers, so the functions that call the system promise little: the order of a start, the fault that
+//! ends it, and the words that a child is given.
 //!
 //! The trap: however it ends, its nodes end after it, by the end of their input.
 #![tactic(auto)]

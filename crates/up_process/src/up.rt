@@ -12,7 +12,7 @@ ghost use Rattle.process_parts.specs.node_keeping.declared.keeper.KeeperDeed.The
 ghost use Rattle.process_parts.specs.node_texts.Thousandths.{millis_text};
 ghost use Rattle.up_process.specs.Children.{child_options, rights_options, log_options, record_options};
 ghost use Rattle.up_process.specs.Children.{child_words, end_of};
-ghost use Rattle.up_process.specs.Extents.{IsOfNetwork};
+ghost use Rattle.up_process.specs.Sizes.{IsOfNetwork};
 ghost use Rattle.topology.specs.Network.{IsAcceptedNetwork};
 ghost use Rattle.process_parts.specs.node_texts.Names.{longest_socket_name};
 ghost use Rattle.process_parts.specs.Start.{may_end};
@@ -42,7 +42,7 @@ use std::rt::{Clock, Env, Files};
 use std::{env, io};
 use topology::Net;
 
-/// A program that starts another one with signals held back.
+/// A program that starts another program with signals held back.
 const ENV: &str = "/usr/bin/env";
 
 /// Its option for that, for the signals that a terminal or a service manager sends to all
@@ -144,7 +144,7 @@ fn add_words(alloc: Global, command: &mut Command, words: &UpWords<'_>, id: u16)
     add_place(alloc, command, words.file, id, words.dir)
 }
 
-/// Adds the options that make this program a child node in this manner, with late turns after
+/// Adds the options that make this program a child node in this manner, whose turns are late after
 /// `turn` microseconds.
 fn add_options(alloc: Global, command: &mut Command, manner: Manner, turn: u64) -> io::Result<()>
     ensures { OnOk result (command_args command.new
@@ -155,7 +155,7 @@ fn add_options(alloc: Global, command: &mut Command, manner: Manner, turn: u64) 
     add_turn(alloc, command, turn)
 }
 
-/// Adds whether the group may take the lock.
+/// Adds the option that lets the group take the lock, if it may.
 fn add_rights(command: &mut Command, rights: Rights) -> io::Result<()>
     ensures { OnOk result (command_args command.new
         ≡ command_args command.old ++ rights_options rights) }
@@ -177,7 +177,7 @@ fn add_log(alloc: Global, command: &mut Command, log: Option<Level>) -> io::Resu
     Ok(())
 }
 
-/// Adds the record that the node keeps.
+/// Adds the options for the record that the node keeps, if it keeps one.
 fn add_record(
     alloc: Global,
     command: &mut Command,
@@ -193,7 +193,7 @@ fn add_record(
     Ok(())
 }
 
-/// Adds how quiet or how fast the node is.
+/// Adds the options that say how quiet or how fast the node is.
 fn add_manner(alloc: Global, command: &mut Command, manner: Manner) -> io::Result<()>
     ensures { OnOk result (command_args command.new ≡ command_args command.old
         ++ codes "--hold" ∷ decimal manner.hold
@@ -203,7 +203,8 @@ fn add_manner(alloc: Global, command: &mut Command, manner: Manner) -> io::Resul
     add_option(alloc, command, "--repeat", manner.repeat)
 }
 
-/// Adds when a turn is late: microseconds in, milliseconds out.
+/// Adds the option that says when a turn is late. `turn` is in microseconds, and the option in
+/// milliseconds.
 fn add_turn(alloc: Global, command: &mut Command, turn: u64) -> io::Result<()>
     ensures { OnOk result (command_args command.new ≡ command_args command.old
         ++ codes "--turn" ∷ millis_text turn ∷ []) }
@@ -223,7 +224,7 @@ fn add_option(alloc: Global, command: &mut Command, name: &str, number: u64) -> 
     add_two(command, name, number.as_str())
 }
 
-/// Adds the network, the node and the folder. After `--` no name is an option.
+/// Adds the network, the node and the folder. After `--` no name is read as an option.
 fn add_place(alloc: Global, command: &mut Command, file: &str, id: u16, dir: &str) -> io::Result<()>
     ensures { OnOk result (command_args command.new ≡ command_args command.old
         ++ codes "--" ∷ file.now ∷ decimal id ∷ dir.now ∷ []) }
@@ -274,7 +275,7 @@ impl<P: OpenProcess + Drop> Kept<P> {
         }
     }
 
-    /// Makes its process end, by its input.
+    /// Makes its process end, by closing its input.
     fn close_input(&mut self)
         ensures { (self.new.id ≡ self.old.id) × (self.new.keeper ≡ self.old.keeper) }
     {
@@ -298,7 +299,7 @@ impl<P: OpenProcess + Drop> Kept<P> {
 fn sight_of<P: OpenProcess + Drop>(child: &mut Child<P>) -> Seen {
     match child.try_wait() {
         Ok(Some(status)) => Seen::Ended(end_of(status)),
-        // Nothing is known of it, so it is asked again.
+        // Nothing is known of the process, so it is looked at again.
         Ok(None) | Err(_) => Seen::Nothing,
     }
 }
@@ -325,16 +326,16 @@ where
     R: Files<File = File> + Sockets + Clock + Input + Print + Eprint + Processes + AllocGlobal,
 {
     let mut stage = StartStage::Begun;
-    let extent = check_network(rt, file, dir, &mut stage)?;
+    let size = check_network(rt, file, dir, &mut stage)?;
     make_folder(rt, dir, program.rights(), &mut stage)?;
-    // Held until it ends.
+    // The place is held until `up` ends.
     let _place = hold_up_place(rt, dir, &mut stage)?;
-    run_in_place(rt, program, extent)
+    run_in_place(rt, program, size)
 }
 
 /// What `up` has to know of a network.
 #[derive(Clone, Copy)]
-struct Extent {
+struct NetworkSize {
     /// How many nodes it has.
     nodes: u16,
     /// How many frames each of its links holds.
@@ -357,46 +358,46 @@ fn hold_up_place<R: Files<File = File> + AllocGlobal>(
     hold_place(rt, lock.as_str(), stage).map_err(fault_of_up)
 }
 
-/// Reads the network. Refuses an invalid file and a folder whose name is too long.
+/// Reads the network. Fails if the file is invalid or the name of the folder is too long.
 ///
 /// # Errors
-/// Which of these it is; then nothing is made.
+/// Which of these it is, or that memory ran out; then nothing is made.
 fn check_network<R: Files + AllocGlobal>(
     rt: &R,
     file: &str,
     dir: &str,
     stage: &mut StartStage,
-) -> Result<Extent, NodeFault>
+) -> Result<NetworkSize, NodeFault>
     requires { stage.old ≡ Begun }
     ensures ok { IfOk result (λ _. stage.new ≡ Checked) }
-    // It is that of a network, and no socket of its nodes has too long a name.
+    // The size is that of a network, and no socket of its nodes has too long a name.
     ensures network { IfOk result IsOfNetwork }
     ensures names { IfOk result
-        (λ extent. length (longest_socket_name dir.now extent.nodes) ≤ 107) }
+        (λ size. length (longest_socket_name dir.now size.nodes) ≤ 107) }
     ensures err { IfErr result (λ fault. (may_end Begun fault ≡ true) × (stage.new ≡ Begun)) }
 {
-    let extent = match read_network(rt, file) {
-        Ok(net) => extent_of(&net),
+    let size = match read_network(rt, file) {
+        Ok(net) => size_of_network(&net),
         Err(fault) => return Err(NodeFault::Network(fault)),
     };
-    check_names(rt.alloc(), dir, extent.nodes)?;
+    check_names(rt.alloc(), dir, size.nodes)?;
     *stage = StartStage::Checked;
-    Ok(extent)
+    Ok(size)
 }
 
 /// What `up` has to know of this network.
-fn extent_of(net: &Net) -> Extent
+fn size_of_network(net: &Net) -> NetworkSize
     ensures same { (result.nodes ≡ net.now.nodes) × (result.capacity ≡ net.now.capacity) }
     ensures network { IsAcceptedNetwork net.now }
 {
-    Extent {
+    NetworkSize {
         nodes: net.nodes(),
         capacity: net.capacity(),
     }
 }
 
 /// Keeps all nodes of a network running in the folder whose place is held.
-fn run_in_place<R, C: NodeProgram>(rt: &R, program: &C, extent: Extent) -> Result<(), NodeFault>
+fn run_in_place<R, C: NodeProgram>(rt: &R, program: &C, size: NetworkSize) -> Result<(), NodeFault>
 where
     R: Files + Sockets + Clock + Input + Print + Eprint + Processes + AllocGlobal,
 {
@@ -404,8 +405,8 @@ where
         Ok(asks) => asks,
         Err(error) => return Err(fault_of(error.kind())),
     };
-    warn_of_capacity(rt, extent.capacity);
-    let ended = keep_all(rt, program, &mut asks, extent.nodes);
+    warn_of_capacity(rt, size.capacity);
+    let ended = keep_all(rt, program, &mut asks, size.nodes);
     asks.close();
     ended
 }
@@ -473,7 +474,8 @@ where
     course.is_ending()
 }
 
-/// Takes note, of each node, of what was seen of `up` itself, or of what a look at the node shows.
+/// For each node, takes note of what was seen of `up` itself or, if nothing was, of what a look at
+/// the node shows.
 fn note_of_all<R, C: NodeProgram>(
     rt: &R,
     program: &C,
@@ -488,7 +490,7 @@ where
     }
 }
 
-/// Takes note of what was seen of `up` itself; if nothing was, of what a look at the node shows.
+/// Takes note of what was seen of `up` itself or, if nothing was, of what a look at the node shows.
 fn note_of_one<R, C: NodeProgram>(
     rt: &R,
     program: &C,
@@ -498,7 +500,7 @@ fn note_of_one<R, C: NodeProgram>(
 where
     R: Print + Processes + AllocGlobal,
     ensures id { kept.new.id ≡ kept.old.id }
-    // What was seen of `up` itself comes to the keeper.
+    // What was seen of `up` itself reaches the keeper.
     ensures taken { (seen : Seen) → word ≡ Some seen
         → deed_at seen kept.old.keeper.failures kept.old.keeper.stage ≢ Start
         → kept.new.keeper.stage
@@ -511,7 +513,7 @@ where
     take_note(rt, program, kept, seen);
 }
 
-/// The fault of `up` if it fails to take its place in a folder as a node does.
+/// The fault of `up` if taking its place in a folder fails with this fault of a node.
 fn fault_of_up(fault: NodeFault) -> NodeFault
     ensures lock { fault ≡ Lock → result ≡ UpLock }
     ensures running { fault ≡ Running → result ≡ UpRunning }
@@ -523,7 +525,7 @@ fn fault_of_up(fault: NodeFault) -> NodeFault
     }
 }
 
-/// Does what must be done with a node of which this was seen.
+/// Does what must be done with a node once this was seen of it.
 fn take_note<R, C: NodeProgram>(rt: &R, program: &C, kept: &mut Kept<R::Started>, seen: Seen)
 where
     R: Print + Processes + AllocGlobal,
@@ -567,8 +569,8 @@ where
     }
 }
 
-/// Starts the process of a node. However this process ends, the node's input ends then, and so the
-/// node.
+/// Starts the process of a node. However this process ends, the node's input then ends, and so does
+/// the node.
 fn start<R, C: NodeProgram>(rt: &R, program: &C, id: u16) -> io::Result<Child<R::Started>>
 where
     R: Processes + AllocGlobal,

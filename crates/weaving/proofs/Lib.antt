@@ -5,6 +5,7 @@ pub mod OneWoven
 mod Rows
 mod RowsParts
 pub mod RowsRun
+pub mod RowsBoth
 pub mod Steps
 pub mod Weaving
 pub mod FirstOf

@@ -119,7 +119,7 @@ nobody-else zero few = absurd (omega arith)
 nobody-else (suc zero) few = absurd (omega arith)
 nobody-else (suc (suc v)) few = refl
 
-untouched : (sent taken : List Stamped) (left : List Item) → sent ≡ [] → taken ≡ [] → left ≡ [] → IsLinkMatched 1 [] sent taken left
+pub untouched : (sent taken : List Stamped) (left : List Item) → sent ≡ [] → taken ≡ [] → left ≡ [] → IsLinkMatched 1 [] sent taken left
 untouched sent taken left s t l = rw (s, t, l) (record { kept = refl; taken_later = tt; sent_later = tt })
 
 matched-each : (u v : ℕ) → IsLinkMatched 1 (start.link u v) (sent_to v (account u)) (taken_from u (account v)) ((run start events).link u v)

@@ -1,5 +1,5 @@
 -- An account: what one node did on its own thread, in order, with the stamps and the items that it
--- sent and took. `node_core` says of its deeds, as of any node's, what the node does.
+-- sent and took. `node_core` says what the node does by its deeds, as it does for any node.
 use Rattle.std.specs.Prelude.{ℕ, ◌==◌, if◌then◌else◌, IsTrue, List, [], ◌∷◌}
 use Rattle.topology.specs.Network.{Network, are_joined}
 use Rattle.link_model.specs.declared.item.Item.{Item}

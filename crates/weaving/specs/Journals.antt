@@ -1,4 +1,4 @@
--- Journals in a row, and what is unread of them.
+-- A list of journals, and what is unread of them.
 use Rattle.std.specs.Prelude.{◌≡◌, ◌+◌, ℕ, ◌<◌, Option, Some, None, if◌then◌else◌, nat_le}
 use Rattle.std.specs.Prelude.{List, [], ◌∷◌, map, drop, length, slice_index_or}
 use Rattle.weaving.specs.declared.journal.JournalEntry.{JournalEntry}
@@ -24,7 +24,7 @@ unread [] read = []
 unread (j ∷ js) [] = j ∷ js
 unread (j ∷ js) (k ∷ ks) = drop k j ∷ unread js ks
 
--- the earlier of two entries by stamp; with one stamp, the first
+-- the earlier of two entries by stamp; if the stamps are equal, the first
 abbrev pub earlier : Option (ℕ × JournalEntry) → ℕ → JournalEntry → Option (ℕ × JournalEntry)
 earlier None n e = Some (n, e)
 earlier (Some first) n e = if nat_le first.1.stamp e.stamp then Some first else Some (n, e)

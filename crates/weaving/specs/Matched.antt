@@ -1,4 +1,4 @@
--- Journals that match: they say of each link what a link of that capacity can do.
+-- Journals that match: they say about each link what a link of that capacity can do.
 use Rattle.std.specs.Prelude.{◌≡◌, ℕ, ◌-◌, ◌<◌, ◌≤◌, List, [], ◌∷◌, ◌++◌, map, drop, length}
 use Rattle.link_model.specs.declared.item.Item.{Item}
 use Rattle.run_model.specs.World.{World}
@@ -6,7 +6,8 @@ use Rattle.weaving.specs.declared.journal.JournalEntry.{JournalEntry}
 use Rattle.weaving.specs.declared.journal.Stamped.{Stamped}
 use Rattle.weaving.specs.Account.{Note, entry_of, sent_to, taken_from, Leads}
 
--- each of the first list is above the one at its place in the second, which is there
+-- each number of the first list is above the one at its place in the second list, which has one
+-- there
 abbrev pub AreAbove : List ℕ → List ℕ → Type 0
 AreAbove [] below = Unit {0}
 AreAbove (x ∷ xs) [] = ⊥

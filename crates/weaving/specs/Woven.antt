@@ -9,7 +9,7 @@ abbrev pub AreRising : List JournalEntry → Type 0
 AreRising [] = Unit {0}
 AreRising (e ∷ es) = AllByRecursion (λ later. e.stamp < later.stamp) es × AreRising es
 
--- an entry, and the node in whose journal it stands
+-- an entry, and the node in whose journal it is
 pub record Placed : Type 0 where
   pub node : ℕ
   pub entry : JournalEntry
@@ -25,13 +25,13 @@ abbrev pub AreOrdered : List Placed → Type 0
 AreOrdered [] = Unit {0}
 AreOrdered (p ∷ ps) = AllByRecursion (IsNoLater p) ps × AreOrdered ps
 
--- those of one node
+-- the entries of one node
 abbrev pub entries_of : ℕ → List Placed → List JournalEntry
 entries_of v [] = []
 entries_of v (p ∷ ps) = if p.node == v then p.entry ∷ entries_of v ps else entries_of v ps
 
 -- A list of events is woven from some journals if each node's entries in it are its journal, in
--- order, and all stand by stamp, then by node.
+-- order, and all are ordered by stamp, then by node.
 pub record IsWoven (journal : ℕ → List JournalEntry) (events : List Event) : Type 0 where
   pub placed : List Placed
   pub are_events : map (λ p. p.entry.event) placed ≡ events

@@ -12,7 +12,7 @@ use std::alloc::Allocator;
 /// The most journals that can be woven.
 const MOST: usize = 64;
 
-/// The earlier of two entries by stamp; with one stamp, the first.
+/// The earlier of two entries by stamp; if the stamps are equal, the first.
 fn earlier(
     first: Option<(usize, JournalEntry)>,
     node: usize,
@@ -56,7 +56,7 @@ fn first_unread<A: Allocator>(
     first
 }
 
-/// Nothing is read of any journal.
+/// No entry of any journal has been read.
 fn nothing_read() -> [usize; MOST]
     ensures len { length result ≡ 64 }
     ensures zero { (i : ℕ) → slice_index result i ≡ 0 }

@@ -3,8 +3,8 @@
 //! another program.
 //!
 //! It has only tests: of `node_state_file`, `damage_tool` and `experiments`. They have a crate of
-//! their own, since the tests of a crate prove all of that crate once more. The rows of single
-//! layers are in `worked_rows`, those of whole networks in `worked_runs`, and those of damage that a
+//! their own, since testing a crate proves all of that crate once more. The rows of single layers
+//! are in `worked_rows`, those of whole networks in `worked_runs`, and those of damage that a
 //! command does or meets in `worked_scripts`.
 #![tactic(auto)]
 

@@ -1,4 +1,4 @@
-//! The tests, by what they are of, and what they share.
+//! The tests, by subject, and what they share.
 mod calls;
 mod changed_bytes;
 mod heaps;

@@ -3,7 +3,7 @@
 //! expected value was computed by hand.
 //!
 //! It has only tests, of `flight_records`, `record_pages` and `record_order`. They have a crate of their own,
-//! since the tests of a crate prove all of that crate once more.
+//! since testing a crate proves all of that crate once more.
 #![tactic(auto)]
 
 #[cfg(test)]

@@ -1,4 +1,4 @@
-//! The tests, by what they are of, and what they share.
+//! The tests, by subject, and what they share.
 mod bfs_tree_rows;
 mod data_link_rows;
 mod euler_ring_rows;

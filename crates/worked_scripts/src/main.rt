@@ -1,5 +1,5 @@
 //! Tests of `tokentree` as its users run it: scripts of command lines and of running nodes, with what each command
-//! prints and how it ends. They stand in `data`; `run.sh` there says what a script looks like.
+//! prints and how it ends. They are in `data`; `run.sh` there says what a script looks like.
 //!
 //! ```text
 //! worked_scripts --scripts                  runs all scripts, and prints how each ended
@@ -9,7 +9,7 @@
 //! worked_scripts WORD..                     does what `tokentree` does with the words: a script calls it `tokentree`
 //! ```
 //!
-//! The status of the first three is 0 if all could be run, however that ended, and else 1.
+//! The status of the first three is 0 if all scripts could be run, however they ended, and else 1.
 #![tactic(auto)]
 
 use command_line::{begin, run_words};

@@ -74,7 +74,7 @@ events_of bytes = said_events (text_lines bytes)
 abbrev pub refusals_of : World → List TextLine → List ℕ
 refusals_of start lines = refusal_lines start 1 lines
 
--- the simulated text of a text whose events hold this number of sweeps: its refusal lines, then
+-- the simulated text of a text whose events contain this number of sweeps: its refusal lines, then
 -- the world that it leads to
 abbrev pub simulated_text : World → List ℕ → ℕ → List ℕ
 simulated_text start bytes sweeps = refusals_of start (text_lines bytes) ++ state_text (run start (events_of bytes)) (counted_up_to sweeps)

@@ -30,7 +30,7 @@ link_lines w = flat_map (links_from w) (range_with_len 0 w.net.nodes)
 abbrev pub counts_line : World → List ℕ
 counts_line w = codes "privileged " ++ decimal (privileged_count w) ++ codes " lending " ++ decimal (lending_count w) ++ codes "\n"
 
--- `sweeps A of R` and a newline: R is how many sweeps the network needs from any state
+-- `sweeps A of R` and a newline: R is the network's bound, after which it serves from any state
 abbrev pub sweeps_line : World → ℕ → List ℕ
 sweeps_line w sweeps = codes "sweeps " ++ decimal sweeps ++ codes " of " ++ decimal (bound_of w.net) ++ codes "\n"
 

@@ -24,8 +24,8 @@ pub record SimulationView : Type 0 where
   pub lines : ℕ
   pub refused : ℕ
 
--- what one judge has seen, the other has seen too, and then the event of the line, if it spells
--- one
+-- what the old judge has seen, the new one has seen too, and then the event of the line, if it
+-- spells one
 abbrev pub HasSeenLine : JudgeView → TextLine → JudgeView → Type 0
 HasSeenLine old line new = (start : World) (es : List Event) → HasSeen old start es → HasSeen new start (es ++ said_events (line ∷ []))
 
@@ -69,7 +69,7 @@ abbrev pub TakesNext : {E : Type 0} → SimulationView → Option (List ℕ) →
 TakesNext old taken piece result new taken_now =
     (start : World) (bytes : List ℕ) (before : Option (List ℕ)) → IsUnderWay start bytes before taken old → GoesOn result start (bytes ++ piece) before taken_now new
 
--- all bytes were read and taken, or a fault ended it
+-- all bytes were read and taken, or a fault ended the reading
 abbrev pub Reads : Result (Unit {0}) SimFault → World → List ℕ → Option (List ℕ) → Option (List ℕ) → Option (List ℕ) → SimulationView → Type 0
 Reads (Ok _) start bytes rest before now s = (rest ≡ Some []) × (length bytes ≤ longest_text) × IsUnderWay start bytes before now s
 Reads (Err Memory) start bytes rest before now s = ⊥
@@ -92,8 +92,8 @@ abbrev pub EndsThere : {E : Type 0} → SimulationView → Option (List ℕ) →
 EndsThere old taken result taken_now =
     (start : World) (bytes : List ℕ) (before : Option (List ℕ)) → IsUnderWay start bytes before taken old → Finishes result start bytes before taken_now
 
--- whatever bytes have been taken, if the text of the world was written it is the one that their
--- events lead to
+-- whatever bytes have been taken: if the text of the world was written, this is the world that
+-- their events lead to
 abbrev pub LeadsThere : {T E : Type 0} → SimulationView → Option (List ℕ) → Result T E → SimulationView → Type 0
 LeadsThere old taken result new =
     (start : World) (bytes : List ℕ) (before : Option (List ℕ)) → IsUnderWay start bytes before taken old

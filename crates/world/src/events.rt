@@ -1,3 +1,3 @@
-//! The events text, exported again for users of just this crate.
+//! The events text, re-exported for users of just this crate.
 
 pub use events_text::{EventReader, PieceTaken, TextLine, laws, parse_line};

@@ -13,8 +13,8 @@
 //! - `sharp`, the same after 16(n - 1) + 4e + 15 sweeps, e being the greatest distance of a node:
 //!   links are stable after 6 sweeps, and the tree is reached after 4(e + 2) more.
 //! - `service`: from a legitimate world each node is privileged at some moment of any 16(n - 1)
-//!   sweeps, and a ticket that waits after i others, and does not leave while it waits, is lent
-//!   the lock within 8(n - 1)(i + 2).
+//!   sweeps, and a ticket that waits after i others, and does not leave while it waits, is lent the
+//!   lock within 8(n - 1)(i + 2) sweeps.
 //! - `closure`, closure: over every list of events without damage a legitimate world stays
 //!   legitimate, and every legitimate world serves.
 //!

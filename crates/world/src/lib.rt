@@ -11,26 +11,27 @@
 //!
 //! let net = Net::make(alloc, 3, 0, 1, 0, &[(0, 1), (1, 2)])?;
 //! let mut world = World::new(alloc, &net)?;
-//! world.step(&Event::Tick { node: 0 })?;      // refused, as NoNode is, it changes nothing
+//! world.step(&Event::Tick { node: 0 })?;      // an event that is refused changes nothing
 //! ```
 //!
-//! The trap: a send on a full link is no refusal; the frame is lost, and the step is `Ok`.
+//! The trap: a send on a full link is not refused; the frame is lost, and the step is `Ok`.
 //!
 //! [`laws`] has what is proved for every world and every list of events, for proofs about
 //! programs: convergence from any state, and closure.
 //!
 //! [`report::judge`] lets a list of events happen, counts its sweeps and refusals, and says which
-//! nodes were privileged. If there are as many sweeps since the last damage as `Net::bound` says,
-//! the world that it returns serves, whatever state it began in:
+//! nodes were privileged. If there are at least as many sweeps since the last damage as
+//! `Net::bound` says, the returned world serves, whatever state the run began in:
 //!
 //! ```
 //! let report = report::judge(world, &events);      // report.world, .sweeps, .refused, .visited
 //! ```
 //!
-//! A [`Judge`] does the same event by event, and shows the [`Configuration`], nodes and links as
-//! they are now. Judging takes no memory, since its room is the world's.
+//! A [`Judge`] does the same event by event, and shows the [`Configuration`], the nodes and links
+//! as they are now. Judging takes no memory, since its room is the world's.
 //!
-//! To run the nodes by other means, on threads say, take a world apart and put it together again:
+//! To run the nodes by other means, on threads for example, take a world apart and put it together
+//! again:
 //!
 //! ```
 //! let Parts { nodes, links, room } = world.into_parts();      // links.net() is the network
@@ -44,7 +45,7 @@
 //! memory; a program implements the two traits with files:
 //!
 //! ```
-//! let Summary { refused, sweeps } = simulate(alloc, &net, &mut source, &mut sink)?;
+//! let Summary { refused, sweeps, .. } = simulate(alloc, &net, &mut source, &mut sink)?;
 //! ```
 #![tactic(auto)]
 

@@ -51,7 +51,7 @@ pub struct Summary {
     pub lending: usize,
 }
 
-/// What a simulation gives.
+/// What a simulation returns.
 #[derive(Drop)]
 pub struct Simulated<A: Allocator + Copy = Global> {
     /// What it has counted.
@@ -133,7 +133,7 @@ pub fn simulate<A: Allocator + Copy, N: Allocator + Copy, R: Source, W: Sink>(
     // Failures are counted, and no count falls.
     ensures counts { (R.failures source.old ≤ R.failures source.new)
         × (W.failures sink.old ≤ W.failures sink.new) }
-    // A fault of the source or the sink comes only if that one failed.
+    // The fault `Read` is returned only if the source failed, and `Write` only if the sink failed.
     ensures cause { HasCause result (R.failures source.old) (R.failures source.new)
         (W.failures sink.old) (W.failures sink.new) }
 {
@@ -143,7 +143,7 @@ pub fn simulate<A: Allocator + Copy, N: Allocator + Copy, R: Source, W: Sink>(
     }
 }
 
-/// The same as [`simulate`], and the world that the events led to.
+/// Does the same as [`simulate`], and also returns the world that the events led to.
 ///
 /// # Errors
 /// Those of [`simulate`].

@@ -205,7 +205,7 @@ impl<A: Allocator + Copy> Configuration<A> {
         Ok(Happened::Damaged)
     }
 
-    /// A transient fault writes one part of the world, or changes one edge.
+    /// Does what a transient fault does: writes one part of the world, or changes one edge.
     #[inline(never)]
     pub(super) fn damage(&mut self, harm: &Harm) -> Result<Happened, EventFault>
         ensures { Answers self.old (Damage harm.now) self.new result }

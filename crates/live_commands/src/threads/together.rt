@@ -34,7 +34,7 @@ pub struct Together<'a, R> {
     nodes: u16,
     /// How often nodes came to a meeting, over all meetings.
     arrivals: AtomicU64,
-    /// Whether a node waited in vain; since then no node waits.
+    /// Whether a node has given up waiting; since then no node waits.
     gave_up: AtomicBool,
 }
 
@@ -51,12 +51,13 @@ impl<'a, R: Clock> Together<'a, R> {
         }
     }
 
-    /// Whether nodes came to meetings so often, or one waited in vain.
+    /// Whether nodes came to meetings this often, or one has given up waiting.
     fn have_come(&self, often: u64) -> bool {
         self.arrivals.load(Ordering::SeqCst) >= often || self.gave_up.load(Ordering::SeqCst)
     }
 
-    /// Waits until nodes have come to meetings so often.
+    /// Waits until nodes have come to meetings this often, or one has given up waiting. After
+    /// `LOOKS` looks, this node gives up.
     fn wait_for_all(&self, often: u64) {
         for look in 0..LOOKS {
             if self.have_come(often) {

@@ -41,13 +41,13 @@ impl<D: Doors, S: Store + Drop, A: Allocator + Copy> NodeRun<D, S, A> {
         self.go_on_greeting(id);
     }
 
-    /// Makes a connection to a lower neighbour, if its port is loose. Unless one came, no port
-    /// changes.
+    /// Makes a connection to a lower neighbour, if its port is loose. Unless a connection came, no
+    /// port changes.
     fn call_on(&mut self, id: u16)
         requires node { id < self.old.net.nodes }
         requires neighbour { Contains (site_in self.old.node).neighbours id }
         ensures node { self.new.node ≡ self.old.node }
-        // Whatever the door answers, no link changes, and no port that is not loose.
+        // Whatever the door answers, no link changes, and nor does a port that is not loose.
         ensures links { AtBoth (λ old new. (new.link ≡ old.link) × (new.is_stuck ≡ old.is_stuck))
             (slice_get self.old.ports.items id) (slice_get self.new.ports.items id) }
         ensures linked { is_linked (slice_get self.old.ports.items id) ≡ true

@@ -44,7 +44,7 @@ impl<D: Doors, S: Store + Drop, A: Allocator + Copy> NodeRun<D, S, A> {
         Some(self.store.save(&bytes[..count]))
     }
 
-    /// Takes up a network with other edges, if its nodes, root, capacity and lease are the same;
+    /// Changes to a network with other edges, if its nodes, root, capacity and lease are the same;
     /// else returns false and changes nothing. The connections of edges that are gone are closed;
     /// new edges have none yet.
     pub fn rewire(&mut self, net: &Net) -> bool
@@ -55,7 +55,7 @@ impl<D: Doors, S: Store + Drop, A: Allocator + Copy> NodeRun<D, S, A> {
         ensures node { IsTrue result → state_of self.new.node
             ≡ rewired (site_in self.old.node).ranges (site_in self.old.node).neighbours
             (neighbours_of net.now (site_in self.old.node).id) (state_of self.old.node) }
-        // The ports of those who are neighbours then stay, and all others have no connection.
+        // The ports to its neighbours in that network stay, and all others have no connection.
         ensures kept { IsTrue result
             → AreKept (neighbours_of net.now (site_in self.old.node).id)
             self.old.ports.items self.new.ports.items }
@@ -78,8 +78,8 @@ impl<D: Doors, S: Store + Drop, A: Allocator + Copy> NodeRun<D, S, A> {
         true
     }
 
-    /// What is seen of the link to a node; none if there is no such node in the network. A node that is
-    /// no neighbour has a link that is down.
+    /// What is seen of the link to a node; none if there is no such node in the network. The link
+    /// to a node that is no neighbour is down.
     pub fn link(&self, id: u16) -> Option<LinkSight>
         ensures sight { result ≡ link_at (slice_get self.now.ports.items id) }
         ensures strangers { ¬ Contains (site_in self.now.node).neighbours id
@@ -89,7 +89,7 @@ impl<D: Doors, S: Store + Drop, A: Allocator + Copy> NodeRun<D, S, A> {
     }
 }
 
-/// Closes the connections of those who are no neighbours of the node.
+/// Closes the connections with nodes that are no neighbours of this node.
 fn close_strangers<P: Pipe, A: Allocator + Copy>(ports: &mut Vec<NodePort<P>, A>, node: &Node<A>)
     requires { length ports.old.items ≤ 64 }
     ensures kept { AreKept (site_in node.now).neighbours ports.old.items ports.new.items }

@@ -8,7 +8,7 @@ use node_service::{Notes, service};
 use state_writing::Store;
 use std::alloc::Allocator;
 
-/// At most so many connections are accepted at each door in a turn.
+/// The most connections that are accepted at each door in a turn.
 const COMERS: usize = 64;
 
 impl<D: Doors, S: Store + Drop, A: Allocator + Copy> NodeRun<D, S, A> {
@@ -47,7 +47,7 @@ impl<D: Doors, S: Store + Drop, A: Allocator + Copy> NodeRun<D, S, A> {
         self.has_ticked = false;
     }
 
-    /// Lets neighbours in until none comes.
+    /// Lets neighbours in until none comes or the door fails, at most 64.
     fn accept_links(&mut self)
         ensures node { self.new.node ≡ self.old.node }
         // No port changes, whatever the door answers.
@@ -64,7 +64,7 @@ impl<D: Doors, S: Store + Drop, A: Allocator + Copy> NodeRun<D, S, A> {
         }
     }
 
-    /// Lets clients in until none comes.
+    /// Lets clients in until none comes or the door fails, at most 64.
     fn accept_clients(&mut self)
         ensures node { self.new.node ≡ self.old.node }
         // No port changes, whatever the door answers.
@@ -83,7 +83,7 @@ impl<D: Doors, S: Store + Drop, A: Allocator + Copy> NodeRun<D, S, A> {
         }
     }
 
-    /// Listens to all who have not said who they are.
+    /// Listens to all comers that have not named themselves yet.
     fn hear_hellos(&mut self)
         ensures node { self.new.node ≡ self.old.node }
         ensures wires { AreWired self.old.ports.items self.new.ports.items }
@@ -101,8 +101,8 @@ impl<D: Doors, S: Store + Drop, A: Allocator + Copy> NodeRun<D, S, A> {
         }
     }
 
-    /// A connection has said whose it is. If that is a higher neighbour, it is the port's from now on;
-    /// else it is closed.
+    /// Takes a connection that has said whose it is. If that is a higher neighbour, the connection
+    /// is its port's from now on; otherwise it is closed.
     fn welcome(&mut self, id: u16, pipe: D::P)
         ensures node { self.new.node ≡ self.old.node }
         ensures welcome { (site_in self.old.node).id < id

@@ -29,7 +29,8 @@ impl<D: Doors, S: Store + Drop, A: Allocator + Copy> NodeRun<D, S, A> {
         self.doors.wait(rest);
     }
 
-    /// How long it rests if nothing comes, in microseconds: not at all if the next turn must not wait.
+    /// How long the node rests if nothing comes, in microseconds: not at all if the next turn must
+    /// not wait.
     fn rest(&self, now: u64) -> u64
         ensures longest { result ≤ 2000 }
         ensures at_once { self.now.has_more ≡ true → result ≡ 0 }
@@ -42,8 +43,8 @@ impl<D: Doors, S: Store + Drop, A: Allocator + Copy> NodeRun<D, S, A> {
         self.pace.rest(&sights[..self.ports.len()], &outlook, now)
     }
 
-    /// Whether a turn is due: once in 2 milliseconds while a loan with a lease runs, and else always.
-    /// `now` is as for [`NodeRun::turn`].
+    /// Whether a turn is due: once in 2 milliseconds while a loan with a lease runs, and otherwise
+    /// always. `now` is as for [`NodeRun::turn`].
     pub fn is_turn_due(&self, now: u64) -> bool
         ensures { result ≡ may_tick (outlook_of self.now.node self.now.let_go) now
             self.now.pace.node }
@@ -64,7 +65,7 @@ impl<D: Doors, S: Store + Drop, A: Allocator + Copy> NodeRun<D, S, A> {
         self.pace.plan(&sights[..self.ports.len()], &outlook, now)
     }
 
-    /// Its pace remembers this from now on, as after damage. Nothing else changes.
+    /// Has the pace remember this from now on, as after damage. Nothing else changes.
     pub fn set_pace(&mut self, pace: TurnPace)
         ensures pace { self.new.pace ≡ pace }
         ensures rest { (self.new.node ≡ self.old.node) × (self.new.net ≡ self.old.net)

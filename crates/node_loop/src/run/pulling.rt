@@ -11,7 +11,7 @@ use node_service::Notes;
 use state_writing::Store;
 use std::alloc::Allocator;
 
-/// At most so many frames are taken at each port in a turn.
+/// The most frames that are taken at each port in a turn.
 const FRAMES: usize = 64;
 
 impl<D: Doors, S: Store + Drop, A: Allocator + Copy> NodeRun<D, S, A> {

@@ -37,7 +37,7 @@ impl<D: Doors, S: Store + Drop, A: Allocator + Copy> NodeRun<D, S, A> {
     pub(super) fn tick(&mut self, now: u64, notes: &mut Notes<A>) -> Ticked
         ensures node { DidAct (IsLeaveOfGone (is_connected self.new.clients)) result
             self.old.node self.new.node notes.old notes.new }
-        // The client whose loan it began or ended hears of it.
+        // The client whose loan the tick began or ended hears of it.
         ensures reported { IsReported result.act self.old.clients self.new.clients }
         ensures ports { (self.new.ports ≡ self.old.ports) × (self.new.let_go ≡ self.old.let_go) }
         ensures connected { AreConnected self.old.clients self.old.node
@@ -120,8 +120,8 @@ impl<D: Doors, S: Store + Drop, A: Allocator + Copy> NodeRun<D, S, A> {
     }
 }
 
-/// Writes what is left of the last line at a port, and then a frame, if it is offered. The pace notes a
-/// frame that is accepted. Returns whether it was.
+/// Writes what is left of the last line at a port, and then a frame, if it is offered. The pace
+/// notes a frame that is accepted. Returns whether the frame was accepted.
 fn speak_at<P: Pipe, A: Allocator + Copy>(
     ports: &mut Vec<NodePort<P>, A>,
     pace: &mut TurnPace,

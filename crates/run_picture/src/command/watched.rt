@@ -1,4 +1,4 @@
-//! How much of the events was read, shown on a terminal.
+//! Shows on a terminal how much of the events was read.
 ghost use Rattle.std.specs.Prelude.{◌≡◌, None, false, length};
 ghost use Rattle.byte_streams.specs.Streams.{Reads};
 ghost use Rattle.run_picture.specs.Shown.{is_due};
@@ -9,15 +9,15 @@ use std::time::{Clock, Instant};
 /// How many milliseconds a tenth of a second has.
 const MILLISECONDS_A_TENTH: u128 = 100;
 
-/// In how many tenths of a second nothing is shown at first.
+/// For how many tenths of a second nothing is shown at first.
 const QUIET_TENTHS: u64 = 20;
 
 /// How many bytes a megabyte has.
 const MEGABYTE: u64 = 1_000_000;
 
-/// A source that shows how much it has given, on one line of standard error that is written over again
-/// and again: at most once in each tenth of a second, and not in the first two seconds. At its end it
-/// takes the line away.
+/// A source that shows how much it has given, on one line of standard error that it overwrites: at
+/// most once in each tenth of a second, and not in the first two seconds. At its end it takes the
+/// line away.
 #[derive(Drop)]
 pub struct Watched<'a, R, S> {
     rt: &'a R,
@@ -31,7 +31,8 @@ pub struct Watched<'a, R, S> {
 }
 
 impl<'a, R: Clock + Eprint, S: Source> Watched<'a, R, S> {
-    /// A source that gives what the other gives from now on, and shows how much, if that is wanted.
+    /// A source that gives what the given source gives from now on, and shows how much, if `shows`
+    /// is set.
     pub fn start(rt: &'a R, source: S, shows: bool) -> Watched<'a, R, S>
         ensures source { result.source ≡ source }
         ensures quiet { shows ≡ false → result.started ≡ None }
@@ -46,7 +47,7 @@ impl<'a, R: Clock + Eprint, S: Source> Watched<'a, R, S> {
         }
     }
 
-    /// Takes the line away, if there is one, and answers the other source.
+    /// Takes the line away, if there is one, and returns the source given to [`Watched::start`].
     pub fn end(mut self) -> S
         ensures { result ≡ self.entry.source }
     {
@@ -79,7 +80,7 @@ impl<'a, R: Clock + Eprint, S: Source> Watched<'a, R, S> {
         }
     }
 
-    /// Which tenth of a second it is since the start; none if nothing is shown.
+    /// How many tenths of a second have passed since the start; none if nothing is shown.
     fn tenth(&self) -> Option<u64>
         ensures { self.now.started ≡ None → result ≡ None }
     {
@@ -109,7 +110,8 @@ impl<R: Clock + Eprint, S: Source> Source for Watched<'_, R, S> {
     }
 }
 
-/// Whether something is shown in this tenth of a second, after it was in that one.
+/// Whether something is shown in the given tenth of a second, if it was last shown in the tenth
+/// `shown`.
 fn is_due(shown: u64, tenth: u64) -> bool
     ensures { result ≡ is_due shown tenth }
 {

@@ -11,7 +11,7 @@ use super::words::numeral;
 use std::alloc::{AllocError, Global};
 use svg_drawing::{Anchor, Canvas, Colour, Point, Px, Stroke};
 
-/// The least distance of two numbers on the axis.
+/// The least distance between two numbers on the axis.
 const APART: u128 = 70;
 
 /// A number of the axis.
@@ -23,8 +23,8 @@ pub struct AxisNumber {
     pub event: u64,
 }
 
-/// Draws the ticks of the axis. The first moment is that after as many events, and a column shows
-/// as many moments.
+/// Draws the ticks of the axis. The first moment is the one after `first` events, and a column
+/// shows `moments` moments.
 pub fn draw_axis(
     canvas: &mut Canvas,
     page: Page,
@@ -93,7 +93,7 @@ fn axis_numbers(
     Ok(numbers)
 }
 
-/// The number of the moment after as many events.
+/// The number of the moment after `event` events.
 fn number_at(first: u64, moments: u64, event: u64) -> AxisNumber
     ensures { result ≡ number_at first moments event }
 {
@@ -104,8 +104,8 @@ fn number_at(first: u64, moments: u64, event: u64) -> AxisNumber
     }
 }
 
-/// The least of 1, 2, 5, 10, 20, 50 and so on whose ticks are far enough apart, if a column
-/// shows as many moments and is as wide.
+/// The least of 1, 2, 5, 10, 20, 50 and so on whose ticks are far enough apart, if a column shows
+/// `moments` moments and is `width` wide; 10^19 if no lower one is.
 fn round_step(moments: u64, width: Px) -> u64
     ensures { IsRoundStep moments width.0 result }
 {
@@ -119,7 +119,8 @@ fn round_step(moments: u64, width: Px) -> u64
     power
 }
 
-/// The first of a power of ten, twice, and five times it whose ticks are far enough apart.
+/// The first of a power of ten, its double and five times it whose ticks are far enough apart, if
+/// there is one.
 fn step_from(power: u64, moments: u64, width: Px) -> Option<u64>
     requires { power ≤ 10 ^ 18 }
     ensures { FirstFarApart moments width.0 power result }
@@ -135,7 +136,7 @@ fn step_from(power: u64, moments: u64, width: Px) -> Option<u64>
     }
 }
 
-/// Whether ticks that are as many events apart are far enough apart.
+/// Whether ticks that are `step` events apart are far enough apart.
 fn are_far_apart(step: u64, moments: u64, width: Px) -> bool
     ensures { IsTrue result ↔ AreFarApart moments width.0 step }
 {

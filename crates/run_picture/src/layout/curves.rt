@@ -1,4 +1,4 @@
-//! What stands below the lanes: how many nodes are privileged, and how many lend.
+//! The curves below the lanes: how many nodes are privileged, and how many lend.
 ghost use Rattle.std.specs.Prelude.{◌≡◌, ◌++◌, ◌<◌, ◌^◌, OnOk, IfOk, string_bytes};
 ghost use Rattle.std.specs.Prelude.{length, map};
 ghost use Rattle.run_picture.specs.Curves.{most_nodes, node_height, count_in, curve_steps};
@@ -79,7 +79,7 @@ fn steps_of(
     Ok(steps)
 }
 
-/// What a curve counts in the first column, if there is one.
+/// What a curve counts in the first column; 0 if there is none.
 fn first_count(curve: Curve, columns: &[Column]) -> usize
     ensures { result ≡ first_count (map (count_in curve) columns.now) }
 {
@@ -117,7 +117,7 @@ fn most_nodes(columns: &[Column]) -> usize
     most
 }
 
-/// How high a node is.
+/// The height of one node in the curves.
 fn node_height(most: usize) -> Px
     ensures { result.0 ≡ node_height most }
 {
@@ -125,7 +125,7 @@ fn node_height(most: usize) -> Px
     Px(height.min(24).max(1) as u32)
 }
 
-/// Draws the lines at no node, at 1 and at the most, with their numbers; and says which curve is
+/// Draws the lines at 0 nodes, at 1 and at the most, with their numbers; and says which curve is
 /// which.
 pub fn draw_levels(canvas: &mut Canvas, page: Page, columns: &[Column]) -> Result<(), AllocError>
     ensures { OnOk result (drawn canvas.new ≡ drawn canvas.old ++ levels_shown page columns.now) }

@@ -1,4 +1,4 @@
-//! The lanes: of each node its marks from left to right.
+//! The lanes: the marks of each node, from left to right.
 ghost use Rattle.std.specs.Prelude.{◌≡◌, ◌++◌, OnOk, IfOk, string_bytes};
 ghost use Rattle.std.specs.List.{flat_map};
 ghost use Rattle.std.specs.Option.{option_map};
@@ -15,7 +15,7 @@ use std::alloc::{AllocError, Global};
 use std::fmt::Write;
 use svg_drawing::{Anchor, Canvas, Colour, Point, Px, Stroke};
 
-/// Draws the lane of each node; the nodes are those of the lanes from above.
+/// Draws the lane of each node; `order` names the nodes of the lanes from the top.
 pub fn draw_lanes(
     canvas: &mut Canvas,
     page: Page,
@@ -32,7 +32,7 @@ pub fn draw_lanes(
     Ok(())
 }
 
-/// Draws a lane. Of the bars the worse is the higher, too.
+/// Draws a lane. The worse the mark, the higher the bar.
 fn draw_lane(canvas: &mut Canvas, page: Page, lane: usize, runs: &[Run]) -> Result<(), AllocError>
     ensures { OnOk result (drawn canvas.new ≡ drawn canvas.old ++ lane_shown page lane runs.now) }
 {
@@ -91,7 +91,7 @@ fn draw_steps(
     canvas.path(steps, stroke)
 }
 
-/// The steps along all runs whose mark is as bad.
+/// The steps along all runs whose mark has this rank.
 fn bars(alloc: Global, page: Page, y: Px, runs: &[Run], bad: u8) -> Result<String, AllocError>
     ensures { IfOk result (λ steps. string_bytes steps ≡ flat_map (bar page y.0 bad) runs.now) }
 {
@@ -102,7 +102,7 @@ fn bars(alloc: Global, page: Page, y: Px, runs: &[Run], bad: u8) -> Result<Strin
     Ok(steps)
 }
 
-/// Adds the steps along a run, if its mark is as bad.
+/// Adds the steps along a run, if its mark has this rank.
 fn push_bar(steps: &mut String, page: Page, y: Px, run: &Run, bad: u8) -> Result<(), AllocError>
     ensures { OnOk result (string_bytes steps.new
         ≡ string_bytes steps.old ++ bar page y.0 bad run.now) }

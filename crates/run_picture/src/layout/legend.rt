@@ -30,7 +30,7 @@ const COLUMNS: Point = Point {
     y: Px(104),
 };
 
-/// How wide a letter is taken to be.
+/// The assumed width of a letter.
 const LETTER: Px = Px(6);
 
 /// What the legend explains.
@@ -47,7 +47,7 @@ pub enum Sign {
 }
 
 impl Sign {
-    /// How far after its place its meaning stands.
+    /// How far to the right of its place its meaning is written.
     fn room(self) -> Px
         ensures { result.0 ≡ room_of self }
     {
@@ -58,7 +58,7 @@ impl Sign {
     }
 }
 
-/// Draws the legend. A column shows as many moments.
+/// Draws the legend, for columns that show `width` moments each.
 pub fn draw_legend(canvas: &mut Canvas, width: u64) -> Result<(), AllocError>
     ensures { OnOk result (drawn canvas.new ≡ drawn canvas.old ++ legend_shown width) }
 {
@@ -67,7 +67,7 @@ pub fn draw_legend(canvas: &mut Canvas, width: u64) -> Result<(), AllocError>
     draw_width(canvas, width)
 }
 
-/// What the colours of the lanes mean.
+/// Explains the colours of the lanes.
 fn draw_colours(canvas: &mut Canvas) -> Result<(), AllocError>
     ensures { OnOk result (drawn canvas.new
         ≡ drawn canvas.old ++ meanings_shown 16 68 colour_meanings) }
@@ -83,7 +83,7 @@ fn draw_colours(canvas: &mut Canvas) -> Result<(), AllocError>
     Ok(())
 }
 
-/// What the signs above the lanes mean, and the edges beside them.
+/// Explains the signs above the lanes, and the edges beside them.
 fn draw_signs(canvas: &mut Canvas) -> Result<(), AllocError>
     ensures { OnOk result (drawn canvas.new
         ≡ drawn canvas.old ++ meanings_shown 16 86 sign_meanings) }
@@ -100,7 +100,7 @@ fn draw_signs(canvas: &mut Canvas) -> Result<(), AllocError>
     Ok(())
 }
 
-/// What a column is.
+/// Writes what a column is.
 fn draw_width(canvas: &mut Canvas, width: u64) -> Result<(), AllocError>
     ensures { OnOk result (drawn canvas.new
         ≡ drawn canvas.old ++ words_shown 16 104 Start Ink (column_words width) ∷ []) }
@@ -120,7 +120,7 @@ fn column_words(alloc: Global, width: u64) -> Result<String, AllocError>
     }
 }
 
-/// Draws a sign, writes after it what it means, and says where the next one may stand.
+/// Draws a sign, writes after it what it means, and returns where the next one may stand.
 fn explain(canvas: &mut Canvas, at: Point, sign: Sign, meaning: &str) -> Result<Point, AllocError>
     ensures signs { OnOk result (drawn canvas.new
         ≡ drawn canvas.old ++ (sign_shown at.x.0 at.y.0 sign

@@ -10,11 +10,11 @@ use topology::Net;
 /// How wide the legend of the tree's edges and the nodes' names is.
 const NAMES: u32 = 104;
 
-/// The least width of the page, in which the legend has room.
+/// The least width of the page, wide enough for the legend.
 const LEAST_WIDTH: u32 = 800;
 
-/// Where the parts of a picture stand. From above: title, legend, the line of damage and that of
-/// sweeps, the lanes, the curves with their axis. Left of the lanes stands the tree.
+/// Where the parts of a picture stand. From the top: title, legend, the line of damage and that of
+/// sweeps, the lanes, the curves with their axis. The tree stands left of the lanes.
 #[derive(Clone, Copy, Debug)]
 pub struct Page {
     /// The left end of the columns.
@@ -27,7 +27,7 @@ pub struct Page {
     pub lane: Px,
     /// How many lanes there are.
     pub lanes: usize,
-    /// How far to the right a node is from its parent in the tree.
+    /// How far a node is to the right of its parent in the tree.
     pub indent: Px,
 }
 
@@ -41,7 +41,7 @@ impl Page {
     /// The height of the curves.
     pub const CURVES: Px = Px(64);
 
-    /// The page for as many columns.
+    /// The page for a network and this many columns.
     pub fn new(net: &Net, columns: usize) -> Page
         ensures { result ≡ page_of net.now columns }
     {
@@ -93,14 +93,14 @@ impl Page {
         Page::TOP + self.lane * lane
     }
 
-    /// The line of the curves at no node.
+    /// The line of the curves at 0 nodes.
     pub fn ground(self) -> Px
         ensures { result.0 ≡ ground_of self }
     {
         self.top(self.lanes) + Px(24) + Page::CURVES
     }
 
-    /// The line of the curves at as many nodes, of which each is as high.
+    /// The line of the curves at `count` nodes, each of which is `node` high.
     pub fn level(self, node: Px, count: usize) -> Px
         ensures { result.0 ≡ level_of self node.0 count }
     {
@@ -134,7 +134,7 @@ impl Page {
     }
 }
 
-/// How far to the right a node is from its parent, in a tree that is as deep.
+/// How far a node is to the right of its parent, in a tree of this depth.
 fn indent_of(depth: usize) -> u32
     ensures { result ≡ indent_of depth }
 {
@@ -142,7 +142,7 @@ fn indent_of(depth: usize) -> u32
     indent.min(22).max(3) as u32
 }
 
-/// The width of a column, of as many.
+/// The width of a column, if there are this many.
 fn column_width(columns: usize) -> u32
     ensures { result ≡ column_width columns }
 {
@@ -150,7 +150,7 @@ fn column_width(columns: usize) -> u32
     width.min(24).max(1) as u32
 }
 
-/// The height of a lane, of as many.
+/// The height of a lane, if there are this many.
 fn lane_height(lanes: usize) -> u32
     ensures { result ≡ lane_height lanes }
 {

@@ -1,4 +1,4 @@
-//! What stands above the lanes: damage, sweeps, and from where on the guarantee holds.
+//! What stands above the lanes: damage, sweeps, and the lines from which the guarantee holds.
 ghost use Rattle.std.specs.Prelude.{◌≡◌, if◌then◌else◌, [], ◌∷◌, ◌++◌, OnOk, IfOk};
 ghost use Rattle.std.specs.Prelude.{string_bytes, length, map};
 ghost use Rattle.run_picture.specs.Added.{over_each, Adds};
@@ -15,7 +15,7 @@ use std::alloc::{AllocError, Global};
 use std::fmt::Write;
 use svg_drawing::{Anchor, Canvas, Colour, Point, Px, Stroke};
 
-/// The least distance of two numbers of sweeps.
+/// The least distance between two numbers of sweeps.
 const APART: u32 = 30;
 
 /// A mark of damage, from its upper end on.
@@ -65,11 +65,11 @@ const BOUND: Guarantee = Guarantee {
 pub struct SweepNumber {
     /// The column of the tick.
     pub place: usize,
-    /// How many sweeps have ended up to this column, and in it.
+    /// How many sweeps have ended up to the end of this column.
     pub ended: u64,
 }
 
-/// Draws what stands above the lanes. As many sweeps have ended before the first column.
+/// Draws what stands above the lanes, if `before` sweeps have ended before the first column.
 pub fn draw_ruler(
     canvas: &mut Canvas,
     page: Page,
@@ -139,7 +139,7 @@ fn mark_steps(
     Ok(steps)
 }
 
-/// Adds the mark over a column, if what it stands for came in it.
+/// Adds the mark over a column, if what it stands for happened there.
 fn push_mark(
     steps: &mut String,
     page: Page,
@@ -182,7 +182,7 @@ fn number_sweep(canvas: &mut Canvas, page: Page, number: SweepNumber) -> Result<
     canvas.words(at, Anchor::Middle, Colour::Ink, text.as_str())
 }
 
-/// The numbers over the ticks, if as many sweeps have ended before the first column.
+/// The numbers over the ticks, if `before` sweeps have ended before the first column.
 fn sweep_numbers(
     alloc: Global,
     page: Page,
@@ -202,7 +202,8 @@ fn sweep_numbers(
     Ok(numbers)
 }
 
-/// Takes a number in, if as many sweeps end in its column and there is room for it.
+/// Adds a number, if `sweeps`, the count of sweeps that end in its column, is not 0 and there is
+/// room for it.
 fn put_number(
     numbers: &mut Vec<SweepNumber>,
     page: Page,
@@ -228,7 +229,7 @@ fn has_room(page: Page, numbers: &[SweepNumber], place: usize) -> bool
     }
 }
 
-/// Draws a line where the sweeps since the last damage become as many as a bound says.
+/// Draws a line where the sweeps since the last damage reach a bound.
 fn draw_guarantees(canvas: &mut Canvas, page: Page, columns: &[Column]) -> Result<(), AllocError>
     ensures { OnOk result (drawn canvas.new
         ≡ drawn canvas.old ++ over_each (guarantees_over page) 0 columns.now) }

@@ -11,7 +11,7 @@ use std::alloc::{AllocError, Global};
 use std::fmt::Write;
 use svg_drawing::{Anchor, Canvas, Colour, Point, Px};
 
-/// How high a lane is in which the whole layer stands.
+/// The height of a lane if its whole layer holds.
 const HIGH: u32 = 8;
 
 /// A layer of the proof.
@@ -19,16 +19,17 @@ const HIGH: u32 = 8;
 pub enum Layer {
     /// The links: as high as the share of them that is stable.
     Links,
-    /// The tree: up to which stage the distances are right, and all of it if the tree is reached.
+    /// The tree: as high as the stage up to which the distances are right, and at full height only
+    /// if the tree is reached.
     Tree,
     /// The token ring.
     Ring,
-    /// The loans: each has the privilege.
+    /// The loans: whether each has the privilege.
     Loans,
 }
 
 impl Layer {
-    /// What stands left of its lane.
+    /// The name to the left of its lane.
     fn words(self) -> &'static str
         ensures { result.now ≡ lane_words self }
     {
@@ -52,7 +53,7 @@ impl Layer {
         }
     }
 
-    /// Its place among the four, from above.
+    /// Its place among the four, from the top.
     fn row(self) -> usize
         ensures { result ≡ row_of self }
     {
@@ -64,7 +65,7 @@ impl Layer {
         }
     }
 
-    /// How high its lane is where these layers stand.
+    /// The height of its lane in a column with these layers.
     fn level(self, layers: &Layers) -> u32
         ensures { result ≡ level_in self layers.now }
     {
@@ -80,7 +81,7 @@ impl Layer {
     }
 }
 
-/// How high a lane is of which a part stands.
+/// The height of a lane if a part of its layer holds.
 fn share(part: usize, all: usize) -> u32
     ensures { result ≡ share part all }
 {
@@ -88,7 +89,7 @@ fn share(part: usize, all: usize) -> u32
     high.min(8) as u32
 }
 
-/// How high a lane is that stands whole or not at all.
+/// The height of a lane whose layer holds as a whole or not at all.
 fn whole(stands: bool) -> u32
     ensures { result ≡ (if stands then 8 else 0) }
 {
@@ -105,7 +106,8 @@ pub fn draw_settled(canvas: &mut Canvas, page: Page, states: &[Layers]) -> Resul
     draw_lane(canvas, page, Layer::Loans, states)
 }
 
-/// Draws the lane of a layer: its ground, over that where it stands, and left of it its name.
+/// Draws the lane of a layer: its ground, over that where the layer holds, and to the left its
+/// name.
 fn draw_lane(
     canvas: &mut Canvas,
     page: Page,
@@ -130,14 +132,14 @@ fn draw_lane(
     canvas.words(name, Anchor::End, Colour::Ink, layer.words())
 }
 
-/// Where the lane of a layer has its lower end.
+/// The lower end of the lane of a layer.
 fn base_of(page: Page, layer: Layer) -> Px
     ensures { result.0 ≡ base_of page layer }
 {
     page.ground() + Px(80) + Px(14) * layer.row()
 }
 
-/// The outline of where a layer stands.
+/// The outline of where a layer holds.
 fn steps_of(
     alloc: Global,
     page: Page,

@@ -22,7 +22,7 @@ struct Standing {
     lane: usize,
 }
 
-/// Draws the network; the nodes are those of the lanes from above.
+/// Draws the network; `order` names the nodes of the lanes from the top.
 pub fn draw_tree(
     canvas: &mut Canvas,
     page: Page,
@@ -53,7 +53,7 @@ fn draw_edges(
     Ok(())
 }
 
-/// Draws the nodes, from above.
+/// Draws the nodes, from the top.
 fn draw_nodes(canvas: &mut Canvas, page: Page, net: &Net, order: &[u16]) -> Result<(), AllocError>
     ensures { OnOk result (drawn canvas.new
         ≡ drawn canvas.old ++ nodes_shown page net.now 0 order.now) }
@@ -137,8 +137,8 @@ fn draw_edge(
     }
 }
 
-/// Draws an edge from its upper node: one of the tree thick and with a corner, another thin and
-/// round.
+/// Draws an edge from its upper node: thick and with a corner if it is one of the tree, else thin
+/// and round.
 fn draw_down(
     canvas: &mut Canvas,
     page: Page,

@@ -7,7 +7,7 @@ ghost use Rattle.run_recording.specs.judge.Judging.{counted_up_to};
 ghost use Rattle.run_recording.specs.Recordings.{IsRecorded};
 ghost use Rattle.run_picture.specs.Words.{title_words, size_words, limit_words, bound_words};
 ghost use Rattle.run_picture.specs.Words.{headline_words, event_words, node_words, sweep_words};
-ghost use Rattle.run_picture.specs.Words.{description_words, TellsOf};
+ghost use Rattle.run_picture.specs.Words.{description_words, DescribesRun};
 ghost use Rattle.svg_drawing.specs.Drawn.{drawn};
 ghost use Rattle.run_picture.specs.Head.{head_shown, said_words};
 
@@ -18,8 +18,8 @@ use std::fmt::Write;
 use svg_drawing::{Anchor, Canvas, Colour, Point, Px};
 use topology::Net;
 
-/// Draws what stands first: title and description, for who does not see the picture, the white
-/// ground, the headline, and below it what the run was.
+/// Draws what comes first: the title and the description, for readers who do not see the picture;
+/// the white ground; the headline; and below it what the run was.
 pub fn draw_head(
     canvas: &mut Canvas,
     page: Page,
@@ -100,7 +100,7 @@ fn description(alloc: Global, recording: &Recording) -> Result<String, AllocErro
         (world_of recording.now.judge.configuration) recording.now.judge.sweeps) }
     // Whatever run was recorded, the words describe that run.
     ensures says { (start : World) (es : List Event) → IsRecorded start es recording.now
-        → IfOk result (λ words. TellsOf start es recording.now.unread (string_bytes words)) }
+        → IfOk result (λ words. DescribesRun start es recording.now.unread (string_bytes words)) }
 {
     let configuration = recording.configuration();
     let mut text = events(alloc, recording.events(), recording.refused())?;
@@ -116,7 +116,7 @@ fn events(alloc: Global, events: u64, refused: u64) -> Result<String, AllocError
     format!(in alloc; "{events} events, {refused} lines refused; ")
 }
 
-/// Adds how many nodes are privileged and lend at the end.
+/// Adds how many nodes are privileged and how many lend at the end.
 fn push_nodes(text: &mut String, configuration: &Configuration) -> Result<(), AllocError>
     ensures { OnOk result (string_bytes text.new
         ≡ string_bytes text.old ++ node_words (world_of configuration.now)) }
@@ -129,7 +129,7 @@ fn push_nodes(text: &mut String, configuration: &Configuration) -> Result<(), Al
     )
 }
 
-/// Adds how many sweeps have ended since the last damage, of how many the bound asks for.
+/// Adds how many sweeps have ended since the last damage, and how many the bound asks for.
 fn push_sweeps(text: &mut String, sweeps: u64, bound: u32) -> Result<(), AllocError>
     ensures { OnOk result (string_bytes text.new
         ≡ string_bytes text.old ++ sweep_words sweeps bound) }

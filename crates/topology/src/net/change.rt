@@ -1,4 +1,4 @@
-//! How a network changes: an edge joins or goes. Nodes, root, capacity and lease stay, and no
+//! How a network changes: an edge joins or parts. Nodes, root, capacity and lease stay, and no
 //! memory is taken.
 ghost use Rattle.std.specs.Prelude.{◌≡◌, ◌≢◌, ◌<◌, IfErr, IfOk, IsTrue, None, OnErr, OnOk, Some};
 ghost use Rattle.std.specs.Prelude.{false, length};
@@ -19,9 +19,9 @@ impl<A: Allocator + Copy> Net<A> {
     /// Joins two nodes by an edge, which comes last.
     ///
     /// # Errors
-    /// The first that holds, and then nothing has changed: `TooBig` if there are 256 edges
-    /// already, `BadEdge` if one of the two is no node, `LoopEdge` if they are the same,
-    /// `DoubleEdge` if an edge joins them.
+    /// The first that holds, and then nothing has changed: `TooBig` if there are 256 edges already,
+    /// `BadEdge` if one of the two is not a node, `LoopEdge` if they are the same, `DoubleEdge` if
+    /// an edge joins them.
     pub fn join(&mut self, u: u16, v: u16) -> Result<(), NetFault>
         // It joins exactly if nothing forbids it; else the first fault in their order is reported.
         ensures allowed { OnOk result (join_fault self.old u v ≡ None) }
@@ -35,7 +35,7 @@ impl<A: Allocator + Copy> Net<A> {
         Ok(())
     }
 
-    /// Refuses an edge between two nodes by the first fault that it has.
+    /// Returns the first fault of an edge between two nodes, if it has any.
     fn check_join(&self, u: u16, v: u16) -> Result<(), NetFault>
         ensures allowed { OnOk result (join_fault self.now u v ≡ None) }
         ensures refused { IfErr result (λ fault. join_fault self.now u v ≡ Some fault) }
@@ -55,10 +55,10 @@ impl<A: Allocator + Copy> Net<A> {
         Ok(())
     }
 
-    /// Parts two nodes: the edge that joins them goes, and the others stay in their order.
+    /// Parts two nodes: removes the edge that joins them; the others stay in their order.
     ///
     /// # Errors
-    /// The first that holds, and then nothing has changed: `BadEdge` if one of the two is no
+    /// The first that holds, and then nothing has changed: `BadEdge` if one of the two is not a
     /// node, `NoEdge` if no edge joins them, `Apart` if the other edges do not hold the nodes
     /// together.
     pub fn part(&mut self, u: u16, v: u16) -> Result<(), NetFault>
@@ -76,13 +76,13 @@ impl<A: Allocator + Copy> Net<A> {
         }
     }
 
-    /// Where the edge stands that joins two nodes, or by which fault it is refused.
+    /// The place of the edge that joins two nodes, or the fault if there is none.
     fn place_to_part(&self, u: u16, v: u16) -> Result<usize, NetFault>
         ensures found { IfOk result (λ place. position (is_between u v) self.now.edges ≡ Some place) }
         ensures nodes { OnOk result (has_no_node self.now u v ≡ false) }
         ensures network { IsAcceptedNetwork self.now }
         ensures refused { IfErr result (λ fault. part_fault self.now u v ≡ Some fault) }
-        // It is no `Apart`, which is found only once the edge has gone.
+        // It is never `Apart`, which is found only once the edge has gone.
         ensures early { IfErr result (λ fault. fault ≢ Apart) }
     {
         if u >= self.nodes || v >= self.nodes {
@@ -94,8 +94,8 @@ impl<A: Allocator + Copy> Net<A> {
         }
     }
 
-    /// Takes away the edge at a place, unless the others do not hold the nodes together, and says
-    /// whether it went.
+    /// Removes the edge at a place, unless the others do not hold the nodes together, and returns
+    /// whether it did.
     fn remove_edge(&mut self, place: usize) -> bool
         requires { place < length self.old.edges }
         ensures removed { OnTrue result (self.new ≡ without_place self.old place) }

@@ -1,4 +1,4 @@
-//! How a network is made: read from TOML, made of values, or copied.
+//! How a network is made: read from TOML, made from values, or copied.
 ghost use Rattle.std.specs.Prelude.{◌≡◌, ◌≤◌, IfOk, IfErr, OnOk, length, map, ℤ, pos, ◌≤ℤ◌};
 ghost use Rattle.std.specs.Prelude.{false, None, Some};
 ghost use Rattle.std.specs.Vec.{vec_capacity};
@@ -20,10 +20,10 @@ impl Net {
     /// TOML text; other keys are ignored.
     ///
     /// # Errors
-    /// The first [`NetFault`] that the text has, in their order; `Memory` if memory ran out on
-    /// the way.
+    /// The first [`NetFault`] that the text has, in the order of the variants; `Memory` if memory
+    /// ran out on the way.
     pub fn read(alloc: Global, text: &str) -> Result<Net, NetFault>
-        // The network that the text's values make, and else the first fault that holds.
+        // The network that the text's values make, or else the first fault that holds.
         ensures ok { IfOk result (IsReadFrom text.now) }
         ensures err { IfErr result (IsUnread text.now) }
     {
@@ -40,11 +40,11 @@ impl Net {
 }
 
 impl<A: Allocator + Copy> Net<A> {
-    /// Makes a network of values, as a file would give them.
+    /// Makes a network from values, as a file would give them.
     ///
     /// # Errors
-    /// The first [`NetFault`] from `TooSmall` on that the values have, in their order; `Memory`
-    /// if memory ran out on the way.
+    /// The first [`NetFault`] from `TooSmall` on that the values have, in the order of the
+    /// variants; `Memory` if memory ran out on the way.
     pub fn make(
         alloc: A,
         nodes: i64,
@@ -65,7 +65,7 @@ impl<A: Allocator + Copy> Net<A> {
         Net::lay_out(alloc, node_count, root_id, places, ticks, narrowed)
     }
 
-    /// The network of values that are right one by one, unless the graph is not connected.
+    /// The network of values that are each valid, unless the graph is not connected.
     fn lay_out(
         alloc: A,
         nodes: u16,
@@ -114,7 +114,8 @@ impl<A: Allocator + Copy> Net<A> {
     }
 }
 
-/// Refuses values by the first fault that they have, but for whether the graph is connected.
+/// Returns the first fault of the values, if they have any; does not check whether the graph is
+/// connected.
 fn check_values(
     nodes: i64,
     root: i64,
@@ -154,7 +155,7 @@ fn check_values(
     Ok(())
 }
 
-/// A number that fits.
+/// The same number in 16 bits, into which it fits.
 fn narrow(number: i64) -> u16
     requires low { pos 0 ≤ℤ number }
     requires high { number ≤ℤ pos 65535 }
@@ -163,7 +164,7 @@ fn narrow(number: i64) -> u16
     number as u16
 }
 
-/// The edges with ends that are node ids, with room for as many as there may be.
+/// The edges, whose ends are node ids, in 16 bits; with room for as many edges as there may be.
 fn narrow_edges<A: Allocator + Copy>(
     alloc: A,
     nodes: i64,

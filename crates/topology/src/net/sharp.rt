@@ -14,8 +14,8 @@ impl<A: Allocator + Copy> Net<A> {
         self.layout.distances.iter().copied().max().unwrap_or(0)
     }
 
-    /// The sweeps after which the system is legitimate, from whatever state: 16(n-1) + 4e + 15,
-    /// where e is the greatest distance. The capacity has no part in it, and it is never above
+    /// The sweeps after which the system is legitimate, from any state: 16(n-1) + 4e + 15, where e
+    /// is the greatest distance. The capacity has no part in it, and it is never above
     /// [`Net::bound`].
     pub fn sharp_bound(&self) -> u32
         ensures { result ≡ sharp_of self.now }

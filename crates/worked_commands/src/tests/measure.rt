@@ -11,7 +11,7 @@ use test_parts::as_expected;
 use topology::Net;
 use world::World;
 
-/// A run of a seed that served after `sweeps` sweeps, of 35.
+/// A run of a seed that served after `sweeps` of its 35 sweeps.
 macro_rules! run {
     ($seed:expr, $sweeps:expr) => {
         Recovery {
@@ -91,7 +91,7 @@ fn all_served(runs: &[Recovery]) -> bool {
     runs.iter().all(|run| has_served(run, 35))
 }
 
-/// The place of the first row whose runs have another text, or have not served as it says.
+/// The place of the first row whose runs have a different text, or have not served as it says.
 fn first_other_text(alloc: Global, rows: &[Row<'_>]) -> Result<Option<usize>, Fail> {
     for (at, (runs, table, want, served)) in rows.iter().enumerate() {
         if !is_text(alloc, runs, *table, want)? || all_served(runs) != *served {
@@ -114,20 +114,20 @@ const NODE: Slow = Slow::Node { node: 1 };
 
 const LINK: Slow = Slow::Link { from: 0, to: 1 };
 
-/// By hand. Whoever has all rounds is not slow. Then in the first round each node takes the other's first
-/// words, which say nothing; the first sweep ends with what node 0 takes. In the second node 1 takes the
-/// root's distance, which ends the second sweep. In the third it ticks, which gives it its distance and
-/// ends the third sweep; from then on the two serve, since the values of their machines were alike at the
-/// start.
+/// Worked out by hand. With all rounds nothing is slow. Then in the first round each node takes the
+/// other's first words, which say nothing; the first sweep ends with what node 0 takes. In the second
+/// round node 1 takes the root's distance, which ends the second sweep. In the third round it ticks, which
+/// gives it its distance and ends the third sweep; from then on the two serve, since the values of their
+/// machines were alike at the start.
 ///
-/// With half of the rounds, node 1 ticks in each second one. There its tick ends a sweep, since node 0 has
-/// ticked and the links were renewed before. In the second round it takes the root's distance after that
-/// tick, so only its tick in the fourth gives it its own; that ends the second sweep.
+/// With half of the rounds, node 1 ticks in every second round. Its tick there ends a sweep, since node 0
+/// has ticked and the links were renewed before. In the second round it takes the root's distance after
+/// that tick, so only its tick in the fourth round gives it its own distance; that ends the second sweep.
 ///
-/// If the link to node 1 has half of the rounds, the root's distance comes to node 1 by its first item in
-/// the second round, which ends the first sweep. The second item and the items to node 0 come after
-/// that, so the ticks of the third round end the second sweep; and node 1 has its distance by its tick. So
-/// there are two sweeps in each two rounds. Whoever has no rounds lets no sweep end.
+/// If the link to node 1 has half of the rounds, the root's distance comes to node 1 with the link's first
+/// item in the second round, which ends the first sweep. The second item and the items to node 0 come
+/// after that, so the ticks of the third round end the second sweep; and node 1 has its distance by its
+/// tick. So there are two sweeps in every two rounds. A node or link that has no rounds lets no sweep end.
 const SLOW: [SlowRow; 15] = [
     (LINK, 100, 0, (0, 1)),
     (LINK, 100, 1, (1, 2)),
@@ -153,8 +153,8 @@ fn play(net: &Net, watch: &mut ServiceWatch, slow: Slow, share: u16, rounds: u64
     }
 }
 
-/// How many sweeps there were in this many rounds of two fresh nodes, one of them or a link slow, and
-/// after how many sweeps they served.
+/// How many sweeps there were in this many rounds of two fresh nodes, if one of them or a link is slow,
+/// and after how many sweeps they served.
 fn watched(alloc: Global, slow: Slow, share: u16, rounds: u64) -> Result<(u64, u64), Fail> {
     let net = two_nodes(alloc)?;
     let mut watch = ServiceWatch::new(World::new(alloc, &net)?);

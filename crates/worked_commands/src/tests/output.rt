@@ -1,4 +1,5 @@
-//! Writers that fail, as standard output may: what a command ends with by the first of their errors.
+//! Writers that fail, as standard output may: how a command ends depends on the first of their
+//! errors.
 use command_parts::{EventText, Fault, Flush, WriteSink};
 use schedules::EventSink;
 use std::io::{BufWriter, Error, ErrorKind, Write};
@@ -41,7 +42,7 @@ fn of_bytes<R: Eprint + AllocGlobal>(rt: &R, kind: ErrorKind) -> Result<Fault, E
     Ok(sink.fault(rt, Fault::Output))
 }
 
-/// The same of a command that writes an event.
+/// The same for a command that writes an event.
 fn of_event<R: Eprint + AllocGlobal>(rt: &R, kind: ErrorKind) -> Result<Fault, Error> {
     let output = BufWriter::with_capacity(rt.alloc(), 16, Failing { kind })?;
     let mut text = EventText::new(output);
@@ -51,7 +52,7 @@ fn of_event<R: Eprint + AllocGlobal>(rt: &R, kind: ErrorKind) -> Result<Fault, E
     Ok(text.fault(rt, Fault::Output))
 }
 
-/// The place of the first row with another fault.
+/// The place of the first row with a different fault.
 fn first_other<R: Eprint + AllocGlobal>(
     rt: &R,
     rows: &[(ErrorKind, Fault)],

@@ -37,8 +37,8 @@ fn empty_figure(alloc: Global) -> Result<Figure, Fail> {
     })
 }
 
-/// The axis goes on to 64, in seven steps of 91 units: 1 stands at 163, 2 at 254, 3 at 299, 4 at 345,
-/// 5 at 367, 8 at 436, 35 at 626, and its end at 709. Two of four runs stand at 258, three at 198.
+/// The axis goes on to 64, in seven steps of 91 units: 1 is at 163, 2 at 254, 3 at 299, 4 at 345, 5
+/// at 367, 8 at 436, 35 at 626, and its end at 709. Two of four runs are at 258, three at 198.
 const PARTS: [&str; 5] = [
     "4 runs of 2 nodes from scrambled worlds, seeds from 7 on; 3 of them served by sweep 35",
     "\"M72 378H163V258H299V198H709\"",
@@ -54,7 +54,7 @@ const EMPTY_PARTS: [&str; 3] = [
     "\"M712 378L712 66\"",
 ];
 
-/// The place of the first part that does not stand in a figure's plot.
+/// The place of the first part that is missing from a figure's plot.
 fn first_missing(alloc: Global, figure: &Figure, parts: &[&str]) -> Result<Option<usize>, Fail> {
     let text = plotted(alloc, figure)?;
     let text = str::from_utf8(text.as_slice())?;
@@ -66,7 +66,7 @@ fn first_missing(alloc: Global, figure: &Figure, parts: &[&str]) -> Result<Optio
     Ok(None)
 }
 
-/// The first missing part of the plot of four runs, and of that of none.
+/// The first missing part of the plot of four runs, and of the plot of no runs.
 fn missing(alloc: Global) -> Result<(Option<usize>, Option<usize>), Fail> {
     let late = first_missing(alloc, &figure(alloc)?, &PARTS)?;
     Ok((

@@ -55,7 +55,7 @@ impl Read for Answers<'_> {
     }
 }
 
-/// Simulates what a source gives, on a network, without showing the contract of that.
+/// Simulates what a source gives, on a network, and hides the contract of that call.
 fn simulate<W: Write + Drop>(
     alloc: Global,
     net: &Net,

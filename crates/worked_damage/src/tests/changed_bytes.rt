@@ -6,9 +6,9 @@ use std::test::Fail;
 use test_parts::is_expected;
 use topology::{Net, NetFault};
 
-/// How many files are read, so that the state's file ends with the same 24 bytes: all except the
-/// network, the node and its neighbours. Then how many have the faults `Magic`, `Shape` and `Range`,
-/// and how many have any other answer.
+/// How many files are read as a state whose file ends with the same 24 bytes: all except the network,
+/// the node and its neighbours. Then how many have the faults `Magic`, `Shape` and `Range`, and how
+/// many have any other answer.
 type Tally = [u32; 5];
 
 /// Whether both files end with the same 24 bytes.

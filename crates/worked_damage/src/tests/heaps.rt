@@ -16,7 +16,7 @@ pub enum End {
 }
 
 /// Makes a call on heaps of ever more units of 16 bytes, until one does not refuse it. Returns
-/// whether it was done there, and at least so many heaps refused it before.
+/// whether the call was done there, and at least `least` heaps refused it before.
 pub fn meets_each_refusal<F: FnMut(&LocalHeap) -> End>(
     alloc: Global,
     least: u32,

@@ -101,14 +101,14 @@ fn whole(alloc: Global, net: &Net, plan: Plan) -> Result<Vec<Event>, PlanFault> 
     Ok(keeper.events)
 }
 
-/// Those of two nodes.
+/// The events of a whole schedule for two nodes.
 fn whole_of_two(alloc: Global, plan: Plan) -> Result<Vec<Event>, Fail> {
     let net = two(alloc)?;
     Ok(whole(alloc, &net, plan)?)
 }
 
-/// Gives the schedule to a keeper that fails after `calls` events. Returns whether the answer is
-/// right, and the keeper has exactly the events before; none if there was no further event.
+/// Gives the schedule to a keeper that fails after `calls` events. Returns whether the answer is right,
+/// and the keeper has exactly the events before the failure; none if there was no further event.
 fn is_cut_short(
     alloc: Global,
     net: &Net,
@@ -140,16 +140,16 @@ fn first_uncut(alloc: Global, plan: Plan, whole: &[Event]) -> Result<Option<usiz
     Ok(None)
 }
 
-/// Whether a schedule has at least so many events, and each of them is once not taken.
+/// Whether a schedule has at least `least` events, and is cut short at each of them in turn.
 fn is_cut_after_each(alloc: Global, plan: Plan, least: usize) -> Result<bool, Fail> {
     let events = whole_of_two(alloc, plan)?;
     Ok(events.len() >= least && first_uncut(alloc, plan, &events)?.is_none())
 }
 
-/// The schedules, and how many events each has at least.
+/// The schedules, and the least number of events of each.
 const PLANS: [(Plan, usize); 3] = [(ROUNDS, 44), (GIVEN_BACK, 44), (RANDOM, 60)];
 
-/// The place of the first schedule that is not so.
+/// The place of the first schedule for which that is wrong.
 fn first_not_cut(alloc: Global) -> Result<Option<usize>, Fail> {
     for (at, (plan, least)) in PLANS.iter().enumerate() {
         if !is_cut_after_each(alloc, *plan, *least)? {

@@ -1,4 +1,4 @@
-//! Refusing each growth in turn, and a heap without a free byte.
+//! Memory that is refused at each growth in turn, and a heap without a free byte.
 use super::calls::{NEWER, reread, started, two, written};
 use super::heaps::{End, meets_each_refusal};
 use damage_tool::{scramble_node, scramble_world};
@@ -66,7 +66,7 @@ fn draw<A: Allocator>(net: &Net, generator: &mut Lcg64Xsh32, out: &mut Vec<Event
     scramble_world(net, generator, out).is_ok()
 }
 
-/// How the harms of a world, which are these with ample memory, are drawn on a heap.
+/// How the harms of a world are drawn on a heap; with ample memory they are these.
 fn drawn_on(heap: &LocalHeap, net: &Net, generator: &mut Lcg64Xsh32, ample: &[Event]) -> End {
     let mut out = Vec::new(heap);
     match draw(net, generator, &mut out) {

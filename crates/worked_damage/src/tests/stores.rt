@@ -14,7 +14,7 @@ const OTHER: &[u8; 36] = b"TKT2\0\x02\0\x01\0\x01\0\x01\0\x01\0\0\
 /// the node started with.
 type Answers = (Option<StartFault>, [Result<(), StoreFault>; 2]);
 
-/// Starts node 1 from a store, and saves its state twice. Returns that state's file, too.
+/// Starts node 1 from a store, and saves its state twice. Returns the file of that state, too.
 fn answers_of<S: Store>(
     alloc: Global,
     store: &mut S,

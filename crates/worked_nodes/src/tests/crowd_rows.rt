@@ -61,8 +61,8 @@ fn first_wrong_turn(run: &mut Run<'_>, pairs: &[Pair]) -> Option<(u32, usize)> {
     None
 }
 
-/// What was wrong while all except the last of some connections said nothing for 256 times, how
-/// many were closed then, and whether the last one was welcome.
+/// What was wrong while a node attended 256 times and all except the last of some connections said
+/// nothing; how many connections were closed then; and whether the last one was welcome.
 type Silence = (Option<(u32, usize)>, usize, bool);
 
 /// All connections of neighbours on a stage except the last come to this node, and say nothing.

@@ -6,12 +6,12 @@ use std::alloc::{AllocError, Global};
 use std::test::Fail;
 use test_parts::as_expected;
 
-/// A turn: how many of its calls come before the one that fails, if any; whether the node's port
-/// to the other has a connection afterwards; and how many it has had so far.
+/// A turn: how many of its calls come before the one that fails, if any; whether the node's port to
+/// the other node has a connection afterwards; and how many it has had so far.
 type Turn = (Option<u64>, bool, u64);
 
 /// Makes a turn in which this call fails. Returns whether the port to the other node is then as
-/// expected, and the node stands as before.
+/// expected, and the node is as before.
 fn is_right(run: &mut Run<'_>, stage: &Stage, follower: &mut Follower, turn: Turn) -> bool {
     let (calls, is_up, made) = turn;
     let is_taken = follower.take_over(run.node());
@@ -67,14 +67,15 @@ const LETS_IN: [Turn; 5] = [
     (Some(0), false, 0),
     // It lets the neighbour in, then fails.
     (Some(1), true, 1),
-    // Whichever door fails, the connection stands.
+    // Whichever door fails, the connection stays.
     (Some(0), true, 1),
     (Some(1), true, 1),
     // The connection fails.
     (Some(2), false, 1),
 ];
 
-/// The first wrong one of these turns of a node of two. To node 0 the other one has come.
+/// The first of these turns that is wrong at one of two nodes. To node 0 the other node has come
+/// already.
 fn first_wrong(
     alloc: Global,
     stage: &Stage,
@@ -104,7 +105,7 @@ fn of_both(alloc: Global) -> Result<[Option<usize>; 2], Fail> {
     ])
 }
 
-/// A port is loose until connecting succeeds, and a door that fails closes none.
+/// A port is loose until connecting succeeds, and a door that fails closes no connection.
 #[test]
 fn doors_and_connections_fail(rt: HostRuntime) -> Result<(), Fail> {
     as_expected(of_both(rt.alloc()), &[None, None])

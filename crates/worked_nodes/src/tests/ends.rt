@@ -11,7 +11,7 @@ use std::cell::Cell;
 /// What is noted of the calls at an end.
 #[derive(Clone, Copy)]
 pub enum Part<'a> {
-    /// Nothing.
+    /// Nothing is noted.
     Unseen,
     /// Frames between this node and a neighbour, on the connection with this place.
     Link { here: u16, there: u16, place: usize },
@@ -27,7 +27,7 @@ pub struct End<'a> {
     is_newcomer: bool,
     stage: &'a Stage,
     part: Part<'a>,
-    /// What was given so far of the current line.
+    /// What has been given of the current line so far.
     given: Wire,
     /// How many bytes of the accepted line are not yet on the wire.
     unsent: Cell<usize>,
@@ -88,7 +88,7 @@ impl<'a> End<'a> {
         }
     }
 
-    /// Notes what was read: a client's line, or the end of a frame's.
+    /// Notes what was read: a client's line, or the end of a frame's line.
     fn hear(&self, bytes: &[u8]) {
         match self.part {
             Part::Unseen => {}
@@ -167,7 +167,7 @@ impl<'a> End<'a> {
         count
     }
 
-    /// It is dropped.
+    /// What happens when it is dropped.
     fn end(&self) {
         self.pair.up.is_closed.set(true);
         self.pair.down.is_closed.set(true);

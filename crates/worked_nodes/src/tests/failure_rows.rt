@@ -9,8 +9,8 @@ use std::alloc::{AllocError, Global};
 use std::test::Fail;
 use test_parts::as_expected;
 
-/// Sixteen turns of each of two nodes. Returns whether each is then at its place, and nobody waits
-/// or borrows.
+/// Makes sixteen turns of each of two nodes. Returns whether each is then at its place, and nobody
+/// waits or borrows.
 fn are_settled(runs: &mut [Run<'_>]) -> bool {
     for _ in 0..16 {
         turn_all(runs);
@@ -61,9 +61,9 @@ fn two_nodes_settle_whichever_call_fails(rt: HostRuntime) -> Result<(), Fail> {
 /// A node whose store fails once.
 type Fused<'a> = RunWith<'a, FusedStore<MemoryStore>>;
 
-/// Turns a node 512 times, and lets it attend before each turn. Returns the first turn that
-/// wrongly saved or did not save: the 256th fails to save, and the 512th saves. After both the
-/// node looks at its files.
+/// Turns a node 512 times, and lets it attend before each turn. Returns the first turn that wrongly
+/// saved or did not save: the 256th fails to save, and the 512th saves. After both of these turns
+/// the node looks at its files.
 fn first_wrong_turn(run: &mut Fused<'_>) -> Option<u32> {
     for turn in 1..=512 {
         let want = match turn {
@@ -90,7 +90,7 @@ fn has_stored(run: &Fused<'_>) -> bool {
 }
 
 /// The first wrong turn of node 1 alone, and whether it has stored that in the end. Its store fails
-/// at the first call after the start, which loads.
+/// at the first call after the load at the start.
 fn saved(alloc: Global, stage: &Stage) -> Result<(Option<u32>, bool), Fail> {
     let store = FusedStore::new(stored(alloc, b"")?, 1);
     let run = started(alloc, stage, row(alloc, 2, 1, 0)?, 1, store, &mut None);

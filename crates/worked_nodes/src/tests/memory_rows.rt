@@ -80,8 +80,8 @@ fn attend_at(run: &mut RunOn<'_, '_>, now: u64) {
     run.attend(now, &mut Notes::none());
 }
 
-/// Turns a node on a heap that has nothing left 256 times, 10 milliseconds apart. Returns whether it
-/// takes nothing.
+/// Turns a node 256 times, 10 milliseconds apart, on a heap that has nothing left. Returns whether
+/// it takes nothing.
 fn takes_nothing(alloc: Global, heap: &LocalHeap, run: &mut RunOn<'_, '_>) -> Result<bool, Fail> {
     let _full = fill(alloc, heap)?;
     let used = heap.used();
@@ -157,14 +157,14 @@ const HANDED: [Handed; 4] = [
     (1, ROW, true, false),
 ];
 
-/// Takes over a network, without showing the contract of that. Returns whether it did.
+/// Takes over a network, and hides the contract of that call. Returns whether the node did so.
 fn is_taken_up(run: &mut RunOn<'_, '_>, net: &Net) -> bool {
     run.rewire(net)
 }
 
-/// Takes over a network, turns and attends; before that node 2 knocks. Returns whether the node does
-/// what it should, and in its turn sends its first frame to node 2 exactly if that is welcome. It
-/// takes no memory.
+/// Lets node 2 knock, and then a node take over a network, turn and attend. Returns whether the node
+/// does what it should, in its turn sends its first frame to node 2 exactly if node 2 is welcome,
+/// and leaves its full heap as it is.
 fn is_rewired(
     alloc: Global,
     heap: &LocalHeap,
@@ -192,9 +192,9 @@ fn is_rewired(
     Ok(has_taken == is_taken && is_as_said && heap.free() == 0)
 }
 
-/// Hands a node on a heap that has nothing left these networks, one after the other. It offers a
-/// frame on each port at any time. Returns the place of the first with which it does something else,
-/// and whether the third connection is closed in the end.
+/// Hands these networks, one after the other, to a node on a heap that has nothing left. The node
+/// offers a frame on each port at any time. Returns the place of the first network with which the
+/// node does something else, and whether the third connection is closed in the end.
 fn rewired(
     alloc: Global,
     heap: &LocalHeap,
@@ -212,7 +212,7 @@ fn rewired(
     Ok((None, third.is_some_and(|pair| pair.down.is_closed.get())))
 }
 
-/// What the root of a row does with them on this heap.
+/// What the root of a row does with these networks on this heap.
 fn rewired_on(
     alloc: Global,
     stage: &Stage,
@@ -225,7 +225,7 @@ fn rewired_on(
     }
 }
 
-/// The same on its own heap.
+/// The same on a heap of its own.
 fn rewired_alone(alloc: Global, stage: &Stage) -> Result<(Option<usize>, bool), Fail> {
     let heap = LocalHeap::new(alloc, 524_288)?;
     rewired_on(alloc, stage, &heap)

@@ -24,8 +24,8 @@ pub const WITH_TOKEN: [u8; 34] = *b"TKT1\x00\x02\x00\x00\x00\x01\x00\x00\xff\xff
 
 /// Does something with what was made (a running node, say), drops it, and returns the result.
 ///
-/// A function that holds a node and may return early is expensive to prove; here that is done once
-/// for all.
+/// A function that holds a node and may return early is expensive to prove; here that is proved
+/// once for all tests.
 pub fn with_made<R: Drop, E, T, F: FnOnce(&mut R) -> T>(made: Result<R, E>, deed: F) -> Result<T, E>
     requires { F.IsAlwaysCallable deed }
 {
@@ -35,8 +35,8 @@ pub fn with_made<R: Drop, E, T, F: FnOnce(&mut R) -> T>(made: Result<R, E>, deed
     }
 }
 
-/// Does something on a new stage for three nodes, with so many connections to each of them, drops
-/// it, and returns the result.
+/// Does something on a new stage for three nodes, with this many connections to each of them, drops
+/// the stage, and returns the result.
 pub fn on_stage<T, F: FnOnce(&Stage) -> Result<T, Fail>>(
     alloc: Global,
     links: usize,
@@ -49,7 +49,7 @@ pub fn on_stage<T, F: FnOnce(&Stage) -> Result<T, Fail>>(
     deed(&stage)
 }
 
-/// Two or three nodes in a row, the root first, whose links hold so many frames.
+/// Two or three nodes in a row, the root first, whose links hold `capacity` frames.
 pub fn row(alloc: Global, nodes: i64, capacity: i64, lease: i64) -> Result<Net, Fail> {
     let edges = [(0, 1), (1, 2)];
     let count = if nodes == 2 { 1 } else { 2 };
@@ -130,7 +130,7 @@ pub fn runs_of<'a>(
     Ok(runs)
 }
 
-/// One turn, without showing its contract, which would otherwise be part of each test.
+/// Makes one turn, and hides its contract, which would otherwise be part of each test.
 pub fn turn_once(run: &mut Run<'_>) {
     run.turn(0, &mut Notes::none());
 }

@@ -13,7 +13,7 @@ use topology::{Frame, Payload};
 /// The turns of a node in one stretch; they are 100 microseconds apart.
 const TURNS: u64 = 500;
 
-/// A small number, one of the greatest, or any.
+/// A small number, one of the greatest, or any number.
 fn number(draws: &mut Draws) -> u64 {
     match draws.below(4) {
         0 => u64::from(draws.below(8)),
@@ -23,7 +23,7 @@ fn number(draws: &mut Draws) -> u64 {
     }
 }
 
-/// The same as 32 bits.
+/// The same in 32 bits.
 fn count(draws: &mut Draws) -> u32 {
     (number(draws) % 4_294_967_296) as u32
 }
@@ -76,7 +76,7 @@ fn pace(draws: &mut Draws) -> TurnPace {
     TurnPace::remembering(Manner::usual(), node, ports)
 }
 
-/// One turn of a node at its own pace, which may be damaged before.
+/// Makes one turn of a node at its own pace, which may be damaged first.
 fn turn(run: &mut Run<'_>, draws: &mut Draws, now: u64) {
     if draws.below(4) == 0 {
         run.set_pace(pace(draws));
@@ -114,7 +114,7 @@ fn are_granted(
     is_first && is_second
 }
 
-/// The first stretch in which a client is not granted the lock. Each node has one.
+/// The first stretch in which a client is not granted the lock. Each node has one client.
 fn first_starved(runs: &mut [Run<'_>], stage: &Stage) -> Option<u64> {
     let first = stage.clients.first()?.greet(b"lock\n")?;
     let second = stage.clients.get(1)?.greet(b"lock\n")?;

@@ -27,7 +27,7 @@ fn frame(seq: u16) -> Frame {
 struct Ends<'a> {
     near: SocketLink<End<'a>>,
     far: SocketLink<End<'a>>,
-    /// The connections; both links get the next one once one of them broke.
+    /// The connections; both links get the next one once one of them has broken.
     pairs: &'a Queue,
     /// They say which call of the first link's pipes fails, and which of the second's.
     stages: (&'a Stage, &'a Stage),
@@ -80,16 +80,16 @@ impl<'a> Ends<'a> {
         }
     }
 
-    /// A frame came.
+    /// Notes a frame that came.
     fn keep(&mut self, came: Frame) {
         self.are_some &= came == frame(came.seq) && (self.next..3).contains(&came.seq);
         self.next = came.seq.saturating_add(1);
         self.came = self.came.saturating_add(1);
     }
 
-    /// Whether all is right if one call on this side failed, or none did: all frames were taken, the
-    /// link on this side broke once, or none did, and those that came are some of those taken, in
-    /// order. A failing connection loses at most one frame.
+    /// Whether all is right if one call on this side failed, or none did: all frames were taken; the
+    /// link on this side broke once, or no link did; and the frames that came are some of those
+    /// taken, in order. A failing connection loses at most one frame.
     fn are_right(&self, side: usize, has_failed: bool) -> bool {
         let lost = if has_failed { 1 } else { 0 };
         let breaks = if side == 0 { (lost, 0) } else { (0, lost) };

@@ -59,7 +59,8 @@ const PLAYS: [&str; 30] = [
     "token, comes, 0 says lock\n, turns, noted asks ticks , 0 says status\n, turns, noted ticks , \
      turns, noted ticks , 0 says unlock\nlock\n, turns, noted leaves asks ticks ",
     "fresh, turns unnoted",
-    // A hello of a higher neighbour alone is welcome. The frame is the first of a new node of three.
+    // Only the hello of a higher neighbour is welcome. The frame is the first of a new node of
+    // three.
     "middle, comes, 0 says H0002\n, turns, 0 is open, 0 hears F000000000003ffff0000\n",
     "middle, comes, 0 says H0000\n, turns, 0 is closed, 0 hears ",
     "middle, comes, 0 says H0001\n, turns, 0 is closed, 0 hears ",
@@ -74,7 +75,8 @@ const PLAYS: [&str; 30] = [
     // A newer hello replaces the older connection.
     "first, comes, 0 says H0001\n, turns, 0 hears F000000000003ffff0000\n, 0 is open, comes, \
      1 says H0001\n, turns, 1 hears F000000000003ffff0000\n, 1 is open, 0 is closed",
-    // A node connects to a lower neighbour, says who it is, and does so again if that one closes.
+    // A node connects to a lower neighbour, says who it is, and does so again if that neighbour
+    // closes.
     "last, attends, 0 is sent H0002\nF000000000003ffff0000\n, 1 is sent , 0 shuts, attends, \
      0 is left, turns, 1 is sent H0002\nF000000000003ffff0000\n",
 ];
@@ -133,7 +135,8 @@ fn are_noted(notes: &Notes, mut words: &str) -> bool {
     words.is_empty() && notes.has_all()
 }
 
-/// Makes a turn, with no room for notes if so said. Returns whether that is known then.
+/// Makes a turn, with no room for notes unless `how` is empty. Returns whether a lack of room is
+/// known then.
 fn is_turned(run: &mut Run<'_>, notes: &mut Notes, how: &str) -> bool {
     if how.is_empty() {
         run.turn(0, notes);

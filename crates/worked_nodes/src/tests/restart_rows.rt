@@ -19,11 +19,11 @@ const PLACES: [&str; 3] = [
     "node 2 distance 2 parent 1 ",
 ];
 
-/// The most turns in which distances may settle.
+/// The most turns that distances may take to settle.
 const TURNS: u32 = 1_000;
 
-/// Asks a node through this client how it stands, again and again. Returns whether at last the
-/// answer begins like this.
+/// Asks a node for its status through this client, again and again. Returns whether an answer
+/// begins like this at last.
 fn comes_to(runs: &mut [Run<'_>], client: &Pair, begin: &str) -> bool {
     for _ in 0..TURNS {
         client.up.write(b"status\n", ROOM);
@@ -51,7 +51,7 @@ fn misplaced(runs: &mut [Run<'_>], stage: &Stage, last: &Pair) -> Option<&'stati
     None
 }
 
-/// Lets a client of node 2 leave for the next one. Returns what was missed first.
+/// Lets a client of node 2 leave, and the next one come. Returns what was missed first.
 fn missed_by(runs: &mut [Run<'_>], clients: &Queue, leaving: &Pair) -> Option<&'static str> {
     leaving.up.write(b"loc\n", ROOM);
     turn_all(runs);
@@ -83,7 +83,7 @@ fn missed(runs: &mut [Run<'_>], stage: &Stage) -> Option<&'static str> {
 }
 
 /// Starts node 2 beside two running nodes, with these bytes in its store, and ends it. Returns the
-/// fault of its start; it fails with what it missed afterwards.
+/// fault of its start; fails with what was missed afterwards.
 fn life<'a>(
     alloc: Global,
     stage: &'a Stage,
@@ -115,7 +115,7 @@ fn both_lives<'a>(
     ))
 }
 
-/// The same beside two new nodes, with so many bytes of that state.
+/// The same beside two new nodes, with the first `kept` bytes of that state.
 fn lives(
     alloc: Global,
     stage: &Stage,

@@ -9,7 +9,7 @@ use node_loop::{Door, Doors};
 use std::alloc::{AllocError, Global};
 use std::cell::Cell;
 
-/// How often a planned mistake happens: once every this many frames, or asks.
+/// How often a planned mistake happens: once in this many frames or asks.
 const EACH: u32 = 20;
 
 /// A mistake of connections.
@@ -47,7 +47,7 @@ pub struct Stage {
 }
 
 impl Stage {
-    /// A stage for so many nodes, with so many connections to each of them.
+    /// A stage for this many nodes, with this many connections to each of them.
     pub fn new(
         alloc: Global,
         nodes: u16,
@@ -145,7 +145,7 @@ pub struct StageDoors<'a> {
 }
 
 impl<'a> StageDoors<'a> {
-    /// The connection that comes so from the stage, unless this is the call that fails.
+    /// The connection that `come` gets from the stage, unless this is the call that fails.
     fn door_of<F: FnOnce(&'a Stage) -> Option<End<'a>>>(&mut self, come: F) -> Door<End<'a>>
         requires { F.IsAlwaysCallable come }
         ensures { Opens result self.old.failures self.new.failures }

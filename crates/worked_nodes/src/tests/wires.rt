@@ -39,7 +39,7 @@ impl Wire {
         self.count.get() == 0 && !self.is_closed.get()
     }
 
-    /// Puts as many of these bytes on it as there is room for, of `room` in all.
+    /// Puts as many of these bytes on it as fit, if it holds `room` bytes in all. Returns how many.
     pub fn write(&self, bytes: &[u8], room: usize) -> usize
         ensures { result ≤ length bytes.now }
     {
@@ -53,7 +53,7 @@ impl Wire {
         count
     }
 
-    /// Takes the oldest bytes off it, at most one line if so said.
+    /// Takes the oldest bytes off it, at most one line if `is_line`.
     pub fn read(&self, buffer: &mut [u8], is_line: bool) -> usize
         ensures count { result ≤ length buffer.new }
         ensures length { length buffer.new ≡ length buffer.old }

@@ -15,7 +15,7 @@ const FRAME: Frame = Frame {
     },
 };
 
-/// Another one, of another parent alone.
+/// A frame that differs from it only in the parent.
 const OTHER: Frame = Frame {
     seq: 5,
     ack: 4,
@@ -88,7 +88,7 @@ const RECORD: [(Noted, Noted); 15] = [
     (TAKEN, TAKEN),
 ];
 
-/// The place of the first that is shortened otherwise, or that its short form does not give again.
+/// The place of the first that is shortened differently, or that its short form does not give back.
 fn first_unlike() -> Option<usize> {
     let mut writer = LastFrames::new();
     let mut reader = LastFrames::new();

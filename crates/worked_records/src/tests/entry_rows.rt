@@ -19,7 +19,7 @@ const CHILD: Payload = Payload {
     ring: 12,
 };
 
-/// A frame of it.
+/// A frame with that payload.
 const FRAME: Frame = Frame {
     seq: 5,
     ack: 130,
@@ -164,7 +164,7 @@ const UNREAD: [(&[u8], Unread); 10] = [
     // zeros, as in a file whose end was never written: no kind
     (&[0, 0, 0, 0], Unread::Invalid),
     (&[18, 0, 0, 237], Unread::Invalid),
-    // another check
+    // a different check
     (&[7, 208, 15, 24], Unread::Invalid),
     // one byte of a tick changed
     (&[7, 209, 15, 25], Unread::Invalid),
@@ -179,7 +179,7 @@ const UNREAD: [(&[u8], Unread); 10] = [
     (&[7, 208], Unread::Short),
 ];
 
-/// The place of the first of them that is read otherwise.
+/// The place of the first of them that is read differently.
 fn first_read() -> Option<usize> {
     UNREAD.iter().position(|(bytes, why)| EntryReader::new().next(bytes).err() != Some(*why))
 }

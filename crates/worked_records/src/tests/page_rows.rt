@@ -9,7 +9,7 @@ use std::test::Fail;
 use test_parts::as_expected;
 
 /// How many entries of the record of `entry_rows` are read right, one after the other, and why no more
-/// is read; nothing, if another entry was read.
+/// is read; no reason if a different entry was read.
 fn read<S: Source + Drop>(alloc: Global, source: S) -> Result<(usize, Option<Stop>), Fail> {
     let mut reader = PageReader::new(alloc, source)?;
     for (at, (instant, noted, _)) in RECORD.iter().enumerate() {
@@ -30,7 +30,7 @@ fn wanted(cut: usize) -> (usize, Option<Stop>) {
     (whole, Some(stop))
 }
 
-/// The first place at which a cut record is read otherwise, if it is given in pieces of this size.
+/// The first place at which a cut record is read differently, if it is given in pieces of this size.
 fn first_unlike(alloc: Global, piece: usize) -> Result<Option<usize>, Fail> {
     let bytes = written(alloc)?;
     for cut in 0..bytes.len() + 1 {
@@ -59,7 +59,7 @@ fn all_at_once(rt: HostRuntime) -> Result<(), Fail> {
     as_expected(first_unlike(rt.alloc(), 65536), &None)
 }
 
-/// What is read of the record if another byte stands at a place.
+/// What is read of the record if this byte is put at a place.
 fn with_byte(alloc: Global, place: usize, byte: u8) -> Result<(usize, Option<Stop>), Fail> {
     let mut bytes = written(alloc)?;
     if let Some(changed) = bytes.get_mut(place) {
@@ -117,8 +117,8 @@ fn more_than_a_page_in_pieces(rt: HostRuntime) -> Result<(), Fail> {
     as_expected(ticks(rt.alloc(), 1000), &(5000, Some(Stop::End)))
 }
 
-/// The answers about the record if its source fails at a read: how many entries were read before
-/// that, that it failed, and how many are read after it.
+/// The answers about the record if its source fails at a read: how many entries were read before that,
+/// how often a read failed, and how many entries are read after it.
 fn failing(alloc: Global, calls: u64) -> Result<(usize, usize, usize), Fail> {
     let bytes = written(alloc)?;
     let mut reader = PageReader::new(alloc, Fused::new(MemorySource::new(&bytes, 10), calls))?;

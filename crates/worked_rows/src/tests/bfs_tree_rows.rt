@@ -21,7 +21,7 @@ fn step(is_root: bool, copies: [u16; 2]) -> (u16, Option<u16>) {
     )
 }
 
-/// The place of the first step with another result.
+/// The place of the first step with a different result.
 fn first_unlike(steps: &[(bool, [u16; 2], (u16, Option<u16>))]) -> Option<usize> {
     for (at, (is_root, copies, want)) in steps.iter().enumerate() {
         if step(*is_root, *copies) != *want {

@@ -86,14 +86,14 @@ fn after_rounds(alloc: Global) -> Result<[(Numbers, Numbers); 2], Fail> {
 }
 
 /// What they should have.
-const BEHIND_ROUNDS: [(Numbers, Numbers); 2] = [
+const AFTER_ROUNDS: [(Numbers, Numbers); 2] = [
     ((4, 4, CHILD), (4, 3, ROOT)),
     ((2, 2, CHILD), (2, 1, ROOT)),
 ];
 
 #[test]
 fn numbers_go_round(rt: HostRuntime) -> Result<(), Fail> {
-    as_expected(after_rounds(rt.alloc()), &BEHIND_ROUNDS)
+    as_expected(after_rounds(rt.alloc()), &AFTER_ROUNDS)
 }
 
 /// Each field at its greatest.

@@ -23,8 +23,8 @@ fn first_unlike(tree: &TreeNeighbours, rows: &[(u16, u16, u16)]) -> Option<usize
     None
 }
 
-/// How many there are, whether there is none, and where the special machine comes in, at the root
-/// and at another node.
+/// How many tree neighbours there are, whether there are none, and where the special machine comes
+/// in, at the root and at another node.
 fn ends(tree: &TreeNeighbours) -> (usize, bool, Option<u16>, Option<u16>) {
     (
         tree.len(),
@@ -45,7 +45,7 @@ fn of_six() -> TreeNeighbours {
     )
 }
 
-/// The same in order.
+/// The rows of these neighbours, in order.
 const ROUND_SIX: [(u16, u16, u16); 3] = [(1, 4, 9), (4, 9, 1), (9, 1, 4)];
 
 #[test]
@@ -63,7 +63,7 @@ fn of_five() -> TreeNeighbours {
     tree_neighbours(Some(0), 5, &[0, 63], |_| Some(5))
 }
 
-/// The same in order.
+/// The rows of these neighbours, in order.
 const ROUND_FIVE: [(u16, u16, u16); 2] = [(0, 63, 63), (63, 0, 0)];
 
 #[test]
@@ -100,7 +100,7 @@ fn in_square(node: u16) -> Option<TreeNeighbours> {
     Some(tree_neighbours(parent_in_square(node), node, &neighbours, parent_in_square))
 }
 
-/// Where a tour that came from one node to another goes on; none if no tour does.
+/// The node to which a tour goes on after it came from one node to another; none if no tour does.
 fn onward(from: u16, here: u16) -> Option<u16> {
     let tree = in_square(here)?;
     if tree.contains(from) {
@@ -110,11 +110,11 @@ fn onward(from: u16, here: u16) -> Option<u16> {
     }
 }
 
-/// The stops of the tour, each with the node that it comes from, when it begins at node 0 as if
-/// from node 1.
+/// The steps of the tour, each from one node to the next, if it begins at node 0 as if it came from
+/// node 1.
 const TOUR: [(u16, u16); 6] = [(0, 2), (2, 0), (0, 1), (1, 3), (3, 1), (1, 0)];
 
-/// The place of the first stop that the tour does not come to.
+/// The place of the first step that the tour does not take.
 fn first_missed(stops: &[(u16, u16)]) -> Option<usize> {
     let (mut from, mut here) = (1, 0);
     for (at, stop) in stops.iter().enumerate() {

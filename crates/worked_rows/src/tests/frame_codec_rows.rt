@@ -43,7 +43,7 @@ const SECOND: Frame = Frame {
     },
 };
 
-/// Whether this is the line of a frame, without its end.
+/// Whether this is the line of a frame, without its newline.
 fn is_line_of(frame: &Frame, line: &[u8]) -> bool {
     match encode(frame).split_last() {
         Some((end, front)) => *end == b'\n' && front == line,
@@ -52,7 +52,7 @@ fn is_line_of(frame: &Frame, line: &[u8]) -> bool {
 }
 
 /// Whether a line is read as this frame and the frame is written as this line, or the line is read
-/// as none.
+/// as no frame.
 fn is_read_as(net: &Net, line: &[u8], want: Option<Frame>) -> bool {
     match want {
         Some(frame) => decode(line, net) == want && is_line_of(&frame, line),
@@ -126,7 +126,7 @@ fn each_field_at_its_greatest(rt: HostRuntime) -> Result<(), Fail> {
     as_expected(first_unlike(star_of_64(rt.alloc()), &GREATEST_LINES), &None)
 }
 
-/// Whether this is the hello of a node, without its end.
+/// Whether this is the hello of a node, without its newline.
 fn is_hello_of(id: u16, line: &[u8]) -> bool {
     match encode_hello(id).split_last() {
         Some((end, front)) => *end == b'\n' && front == line,
@@ -135,7 +135,7 @@ fn is_hello_of(id: u16, line: &[u8]) -> bool {
 }
 
 /// Whether a line is read as the hello of this node and its hello is written as this line, or the
-/// line is read as none.
+/// line is read as no hello.
 fn is_hello_as(net: &Net, line: &[u8], want: Option<u16>) -> bool {
     match want {
         Some(id) => decode_hello(line, net) == want && is_hello_of(id, line),
@@ -182,7 +182,7 @@ fn feed<A: Allocator>(
     reader.feed(piece, net, frames)
 }
 
-/// Whether these are just the first frame.
+/// Whether this is the first frame alone.
 fn is_first_alone(frames: &[Frame]) -> bool {
     frames == [FIRST].as_slice()
 }
@@ -259,13 +259,13 @@ fn bytes_one_by_one(rt: HostRuntime) -> Result<(), Fail> {
 /// Half a line.
 const HALF: &[u8] = b"F000000000";
 
-/// What ends it, and a good line.
-const BEHIND_HALF: &[u8] = b"0010000000c\nF0000000000010000000c\n";
+/// The rest of that line, and a good line.
+const AFTER_HALF: &[u8] = b"0010000000c\nF0000000000010000000c\n";
 
 /// Whether a dropped half line, what ends it and a good line give one frame among three nodes.
 fn half_spoils_nothing(alloc: Global) -> Result<bool, Fail> {
     let net = line_of_three(alloc)?;
-    Ok(gives_the_first(alloc, &net, HALF, BEHIND_HALF, true)?)
+    Ok(gives_the_first(alloc, &net, HALF, AFTER_HALF, true)?)
 }
 
 #[test]
@@ -280,7 +280,7 @@ const LINE_AND_HALF: &[u8] = b"F0000000000010000000c\nF00000000";
 const REST: &[u8] = b"00010000000c\nF000400030000ffff0000\nF000400030000ffff0000\n\
     F000400030000ffff0000\nF000400030000ffff0000\n";
 
-/// The frames of both.
+/// The frames of both pieces.
 const ALL_FRAMES: &[Frame] = &[FIRST, FIRST, SECOND, SECOND, SECOND, SECOND];
 
 /// What a reader with frames on a heap did.
@@ -291,7 +291,7 @@ enum Outcome {
     /// The second piece was refused; whether nothing was read of it: the half line before it is
     /// still there.
     SecondRefused(bool),
-    /// Both were read; whether right.
+    /// Both were read; whether they were read right.
     Read(bool),
 }
 

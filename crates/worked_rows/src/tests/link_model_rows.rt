@@ -1,4 +1,4 @@
-//! A link that fills, loses and empties; and with memory refused.
+//! A link that is filled, loses items and is emptied; also with memory refused.
 use super::least_heap::least_heap;
 use link_model::{Frame, Full, Item, Link, NoItem, Payload};
 use linked_list_allocator::LocalHeap;
@@ -16,7 +16,7 @@ enum Sent {
 
 use Sent::{Noise, Numbered};
 
-/// The item that it is.
+/// The item that was sent.
 fn item(sent: Sent) -> Item {
     match sent {
         Noise => Item::Noise,
@@ -62,7 +62,7 @@ fn answers_so<A: Allocator>(link: &mut Link<A>, deed: &Deed) -> bool {
     }
 }
 
-/// The place of the first deed that the link answers otherwise.
+/// The place of the first deed that the link answers differently.
 fn first_wrong<A: Allocator>(link: &mut Link<A>, deeds: &[Deed]) -> Option<usize> {
     for (at, deed) in deeds.iter().enumerate() {
         if !answers_so(link, deed) {
@@ -72,7 +72,7 @@ fn first_wrong<A: Allocator>(link: &mut Link<A>, deeds: &[Deed]) -> Option<usize
     None
 }
 
-/// The place of the first deed that a new link of this many places answers otherwise.
+/// The place of the first deed that a new link of this many places answers differently.
 fn first_wrong_of(alloc: Global, capacity: usize, deeds: &[Deed]) -> Result<Option<usize>, Fail> {
     let mut link = Link::new(alloc, capacity)?;
     Ok(first_wrong(&mut link, deeds))

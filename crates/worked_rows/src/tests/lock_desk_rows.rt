@@ -73,7 +73,7 @@ fn answers_so<A: Allocator + Copy>(desk: &mut Desk<A>, deed: &Deed<'_>) -> bool 
     }
 }
 
-/// The place of the first deed that the desk answers otherwise.
+/// The place of the first deed that the desk answers differently.
 fn first_wrong<A: Allocator + Copy>(desk: &mut Desk<A>, deeds: &[Deed<'_>]) -> Option<usize> {
     for (at, deed) in deeds.iter().enumerate() {
         if !answers_so(desk, deed) {
@@ -83,7 +83,7 @@ fn first_wrong<A: Allocator + Copy>(desk: &mut Desk<A>, deeds: &[Deed<'_>]) -> O
     None
 }
 
-/// The place of the first deed that a new desk with this lease answers otherwise.
+/// The place of the first deed that a new desk with this lease answers differently.
 fn first_wrong_of(alloc: Global, lease: u16, deeds: &[Deed<'_>]) -> Result<Option<usize>, Fail> {
     let mut desk = Desk::new(alloc, lease)?;
     Ok(first_wrong(&mut desk, deeds))
@@ -176,7 +176,7 @@ const WRITTEN_LOANS: [Deed<'static>; 9] = [
 ];
 
 #[test]
-fn a_loan_is_written_where_it_fits(rt: HostRuntime) -> Result<(), Fail> {
+fn a_loan_is_written_if_it_fits(rt: HostRuntime) -> Result<(), Fail> {
     as_expected(first_wrong_of(rt.alloc(), 3, &WRITTEN_LOANS), &None)
 }
 
@@ -194,7 +194,7 @@ const WRITTEN_QUEUES: [Deed<'static>; 9] = [
 ];
 
 #[test]
-fn a_queue_is_written_where_it_fits(rt: HostRuntime) -> Result<(), Fail> {
+fn a_queue_is_written_if_it_fits(rt: HostRuntime) -> Result<(), Fail> {
     as_expected(first_wrong_of(rt.alloc(), 0, &WRITTEN_QUEUES), &None)
 }
 
@@ -234,8 +234,8 @@ const WITHOUT_MEMORY: [Deed<'static>; 12] = [
     HasQueue(&[3, 1, 2]),
 ];
 
-/// The place of the first deed that a desk answers otherwise on a heap with nothing left, and how
-/// much was left.
+/// The place of the first deed that a desk answers differently on a heap with nothing left, and how
+/// much the heap had left.
 fn first_wrong_on_full(alloc: Global, heap: &LocalHeap) -> Result<(Option<usize>, usize), Fail> {
     let mut desk = Desk::new(heap, 2)?;
     on_full(alloc, heap, || first_wrong(&mut desk, &WITHOUT_MEMORY))
@@ -285,7 +285,7 @@ fn is_read_as(bytes: &[u8], want: &[ClientLine]) -> bool {
     rest.is_empty()
 }
 
-/// The place of the first row whose bytes are read otherwise.
+/// The place of the first row whose bytes are read differently.
 fn first_misread(rows: &[(&[u8], &[ClientLine])]) -> Option<usize> {
     for (at, (bytes, want)) in rows.iter().enumerate() {
         if !is_read_as(bytes, want) {

@@ -17,7 +17,7 @@ fn net_of_two(alloc: Global, lease: i64) -> Result<Net, NetFault> {
 enum Deed<'a> {
     /// Both tick, and then each frame goes over twice.
     Round,
-    /// The near one ticks, with this act on its loan; the tick may be full.
+    /// The near one ticks, with this act on its loan; whether the tick is full.
     NearTicks(DeskAct, bool),
     NearIsAsked(u16, Result<(), AskFault>),
     /// 64 tickets, from this one on, ask the near one, and it accepts them.
@@ -57,7 +57,7 @@ struct Two<A: Allocator + Copy> {
     far: Node<A>,
 }
 
-/// Two new nodes over this allocator.
+/// Two new nodes with their memory from this allocator.
 fn both<A: Allocator + Copy>(alloc: Global, lease: i64, on: A) -> Result<Two<A>, Fail> {
     let net = net_of_two(alloc, lease)?;
     let near = Node::new(on, &net, 0)?;
@@ -65,7 +65,7 @@ fn both<A: Allocator + Copy>(alloc: Global, lease: i64, on: A) -> Result<Two<A>,
     Ok(Two { near, far })
 }
 
-/// The place of the first deed that they answer otherwise.
+/// The place of the first deed that they answer differently.
 fn first_wrong<A: Allocator + Copy>(nodes: &mut Two<A>, deeds: &[Deed<'_>]) -> Option<usize> {
     for (at, deed) in deeds.iter().enumerate() {
         if !answer_so(&mut nodes.near, &mut nodes.far, deed) {
@@ -75,7 +75,7 @@ fn first_wrong<A: Allocator + Copy>(nodes: &mut Two<A>, deeds: &[Deed<'_>]) -> O
     None
 }
 
-/// The place of the first deed that two new nodes with this lease answer otherwise.
+/// The place of the first deed that two new nodes with this lease answer differently.
 fn first_wrong_of(alloc: Global, lease: i64, deeds: &[Deed<'_>]) -> Result<Option<usize>, Fail> {
     let mut nodes = both(alloc, lease, alloc)?;
     Ok(first_wrong(&mut nodes, deeds))
@@ -304,7 +304,7 @@ fn used<A: Allocator + Copy>(alloc: A, net: &Net) -> Option<bool> {
 }
 
 /// Whether the smallest heap with room for a node has more than eight units of 16 bytes, and the node
-/// does so there, and with enough memory.
+/// does so both there and with enough memory.
 fn is_used_on_the_least(alloc: Global) -> Result<bool, Fail> {
     let net = net_of_two(alloc, 0)?;
     let (units, is_so) = least_heap(alloc, |heap| Ok(used(heap, &net)))?;
@@ -316,8 +316,8 @@ fn each_growth_of_new_may_be_refused(rt: HostRuntime) -> Result<(), Fail> {
     as_expected(is_used_on_the_least(rt.alloc()), &true)
 }
 
-/// The place of the first deed that two nodes answer otherwise on a heap with nothing left, and
-/// how much was left.
+/// The place of the first deed that two nodes answer differently on a heap with nothing left, and how
+/// much the heap had left.
 fn first_wrong_on_full(alloc: Global, heap: &LocalHeap) -> Result<(Option<usize>, usize), Fail> {
     let mut nodes = both(alloc, 0, heap)?;
     on_full(alloc, heap, || first_wrong(&mut nodes, &WITHOUT_MEMORY))

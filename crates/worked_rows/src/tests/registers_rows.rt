@@ -1,4 +1,4 @@
-//! All ports of a node in one table; and with memory refused.
+//! All ports of a node in one table; also with memory refused.
 use super::least_heap::least_heap;
 use linked_list_allocator::LocalHeap;
 use registers::{Heard, OutOfRange, Registers};
@@ -51,7 +51,7 @@ const FRAME: Frame = Frame {
     },
 };
 
-/// What it does there.
+/// What that frame does there.
 const NEWS: Heard = Heard {
     moved: true,
     accepted: true,
@@ -114,7 +114,7 @@ fn answer_so(registers: &mut Registers, deed: &Deed<'_>) -> bool {
     }
 }
 
-/// The place of the first deed that the registers of a square's root answer otherwise.
+/// The place of the first deed that the registers of a square's root answer differently.
 fn first_wrong(alloc: Global, deeds: &[Deed<'_>]) -> Result<Option<usize>, Fail> {
     let mut registers = of_a_square(alloc, alloc)?;
     for (at, deed) in deeds.iter().enumerate() {
@@ -125,7 +125,7 @@ fn first_wrong(alloc: Global, deeds: &[Deed<'_>]) -> Result<Option<usize>, Fail>
     Ok(None)
 }
 
-/// Port 1 is written, at its greatest and beyond.
+/// Port 1 is written, up to its greatest values and beyond.
 const WRITES: [Deed<'static>; 9] = [
     HasNeighbours(&[1, 2]),
     Writes(1, (4, 3), Ok(())),
@@ -153,7 +153,7 @@ fn used<A: Allocator + Copy>(alloc: A, net: &Net) -> Option<bool> {
 }
 
 /// Whether the smallest heap with room for them has more than three units of 16 bytes, and they are
-/// written there, and with enough memory.
+/// written both there and with enough memory.
 fn are_used_on_the_least(alloc: Global) -> Result<bool, Fail> {
     let net = square(alloc)?;
     let (units, is_so) = least_heap(alloc, |heap| Ok(used(heap, &net)))?;
@@ -165,7 +165,7 @@ fn each_growth_of_new_may_be_refused(rt: HostRuntime) -> Result<(), Fail> {
     as_expected(are_used_on_the_least(rt.alloc()), &true)
 }
 
-/// Whether they are written on a heap with nothing left, and how much was left.
+/// Whether they are written on a heap with nothing left, and how much the heap had left.
 fn written_on_full(alloc: Global, heap: &LocalHeap) -> Result<(bool, usize), Fail> {
     let mut registers = of_a_square(alloc, heap)?;
     on_full(alloc, heap, || are_written(&mut registers))

@@ -163,7 +163,7 @@ const LOOKS: [(&str, u32); 11] = [
     ("harm junk 0 1", 2),
 ];
 
-/// The place of the first event at which a judge looks at another number of tallies, if any.
+/// The place of the first event at which a judge looks at a different number of tallies, if any.
 fn first_other_look(judge: &mut Judge) -> Option<usize> {
     for (at, (line, looks)) in LOOKS.iter().enumerate() {
         if looked(judge, line) != Some(*looks) {
@@ -174,13 +174,13 @@ fn first_other_look(judge: &mut Judge) -> Option<usize> {
 }
 
 /// How many tallies a judge of two nodes looks at first, and the place of the first event at which
-/// it looks at another number.
+/// it looks at a different number.
 fn looks(alloc: Global) -> Result<(u32, Option<usize>), Fail> {
     let mut judge = Judge::new(world_of_two(alloc, alloc)?);
     Ok((judge.looked(), first_other_look(&mut judge)))
 }
 
 #[test]
-fn a_step_looks_at_two_tallies_except_where_a_sweep_ends(rt: HostRuntime) -> Result<(), Fail> {
+fn a_step_looks_at_two_tallies_unless_a_sweep_ends(rt: HostRuntime) -> Result<(), Fail> {
     as_expected(looks(rt.alloc()), &(0, None))
 }

@@ -42,8 +42,8 @@ fn read_failed(heap: &LocalHeap, net: &Net, piece: usize, calls: u64) -> Option<
 /// The most bytes of a read.
 const PIECES: [usize; 3] = [1, 7, 4096];
 
-/// The first size of pieces, and number of reads before, at which a read wrongly fails or does not
-/// fail.
+/// The first size of pieces, and the number of reads before the failing one, with which a read
+/// wrongly fails or does not fail.
 fn first_unlike_read(heap: &LocalHeap, net: &Net) -> Option<(usize, u64)> {
     for piece in PIECES {
         // As many reads as there are pieces, and one that finds the end.
@@ -57,7 +57,7 @@ fn first_unlike_read(heap: &LocalHeap, net: &Net) -> Option<(usize, u64)> {
     None
 }
 
-/// The same on its own heap.
+/// The same on a heap of its own.
 fn unlike_read_of(alloc: Global, net: &Net) -> Result<Option<(usize, u64)>, Fail> {
     let heap = LocalHeap::new(alloc, 65536)?;
     Ok(first_unlike_read(&heap, net))

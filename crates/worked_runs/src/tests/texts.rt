@@ -25,8 +25,8 @@ node 0 distance 2 parent none token no lent none waiting 0
 node 1 distance 2 parent none token no lent none waiting 0
 ";
 
-/// What is shown after two nodes if nothing is on their links, no node is privileged, and no sweep has
-/// passed.
+/// What is shown after the lines of two nodes if nothing is on their links, no node is privileged, and
+/// no sweep has passed.
 pub const TWO_AT_REST: &str = "\
 link 0 1 items 0
 link 1 0 items 0
@@ -51,8 +51,8 @@ pub fn joined(alloc: Global, texts: &[&str]) -> Result<String, AllocError> {
     Ok(all)
 }
 
-/// One round of a network: each node ticks, and then each sends to each neighbour, which takes, so
-/// often that one more item goes over than the link holds.
+/// One round of a network: each node ticks, and then each sends to each neighbour, which takes, until
+/// one more item than the link holds has gone over.
 pub fn round_of(alloc: Global, net: &Net) -> Result<String, AllocError> {
     let mut text = String::new(alloc);
     for v in 0..net.nodes() {

@@ -49,7 +49,7 @@ pub fn happen<A: Allocator + Copy>(world: &mut World<A>, text: &str) -> bool {
     accepted
 }
 
-/// The place of the first line that a world answers otherwise, if any.
+/// The place of the first line that a world answers differently, if any.
 pub fn first_unlike<A: Allocator + Copy>(
     world: &mut World<A>,
     rows: &[(&str, Result<(), EventFault>)],

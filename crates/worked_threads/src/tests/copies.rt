@@ -28,7 +28,7 @@ fn in_words(ended: &Result<Woven, RunFault>) -> &'static str {
 }
 
 /// Runs fifty turns of two nodes, and says how that ended. If all memory is taken once the threads
-/// are started, that counts only if there was none until the last turn was done.
+/// are started, that counts only if there was no memory until the last turn was done.
 fn ran_in_words<R: Threads + Wait + Sync>(
     rt: &R,
     alloc: Global,
@@ -59,8 +59,8 @@ fn in_a_copy(rt: HostRuntime) -> Result<(), Fail> {
     Ok(())
 }
 
-/// A script with which a shell becomes its first word, for that test, with as many kilobytes of
-/// addresses as the second says; a thread's stack takes 8,192 of them.
+/// A script with which a shell becomes the program that is its first word, for that test, with as
+/// many kilobytes of addresses as the second word says; a thread's stack takes 8,192 of them.
 const LIMITED: &str = "ulimit -S -s 8192; ulimit -v $1; exec \"$0\" tests::copies::in_a_copy";
 
 /// The words for that shell, and the variable that makes the copy run nodes.
@@ -85,7 +85,8 @@ fn copy_says<R: Processes + AllocGlobal>(
 /// How many kilobytes a copy has, what the variable says there, and what the copy says.
 type Row = (&'static str, &'static str, &'static str);
 
-/// Room for no stack, for one, for both, and for both with a full heap once they started.
+/// Room for no stack, for one, for both, and for both with a full heap once the threads are
+/// started.
 const ROWS: [Row; 4] = [
     ("6000", "open", "refused\n"),
     ("12000", "open", "refused\n"),
@@ -104,7 +105,7 @@ fn first_unlike<R: Files + Processes + AllocGlobal>(rt: &R) -> Result<Option<usi
     Ok(None)
 }
 
-/// A refused start leaves a run, and once its threads are started a run asks for no memory.
+/// A refused start still gives a run; and once its threads are started, a run asks for no memory.
 #[test]
 fn runs_with_little_memory_end(rt: HostRuntime) -> Result<(), Fail> {
     as_expected(first_unlike(&rt), &None)

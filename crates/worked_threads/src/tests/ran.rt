@@ -98,7 +98,7 @@ pub fn shown<A: Allocator + Copy>(alloc: Global, world: &World<A>) -> Result<Mem
     Ok(sink)
 }
 
-/// Whether a world is shown by that text.
+/// Whether this is the text that shows a world.
 pub fn is_shown_as<A: Allocator + Copy>(
     alloc: Global,
     world: &World<A>,

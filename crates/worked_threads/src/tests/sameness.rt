@@ -3,7 +3,7 @@ use node_follower::Follower;
 use std::alloc::{AllocError, Global};
 use world::{Links, World};
 
-/// Whether a node of one world stands as that of the other.
+/// Whether a node is the same in both worlds.
 fn is_same_node(alloc: Global, one: &World, other: &World, id: u16) -> bool {
     if id >= one.net().nodes() || id >= other.net().nodes() {
         return false;

@@ -9,15 +9,15 @@ use test_parts::as_expected;
 use thread_net::{Meet, Pace, Woven};
 use world::{Event, World};
 
-/// How often each of three nodes ticked in ten turns, and whether the gate gave up at which all
-/// meet before their first turn.
+/// How often each of three nodes ticked in ten turns, and whether the gate at which all meet before
+/// their first turn gave up.
 fn ten_turns<R: Threads + Wait + Sync>(rt: &R, alloc: Global) -> Result<([usize; 3], bool), Fail> {
     let gate = Meet::new(3);
     let woven = made(ran(rt, alloc, line(alloc, 0)?, 10, &gate))?;
     Ok((ticks(&woven.events), gate.gave_up()))
 }
 
-/// All nodes are at the gate at one time, so each has its own thread.
+/// All nodes are at the gate at the same time, so each has its own thread.
 #[test]
 fn nodes_meet_before_their_first_turn(rt: HostRuntime) -> Result<(), Fail> {
     as_expected(ten_turns(&rt, rt.alloc()), &([10; 3], false))

@@ -5,8 +5,11 @@ ghost use Rattle.arrayvec.specs.ArrayString.{array_string_len};
 use arrayvec::ArrayString;
 use itoa::Buffer;
 
-/// A line under way. The longest has three words and two numbers.
-pub type Line = ArrayString<96>;
+/// The most bytes of a line under way. The longest has three words and two numbers.
+const MOST_BYTES: usize = 96;
+
+/// A line under way.
+pub type Line = ArrayString<MOST_BYTES>;
 
 /// Adds a word and a number.
 pub fn push_number(line: &mut Line, word: &str, number: u64)

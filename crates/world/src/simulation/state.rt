@@ -11,6 +11,9 @@ use byte_streams::{Failed, Sink, write_all};
 use judge::Configuration;
 use std::alloc::Allocator;
 
+/// The most bytes of a node's status line, with its newline.
+const STATUS_BYTES: usize = 96;
+
 /// Writes the text that shows a world with this count of sweeps.
 pub fn write_state<A: Allocator + Copy, W: Sink>(
     configuration: &Configuration<A>,
@@ -35,7 +38,7 @@ fn write_nodes<A: Allocator + Copy, W: Sink>(
         (W.taken sink.new) (W.failures sink.old) (W.failures sink.new) }
 {
     for v in 0..configuration.net().nodes() {
-        let mut line = [0; 96];
+        let mut line = [0; STATUS_BYTES];
         let len = configuration.node(v).status(&mut line);
         write_all(sink, &line[..len])?;
     }

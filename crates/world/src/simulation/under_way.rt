@@ -60,7 +60,7 @@ impl<A: Allocator + Copy> Simulation<A> {
         sink: &mut W,
     ) -> Result<(), SimFault>
         requires { self.old.lines ≡ 0 }
-        // No line counts twice: there are at most as many as a text may have bytes.
+        // No line is counted twice: there are at most as many lines as a text may have bytes.
         ensures lines { OnOk result (self.new.lines ≤ longest_text) }
         // What its whole lines spell has happened, and their refusals are written.
         ensures text { ReadsAll self.old (R.rest source.old) (W.taken sink.old) result self.new
@@ -99,7 +99,7 @@ impl<A: Allocator + Copy> Simulation<A> {
         requires { self.old.lines < 2 ^ 64 - 1 }
         // The last line counts even if no newline ended it; then comes the state.
         ensures text { EndsThere self.old (W.taken sink.old) result (W.taken sink.new) }
-        // It has come to the world that the events of the text lead to.
+        // The simulation has come to the world that the events of the text lead to.
         ensures led { LeadsThere self.old (W.taken sink.old) result self.new }
         ensures failures { CountsFailures result (W.failures sink.old) (W.failures sink.new) }
         ensures err { IfErr result (λ fault. fault ≡ Write) }
@@ -125,7 +125,7 @@ impl<A: Allocator + Copy> Simulation<A> {
         self.judge.into_world()
     }
 
-    /// The last line of the text, if no newline ended it.
+    /// Runs the last line of the text, if no newline ended it.
     fn last_line<W: Sink>(&mut self, sink: &mut W) -> Result<(), Failed>
         requires { self.old.lines < 2 ^ 64 - 1 }
         ensures runs { RunsLast self.old (W.taken sink.old) result self.new (W.taken sink.new) }
@@ -163,7 +163,7 @@ impl<A: Allocator + Copy> Simulation<A> {
         Ok(())
     }
 
-    /// The next line, as [`Simulation::line`] runs it, for the rare kinds of lines.
+    /// Runs the next line as [`Simulation::line`] does, for the rare kinds of lines.
     #[inline(never)]
     fn rare_line<W: Sink>(&mut self, line: TextLine, sink: &mut W) -> Result<(), Failed>
         requires { self.old.lines < 2 ^ 64 - 1 }
@@ -176,7 +176,7 @@ impl<A: Allocator + Copy> Simulation<A> {
         self.line(line, sink)
     }
 
-    /// The next line: lets its event happen, or reports it as refused.
+    /// Runs the next line: lets its event happen, or reports it as refused.
     // A separate call would write the event to memory for each line, and read it again.
     #[inline(always)]
     fn line<W: Sink>(&mut self, line: TextLine, sink: &mut W) -> Result<(), Failed>

@@ -6,7 +6,7 @@ use Rattle.topology.specs.Network.{neighbours_of}
 use Rattle.node_core.specs.Site.{Site}
 use Rattle.node_core.specs.View.{site_in, state_of}
 use Rattle.state_writing.specs.Spelling.{header_numbers, port_numbers}
-use Rattle.state_writing.specs.declared.layout.Layout.TheVariants.{Tkt2}
+use Rattle.state_writing.specs.declared.layout.FileLayout.TheVariants.{Tkt2}
 use Rattle.state_writing.proofs.Numbers.{neighbour_below, on_ok, port_more}
 use Rattle.state_writing.proofs.writing.numbers_of.Goals as goal
 

@@ -3,7 +3,7 @@ use Rattle.std.specs.List.{flat_map}
 use Rattle.arrayvec.specs.ArrayVec.{array_vec_len}
 use Rattle.node_core.specs.View.{site_in, state_of}
 use Rattle.state_writing.specs.Spelling.{header_numbers, port_numbers}
-use Rattle.state_writing.specs.declared.layout.Layout.TheVariants.{Tkt2}
+use Rattle.state_writing.specs.declared.layout.FileLayout.TheVariants.{Tkt2}
 use Rattle.state_writing.proofs.writing.numbers_of.Given as goal
 
 -- the numbers of the header and of the ports so far

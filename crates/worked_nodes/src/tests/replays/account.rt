@@ -4,7 +4,7 @@ use std::cell::Cell;
 /// The bytes of a frame's line, with its newline.
 pub const LINE: usize = 22;
 
-/// The room for the deeds of a turn. Five nodes have far fewer.
+/// The room for the deeds of a turn. Five nodes have far fewer deeds.
 const ROOM: usize = 64;
 
 /// A frame's line on a connection.
@@ -60,13 +60,14 @@ impl Account {
         }
     }
 
-    /// A turn begins.
+    /// Begins a turn: forgets the deeds of the one before.
     pub fn clear(&self) {
         self.count.set(0);
         self.heard.set(0);
     }
 
-    /// Adds a deed that was done while the node listened, before its tick, or else spoke.
+    /// Adds a deed. It was done while the node listened, before its tick, if `is_heard`, and else
+    /// while it spoke.
     pub fn add(&self, deed: Deed, is_heard: bool) {
         let count = self.count.get();
         let mut deeds = self.deeds.get();

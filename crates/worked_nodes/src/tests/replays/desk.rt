@@ -1,7 +1,7 @@
 //! The tickets of a node's clients.
 use std::cell::Cell;
 
-/// How many clients are connected to a node at most.
+/// The most clients that are connected to a node.
 pub const CLIENTS: usize = 3;
 
 /// The tickets that no client of a node has; the last one is given next. A node gives freed tickets
@@ -35,7 +35,7 @@ impl Desk {
         Some(ticket)
     }
 
-    /// A client's connection was dropped, so its ticket is free.
+    /// Frees the ticket of a client whose connection was dropped.
     pub fn free(&self, ticket: u16) {
         let count = self.count.get();
         let mut tickets = self.tickets.get();

@@ -42,7 +42,7 @@ pub type Counts = [u64; 5];
 pub struct Replay {
     world: World,
     judge: Judge,
-    /// For each node a second one, with which it is compared.
+    /// For each node, a second one with which it is compared.
     followers: Vec<Follower>,
     /// The lines that were sent, and neither taken nor lost yet.
     under_way: Vec<Line>,
@@ -80,7 +80,7 @@ impl Replay {
         })
     }
 
-    /// One event happens.
+    /// Lets one event happen.
     fn step(&mut self, event: &Event) -> Result<(), Wrong> {
         self.events = self.events.saturating_add(1);
         let answer = self.world.step(event);
@@ -159,7 +159,7 @@ impl Replay {
         Ok(there + 1 == capacity)
     }
 
-    /// A line was sent.
+    /// Replays a line that was sent.
     fn send(&mut self, line: &Line) -> Result<(), Wrong> {
         self.lose_older(line)?;
         if self.fills(line)? {
@@ -172,7 +172,7 @@ impl Replay {
         self.step(&Event::Send { from, to })
     }
 
-    /// A line was taken.
+    /// Replays a line that was taken.
     fn take(&mut self, line: &Line) -> Result<(), Wrong> {
         self.lose_older(line)?;
         let Some(place) = self
@@ -190,7 +190,7 @@ impl Replay {
         self.step(&Event::Take { from, to })
     }
 
-    /// A node did a deed.
+    /// Replays a deed of a node.
     fn follow(&mut self, node: u16, deed: Deed) -> Result<(), Wrong> {
         match deed {
             Deed::Takes(line) => self.take(&line),
@@ -200,7 +200,7 @@ impl Replay {
         }
     }
 
-    /// A node made a turn; `ticked` says whether it ticked.
+    /// Replays a turn of a node; `ticked` says whether the node ticked.
     pub fn turn(&mut self, node: u16, account: &Account, ticked: bool) -> Result<(), Wrong> {
         if !ticked {
             self.attended = self.attended.saturating_add(1);
@@ -216,7 +216,7 @@ impl Replay {
         Ok(())
     }
 
-    /// Whether this is the world's node.
+    /// Checks that this is the world's node.
     pub fn compare(&mut self, node: &Node) -> Result<(), Wrong> {
         let id = node.id();
         if id >= self.world.net().nodes() {

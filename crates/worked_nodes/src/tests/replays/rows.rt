@@ -70,7 +70,7 @@ fn turns_of_three_and_of_five_nodes_are_a_run(rt: HostRuntime) -> Result<(), Fai
 /// How many of the first seeds are run with each mistake.
 const MISTAKEN: u64 = 6;
 
-/// Mistakes, and as what each may be found. A frame that comes twice is not the oldest under way.
+/// Mistakes, and what each may be found as. A frame that comes twice is not the oldest under way.
 /// One that was dropped, or taken in secret, stays under way: the next take meets it, or the link is
 /// full before that. A secret take or ask changes the node, and a frame that it sends then differs
 /// too.

@@ -72,7 +72,7 @@ fn runs_of<'a>(
     Ok(runs)
 }
 
-/// A client says or does something, unless it has said what nobody read yet, or has closed.
+/// Lets a client say or do something, unless what it said is still unread, or it has closed.
 fn stir(client: &Pair, draw: u32) {
     if !client.up.is_idle() {
         return;

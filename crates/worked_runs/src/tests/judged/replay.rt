@@ -81,7 +81,8 @@ impl Plain {
             .get_mut(from.saturating_mul(NODES).saturating_add(to))
     }
 
-    /// Nobody asks for the lock, so each tick is full; and each event is accepted.
+    /// Lets an event happen. Nobody asks for the lock, so each tick is full; and each event is
+    /// accepted.
     fn step(&mut self, event: &Event) {
         match *event {
             Event::Tick { node } => {
@@ -99,7 +100,7 @@ impl Plain {
         }
     }
 
-    /// A full link loses what is sent.
+    /// Sends an item; a full link loses it.
     fn send(&mut self, from: usize, to: usize) {
         if let Some(link) = self.link(from, to) {
             link.holds_item = true;
@@ -172,7 +173,8 @@ fn rounds_with_gaps(alloc: Global, round: &str, count: usize) -> Result<Vec<Even
     Ok(events)
 }
 
-/// Whether a judge keeps the same of its stretch as the direct count, for each node and each link.
+/// Whether a judge and the direct count keep the same about their stretch, for each node and each
+/// link.
 fn agree(judge: &mut Judge, plain: &Plain) -> bool {
     for from in 0..4 {
         for to in 0..4 {

@@ -212,7 +212,7 @@ fn wanted_with_room(case: &Case, room: usize) -> (Result<Summary, SimFault>, boo
     (answer, true)
 }
 
-/// The first number of bytes of a sink with another result, if any.
+/// The first number of bytes of a sink with a different result, if any.
 fn first_wrong_room(alloc: Global) -> Result<Option<usize>, Fail> {
     let case = case_of_two(alloc)?;
     for room in 0..=case.output.len() {

@@ -21,7 +21,7 @@ pub returns-clause-judging : goal.returns-clause-judging
 returns-clause-judging g c =
     let start = world_of c.args.world in
     let kept = subst (λ w. IsKept (world_of w) [] c.begin.new.stretch) c.world.view_is c.begin.ensures.kept in
-    let seen = judging-starts c.below.ensures start c.begin.new.stretch c.assure_ranges.ensures kept in
+    let seen = judging-starts c.below.ensures start c.begin.new.stretch c.ranges_hold.ensures kept in
     let now = subst (λ w. IsJudging start [] (world_of w) c.begin.new.stretch 0 0) (sym c.world.view_is) seen in
     record {
       judging = subst (λ s. IsJudging start [] (world_of c.world.inside.configuration) s 0 0) (sym c.clear_looked.ensures)

@@ -3,7 +3,7 @@ use Rattle.topology.specs.Layout.{network_of, IsLayoutOf}
 use Rattle.topology.specs.Network.{Network, IsAcceptedNetwork}
 use Rattle.topology.specs.Change.{is_same_frame}
 use Rattle.topology.proofs.Accepting.{same_net, same_with_edges}
-use Rattle.topology.proofs.LaidOut.{laid_out_anew, rows_for}
+use Rattle.topology.proofs.LaidOut.{laid_out_again, rows_for}
 use Rattle.topology.proofs.net.Net.copy_from.Goals as goal
 
 pub write-requires-clause-rows : goal.write-requires-clause-rows
@@ -17,7 +17,7 @@ invariant_of-self g c =
     let edges : c.write_edges.new.list.items ≡ c.other.inside.edges.items = c.write_edges.ensures.edges ∙ c.deref.ensures.value in
     let ok : IsAcceptedNetwork new = same_with_edges net (network_of c.other.inside) c.write_edges.new.list.items frame edges c.other.invariant.0.network in
     let is : IsLayoutOf new.nodes new.edges new.root c.write.new.self = rw c.deref-2.ensures.value at c.write.ensures in
-    (laid_out_anew new c.write.new.self ok is, record { for_edges = omega (arith, c.write_edges.ensures.room, c.self.invariant.1.for_edges); for_neighbours = is.room })
+    (laid_out_again new c.write.new.self ok is, record { for_edges = omega (arith, c.write_edges.ensures.room, c.self.invariant.1.for_edges); for_neighbours = is.room })
 
 pub write-requires-clause-root_in : goal.write-requires-clause-root_in
 write-requires-clause-root_in g c = c.self.invariant.0.network.limits.root_in

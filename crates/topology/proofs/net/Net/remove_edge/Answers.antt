@@ -3,7 +3,7 @@ use Rattle.std.proofs.lemmas.List.Edits.{length-remove}
 use Rattle.topology.specs.Layout.{network_of, IsLayoutOf}
 use Rattle.topology.specs.Network.{Network}
 use Rattle.topology.specs.Change.{without_place}
-use Rattle.topology.proofs.LaidOut.{laid_out, laid_out_anew, all_connected, not_connected, rows_for, rows_again}
+use Rattle.topology.proofs.LaidOut.{laid_out, laid_out_again, all_connected, not_connected, rows_for, rows_again}
 use Rattle.topology.proofs.Changed.{put_back_value}
 use Rattle.topology.proofs.Accepting.{removed_limits}
 use Rattle.topology.proofs.net.Net.remove_edge.Goals as goal
@@ -33,7 +33,7 @@ invariant_of-self g c =
     let within : c.args.place < length net.edges = rw (← c.self.view_is) at c.requires in
     let same : c.put_edge.new.list.items ≡ net.edges = rw (c.put_edge.ensures.edges, c.remove-edge.ensures.items) (put_back_value net.edges c.args.place c.remove-edge.result within c.remove-edge.ensures.value) in
     let is : IsLayoutOf net.nodes net.edges net.root c.write-then-has_unreached.new.self = rw (c.deref-then-has_unreached.ensures.value, same) at c.write-then-has_unreached.ensures in (
-      rw same (laid_out_anew net c.write-then-has_unreached.new.self c.self.invariant.0.network is),
+      rw same (laid_out_again net c.write-then-has_unreached.new.self c.self.invariant.0.network is),
       record { for_edges = omega (arith, c.put_edge.ensures.room, c.remove-edge.ensures.capacity, c.self.invariant.1.for_edges); for_neighbours = is.room },
     )
 

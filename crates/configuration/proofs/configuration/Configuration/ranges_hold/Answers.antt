@@ -1,7 +1,7 @@
 use Rattle.std.proofs.Common.{◌≡◌, ◌<◌, ◌≤◌, ap, arith}
 use Rattle.configuration.specs.ConfigurationView.{ConfigurationView, node_at}
 use Rattle.configuration.proofs.WorldRanges.{AreInRange, next-in_range, read-node, world-in_range}
-use Rattle.configuration.proofs.configuration.Configuration.assure_ranges.Goals as goal
+use Rattle.configuration.proofs.configuration.Configuration.ranges_hold.Goals as goal
 
 pub loop-v-preserved : goal.loop-v-preserved
 loop-v-preserved g c =
