@@ -1,5 +1,5 @@
 -- Small edges with links of one place, whose numbers are 0 to 4, and what holds of them
-use Rattle.std.proofs.Common.{◌≡◌, ℕ, true, false, None, zero, suc, ◌++◌, List, [], ◌∷◌, refl, ap, arith, rules}
+use Rattle.std.proofs.Common.{◌≡◌, ℕ, true, false, None, zero, suc, ◌+◌, ◌++◌, List, [], ◌∷◌, length, refl, ap, arith, rules}
 use Rattle.std.proofs.lemmas.Grind.{common_steps}
 use Rattle.link_model.specs.topology.declared.frame.Frame.{Frame}
 use Rattle.link_model.specs.topology.declared.frame.Payload.{Payload}
@@ -7,6 +7,7 @@ use Rattle.link_model.specs.declared.item.Item.{Item}
 use Rattle.link_model.specs.declared.item.Item.TheVariants as item
 use Rattle.data_link.specs.Port.{PortState}
 use Rattle.data_link.specs.Edge.{EdgeState, EdgeEvent, SendOut, SendBack, TakeOut, TakeBack, LoseOut, IsStable, IsStableWith, edge_run, edge_step_with, moves_in}
+use Rattle.data_link.specs.Edge.{CarriesItsPayload, link_ring, modulus_of, newest_first, payload_under}
 use Rattle.data_link.specs.Sweep.{IsSweep, is_out_renewed, is_back_renewed}
 
 abbrev old : Payload
@@ -24,10 +25,105 @@ port n m s c = record { seq = n; last = m; staged = s; copy = c }
 abbrev frame : ℕ → ℕ → Payload → Frame
 frame n m p = record { seq = n; ack = m; payload = p }
 
--- ---- stable links
-
 abbrev edge : ℕ → Payload → ℕ → Payload → List Item → List Item → EdgeState
 edge n staged m copy out back = record { near = port n 0 staged old; far = port 0 m old copy; out = out; back = back }
+
+-- ---- the numbers on a link
+
+-- three frames and noise, the oldest first
+abbrev three_frames : List Item
+three_frames = item.Frame (frame 1 3 old) ∷ item.Noise ∷ item.Frame (frame 2 0 old) ∷ item.Frame (frame 4 1 new) ∷ []
+
+-- the number of the newest frame, which stands last, comes first, and noise has none
+newest_number_first : newest_first (λ f. f.seq) three_frames ≡ 4 ∷ 2 ∷ 1 ∷ []
+newest_number_first = refl
+
+-- the acknowledgements come in the same order
+newest_acknowledgement_first : newest_first (λ f. f.ack) three_frames ≡ 1 ∷ 0 ∷ 3 ∷ []
+newest_acknowledgement_first = refl
+
+-- the oldest does not come first
+not_oldest_first : ¬ (newest_first (λ f. f.seq) three_frames ≡ 1 ∷ 2 ∷ 4 ∷ [])
+not_oldest_first e = grind arith
+
+-- noise alone gives no number
+no_number_of_noise : newest_first (λ f. f.seq) (item.Noise ∷ []) ≡ []
+no_number_of_noise = refl
+
+-- an item with a number of this direction: near sends the one, and far the other
+abbrev sent : ℕ → Item
+sent n = item.Frame (frame n 0 old)
+
+abbrev acknowledged : ℕ → Item
+acknowledged m = item.Frame (frame 0 m old)
+
+-- links of two places, full of frames; each number of the other direction is 0
+abbrev full : EdgeState
+full = edge 6 new 3 old (sent 4 ∷ sent 5 ∷ []) (acknowledged 1 ∷ acknowledged 2 ∷ [])
+
+-- the ring goes out with the newest frame first, to far, and back with the newest acknowledgement first
+ring_round : link_ring full ≡ 6 ∷ 5 ∷ 4 ∷ 3 ∷ 2 ∷ 1 ∷ []
+ring_round = refl
+
+-- it does not take the frames in the order in which they stand on their links
+ring_not_oldest_first : ¬ (link_ring full ≡ 6 ∷ 4 ∷ 5 ∷ 3 ∷ 1 ∷ 2 ∷ [])
+ring_not_oldest_first e = grind arith
+
+-- without frames it is near's number and the last number that far accepted
+ring_of_two : link_ring (edge 2 new 1 old [] (item.Noise ∷ [])) ≡ 2 ∷ 1 ∷ []
+ring_of_two = refl
+
+-- there is one number more than such a ring has places if its links are full of frames
+one_number_more : (modulus_of 2 ≡ 7) × (modulus_of 2 ≡ length (link_ring full) + 1)
+one_number_more = (refl, refl)
+
+-- links of the greatest capacity
+most_numbers : modulus_of 4096 ≡ 8195
+most_numbers = refl
+
+-- as many numbers as there are places, four with links of one place, are too few
+not_as_many_as_places : ¬ (modulus_of 1 ≡ 4)
+not_as_many_as_places e = grind arith
+
+-- ---- the payloads on a link
+
+-- it sends the new payload under number 2; the copy that came to it under number 1 is not sent
+abbrev sender : PortState
+sender = port 2 1 new old
+
+-- the staged payload belongs to the port's own number
+under_its_number : payload_under sender later 2 ≡ new
+under_its_number = refl
+
+-- the other payload belongs to each other number, also to the last one that the port accepted
+under_other_numbers : (payload_under sender later 1 ≡ later) × (payload_under sender later 3 ≡ later)
+under_other_numbers = (refl, refl)
+
+-- the staged payload does not belong to the number after its own
+not_under_the_next : ¬ (payload_under sender later 3 ≡ new)
+not_under_the_next e = let d : 0 ≡ 1 = ap (λ (p : Payload). p.distance) e in omega (arith, d)
+
+-- noise passes whatever is staged
+carries_noise : CarriesItsPayload sender later item.Noise
+carries_noise = tt
+
+-- the staged payload comes with the port's number
+carries_staged : CarriesItsPayload sender later (item.Frame (frame 2 0 new))
+carries_staged = refl
+
+-- the other payload comes with another number, also if the frame acknowledges the port's number
+carries_other : CarriesItsPayload sender later (item.Frame (frame 0 2 later))
+carries_other = refl
+
+-- the number is the port's, the payload is not
+carries_not_other : CarriesItsPayload sender later (item.Frame (frame 2 0 later)) → ⊥
+carries_not_other h = let e : 0 ≡ 1 = ap (λ (p : Payload). p.distance) h in omega (arith, e)
+
+-- the payload is the port's, the number is not
+carries_not_staged : CarriesItsPayload sender later (item.Frame (frame 0 2 new)) → ⊥
+carries_not_staged h = let e : 1 ≡ 0 = ap (λ (p : Payload). p.distance) h in omega (arith, e)
+
+-- ---- stable links
 
 -- the new payload is on its way under number 2, and far still has the old one, under number 1
 stable : IsStable 1 (edge 2 new 1 old (item.Frame (frame 2 0 new) ∷ []) (item.Frame (frame 0 1 old) ∷ []))
