@@ -14,6 +14,7 @@ pub mod TurnWindows
 pub mod FullTicks
 mod RowsTiming
 mod RowsTimes
+mod RowsDeeds
 mod RowsLoans
 pub mod OneDeed
 pub mod OwnFrames
