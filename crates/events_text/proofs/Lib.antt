@@ -1,4 +1,5 @@
 pub mod Rows
+pub mod RowsWords
 pub mod EventSpelling
 pub mod EventReading
 pub mod UsualLines
