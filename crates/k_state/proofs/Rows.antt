@@ -1,7 +1,8 @@
 -- Small rings, and what holds of them
 use Rattle.std.proofs.Common.{◌≡◌, ℕ, [], ◌∷◌, refl, arith, rules, true, false, map}
 use Rattle.k_state.specs.Machine.{root_moved, is_privileged}
-use Rattle.k_state.specs.Ring.{Written, Further, Moved, Run, Done, Move_first, Change_first, IsParallel, IsGood, IsFresh, HasFront, is_privileged_at}
+use Rattle.k_state.specs.Ring.{Written, Further, Moved, Run, Done, Move_first, Change_first, IsParallel}
+use Rattle.k_state.specs.Ring.{IsGood, IsFresh, HasFront, head_of, is_privileged_at}
 use Rattle.k_state.specs.Ages.{age, HasFallingAges}
 use Rattle.k_state.proofs.Parallel.{joined}
 
@@ -13,6 +14,17 @@ special_where_equal = (refl, refl)
 
 other_where_different : (is_privileged false 3 3 ≡ false) × (is_privileged false 3 4 ≡ true)
 other_where_different = (refl, refl)
+
+-- the head is the first item, neither the last nor the least nor the greatest
+head-first : head_of (2 ∷ 5 ∷ 0 ∷ []) ≡ 2
+head-first = refl
+
+head_not-last : ¬ (head_of (2 ∷ 5 ∷ 0 ∷ []) ≡ 0)
+head_not-last e = grind (arith, e)
+
+-- the only item is the head
+head-alone : head_of (4 ∷ []) ≡ 4
+head-alone = refl
 
 good : IsGood 7 (2 ∷ 2 ∷ 2 ∷ 1 ∷ 1 ∷ 1 ∷ [])
 good = search rules

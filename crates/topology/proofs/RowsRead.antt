@@ -1,12 +1,14 @@
 -- What the members of a file give, and texts and values that are a network or none.
 use Rattle.std.proofs.Common.{◌≡◌, ℕ, ℤ, pos, true, false, List, [], ◌∷◌, None, Some, Ok, Err, refl, ap, sym, inl, inr, codes, arith}
-use Rattle.toml.specs.Data.{Data, Members, no_items, item, no_members, member, integer, boolean, array}
+use Rattle.std.proofs.Common.{suc, ◌++◌, drop, map, replicate, take}
+use Rattle.toml.specs.Data.{Data, Members, no_items, item, no_members, member, integer, boolean, array, string}
 use Rattle.toml.specs.Parse.{parse_document}
 use Rattle.topology.specs.Network.{Network}
 use Rattle.topology.specs.declared.fault.NetFault.TheVariants.{NotToml, Missing, Shape, TooSmall, Apart, BadRoot}
 use Rattle.topology.specs.Refusal.{as_ends, values_of, is_outside, is_twice}
 use Rattle.topology.specs.Accept.{IsAccepted, IsRefused, IsNotJoined}
-use Rattle.topology.specs.Reading.{has_key, integer_at, ends_of, all_ends, edges_at, read_members, read_document}
+use Rattle.topology.specs.Reading.{has_key, has_keys, integer_at, ends_of, all_ends, edges_at}
+use Rattle.topology.specs.Reading.{values_in, shaped, read_members, read_document, read_text}
 use Rattle.topology.specs.ReadNet.{IsReadFrom, IsUnread}
 use Rattle.topology.proofs.Rows.{two, line, apart, edge, values, two-accepted, two-connected, apart-refused}
 
@@ -73,6 +75,68 @@ edges-there = refl
 edges_not-a-number : edges_at (codes "root") (file (integer (pos 0)) one_edge) ≡ None
 edges_not-a-number = refl
 
+-- ---- all five keys
+
+abbrev five : List (List ℕ)
+five = codes "lease" ∷ codes "edges" ∷ codes "capacity" ∷ codes "root" ∷ codes "nodes" ∷ []
+
+-- the members with these keys, each of them `false`
+abbrev under : List (List ℕ) → Members
+under [] = no_members
+under (key ∷ keys) = member key (boolean false) (under keys)
+
+-- the keys are there in any order, whatever their values are
+keys-there : has_keys (under five) ≡ true
+keys-there = refl
+
+-- four of them are not enough, whichever is missing
+keys_not-four :
+    map (λ i. has_keys (under (take i five ++ drop (suc i) five))) (0 ∷ 1 ∷ 2 ∷ 3 ∷ 4 ∷ []) ≡ replicate 5 false
+keys_not-four = refl
+
+-- a key that no file needs does not replace one that is missing
+keys_not-other : has_keys (under (codes "notes" ∷ drop 1 five)) ≡ false
+keys_not-other = refl
+
+-- the members of a file with a title, in another order than that of the values
+abbrev titled : Data → Data → Data → Data → Data → Members
+titled nodes root capacity lease edges =
+    member (codes "edges") edges (member (codes "lease") lease (member (codes "title") (string (codes "hall"))
+    (member (codes "capacity") capacity (member (codes "root") root (member (codes "nodes") nodes no_members)))))
+
+abbrev two_edges : Data
+two_edges = array (item (pair (pos 0) (pos 1)) (item (pair (pos 2) (pos 1)) no_items))
+
+-- each value is that of its own key
+values-in : values_in (titled (integer (pos 3)) (integer (pos 7)) (integer (pos 5)) (integer (pos 9)) two_edges)
+    ≡ Some (values (pos 3) (pos 7) (pos 5) (pos 9) ((pos 0, pos 1) ∷ (pos 2, pos 1) ∷ []))
+values-in = refl
+
+-- there are none if one value has a wrong shape, whichever it is
+values_not-shape : map values_in (
+    titled (string (codes "3")) (integer (pos 7)) (integer (pos 5)) (integer (pos 9)) two_edges
+    ∷ titled (integer (pos 3)) (boolean true) (integer (pos 5)) (integer (pos 9)) two_edges
+    ∷ titled (integer (pos 3)) (integer (pos 7)) two_edges (integer (pos 9)) two_edges
+    ∷ titled (integer (pos 3)) (integer (pos 7)) (integer (pos 5)) (string []) two_edges
+    ∷ titled (integer (pos 3)) (integer (pos 7)) (integer (pos 5)) (integer (pos 9)) (pair (pos 0) (pos 1)) ∷ [])
+    ≡ replicate 5 None
+values_not-shape = refl
+
+-- there are none if a key is missing
+values_not-four : values_in (member (codes "root") (integer (pos 0)) (member (codes "capacity") (integer (pos 1))
+    (member (codes "lease") (integer (pos 0)) (member (codes "edges") one_edge no_members)))) ≡ None
+values_not-four = refl
+
+-- values are given as they are, even if no network has them
+shaped-given : shaped (Some (values (pos 1) (pos 7) (pos 0) (pos 9) [])) ≡ Ok (values (pos 1) (pos 7) (pos 0) (pos 9) [])
+shaped-given = refl
+
+-- if there are none, that is a wrong shape, not a missing key
+shaped_not-missing : shaped None ≡ Err Shape
+shaped_not-missing = refl
+
+-- ---- values and edges of a network
+
 -- the values of a network are those that its file names
 values-named : values_of line ≡ values (pos 3) (pos 0) (pos 1) (pos 0) ((pos 0, pos 1) ∷ (pos 1, pos 2) ∷ [])
 values-named = refl
@@ -128,6 +192,14 @@ not_joined_not-root none = none
 -- ---- texts: of the grammar we say only what document it finds
 
 module _ (text : List ℕ) where
+  -- a text gives the values of its document, or no values if it has none
+  text-values : parse_document text ≡ Some (file (integer (pos 0)) one_edge)
+      → read_text text ≡ Ok (values (pos 2) (pos 0) (pos 1) (pos 0) edge)
+  text-values found = ap read_document found
+
+  text_not-toml : parse_document text ≡ None → read_text text ≡ Err NotToml
+  text_not-toml found = ap read_document found
+
   read-from : parse_document text ≡ Some (file (integer (pos 0)) one_edge) → IsReadFrom text two
   read-from found = (values_of two, ap read_document found, accepted)
 
