@@ -14,6 +14,7 @@ mod Rounds
 mod PrivilegeStays
 mod Answered
 mod RowsTour
+mod RowsLegs
 mod RowsLegitimate
 mod RowsMoves
 mod Desks
@@ -24,3 +25,6 @@ mod Passes
 mod Served
 mod RowsServed
 mod RowsService
+mod RowsSettled
+mod RowsClosure
+mod RowsSaid

@@ -1,6 +1,6 @@
 -- Two nodes and links of capacity 1: the token ring after the first rounds, a legitimate world,
 -- and worlds that fail in just one way each.
-use Rattle.std.proofs.Common.{◌≡◌, ℕ, List, [], ◌∷◌, IsTrue, ◌==◌, ◌&&◌, refl, ap, inl, arith}
+use Rattle.std.proofs.Common.{◌≡◌, ℕ, List, [], ◌∷◌, IsTrue, ◌==◌, ◌&&◌, refl, ap, inl, arith, rules}
 use Rattle.std.proofs.lemmas.Bool.{false≢true}
 use Rattle.std.specs.Prelude.{if◌then◌else◌}
 use Rattle.topology.specs.declared.frame.Payload.{Payload}
@@ -56,11 +56,28 @@ ring-not_good h = grind arith
 pub forged-not_legitimate : ¬ IsLegitimate forged
 forged-not_legitimate l = ring-not_good l.ring
 
+-- node 0's machine has the value 0, and node 1 has not yet copied it: its own values are all x
+abbrev before_zero : ℕ → World
+before_zero x = record {
+  net = two_nodes;
+  spares = 0;
+  node = λ v. if v == 0 then node_with 0 no_desk 0 0 x else node_with 1 no_desk x x 0;
+  link = calm.link;
+}
+
+-- two nodes have the ring values 0 to 6, so 6 is one less than 0
+ring-good_across_zero : (token_ring (before_zero 6) ≡ (0 ∷ 0 ∷ 0 ∷ 6 ∷ 6 ∷ 6 ∷ [])) × IsTokenRingGood (before_zero 6)
+ring-good_across_zero = (refl, search rules)
+
+-- and 5 is not
+ring-not_good_two_less : ¬ IsTokenRingGood (before_zero 5)
+ring-not_good_two_less h = grind arith
+
 -- a world with other desks and links, whose tree is reached all the same
-abbrev like_calm : (ℕ → DeskState) → (ℕ → ℕ → List Item) → World
+abbrev pub like_calm : (ℕ → DeskState) → (ℕ → ℕ → List Item) → World
 like_calm desk link = record { net = two_nodes; spares = 0; node = λ v. node_with v (desk v) 0 0 0; link = link }
 
-reached-like_calm : (desk : ℕ → DeskState) (link : ℕ → ℕ → List Item) → IsTreeReached (like_calm desk link)
+pub reached-like_calm : (desk : ℕ → DeskState) (link : ℕ → ℕ → List Item) → IsTreeReached (like_calm desk link)
 reached-like_calm desk link = record {
   distance = calm-tree_reached.distance;
   parent = calm-tree_reached.parent;
@@ -101,7 +118,7 @@ unprivileged-serves = record {
 
 -- a frame is under way to node 1 with the number of node 0's port, and a ring value that node 0 has
 -- not staged
-abbrev late : World
+abbrev pub late : World
 late = like_calm (λ v. no_desk) (λ u v. if (u == 0) && (v == 1) then Frame (record { seq = 0; ack = 0; payload = shown 0 3 }) ∷ [] else [])
 
 late-tree_reached : IsTreeReached late
@@ -113,7 +130,7 @@ late-ring_good = calm-is_legitimate.ring
 late-lends_not : lending_count late ≡ 0
 late-lends_not = refl
 
-late-links_not_stable : ¬ AreLinksStable late
+pub late-links_not_stable : ¬ AreLinksStable late
 late-links_not_stable links = let same = ap (λ (p : Payload). p.ring) (links 0 1 refl).out.0 in absurd (omega (arith, same))
 
 late-not_legitimate : ¬ IsLegitimate late

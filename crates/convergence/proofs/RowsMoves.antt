@@ -1,4 +1,4 @@
--- Rows: a token ring with too few values, and the moves of a head.
+-- Rows: a token ring with too few values, and the moves of a head and of other machines.
 use Rattle.std.proofs.Common.{◌≡◌, ◌≢◌, ℕ, zero, suc, ◌⊎◌, inl, inr, List, [], ◌∷◌, ◌++◌, refl, subst, ◌+◌, arith}
 use Rattle.std.specs.List.{AllByRecursion}
 use Rattle.topology.specs.Network.{Network}
@@ -7,7 +7,13 @@ use Rattle.k_state.specs.Ring.{Change, Written, Further, HeadMove, Moved, IsFron
 use Rattle.run_model.specs.Start.{default_world}
 use Rattle.run_model.specs.declared.event.Event.{Event}
 use Rattle.run_model.specs.declared.event.Event.TheVariants.{Send, Take, Tick}
+use Rattle.run_model.specs.World.{World}
+use Rattle.run_model.specs.Step.{step}
+use Rattle.run_model.specs.Run.{run}
+use Rattle.run_model.proofs.RowsTwo.{calm}
+use Rattle.run_model.proofs.RowsServing.{two_tokens}
 use Rattle.convergence.specs.Moves.{head_move, head_moves}
+use Rattle.convergence.specs.RingService.{MachineMove}
 
 -- ---- The token ring needs more values than it has places: with 4 values on the 6 places of two
 -- nodes it may go round for ever and never be good.
@@ -81,3 +87,56 @@ two_moves_in_seven_rounds = refl
 -- it does not move in a tick before the root has a tree neighbour
 no_move_at_first : head_move (default_world two_nodes) (Tick 0) ≡ 0
 no_move_at_first = refl
+
+-- if all values are equal, a tick of the root moves the head
+move-of_the_root : head_move calm (Tick 0) ≡ 1
+move-of_the_root = refl
+
+-- a move of node 1's machine is none of the head
+another-machine_moves : ((two_tokens.node 1).value 0 ≡ 1) × (((step two_tokens (Tick 1)).node 1).value 0 ≡ 0)
+another-machine_moves = (refl, refl)
+
+no-move_of_the_head : head_move two_tokens (Tick 1) ≡ 0
+no-move_of_the_head = refl
+
+-- the head moves again only once its new value has come round
+one-move_in_two_ticks : head_moves calm (Tick 0 ∷ Tick 0 ∷ []) ≡ 1
+one-move_in_two_ticks = refl
+
+-- a run without events has no move
+no-events : head_moves calm [] ≡ 0
+no-events = refl
+
+-- ---- the moves of a node's machines
+
+-- node 0's machine from 1 moves in the second event
+machine-moves : MachineMove calm (Tick 1 ∷ Tick 0 ∷ Tick 1 ∷ []) 0
+machine-moves = record {
+  machine = 1;
+  before = Tick 1 ∷ [];
+  event = Tick 0;
+  after = Tick 1 ∷ [];
+  parts = refl;
+  moves = λ e. let same : ◌≡◌ {A = ℕ} 1 0 = e in absurd cc;
+}
+
+-- if a run of one event leaves the values of a node's machines, none of them moves
+single-event : (w : World) (a : Event) (v t : ℕ) → (((step w a).node v).value t ≡ (w.node v).value t)
+    → (before after : List Event) (e : Event) → a ∷ [] ≡ before ++ e ∷ after
+    → ((step (run w before) e).node v).value t ≡ ((run w before).node v).value t
+single-event w a v t rests [] after e parts =
+    let same : a ≡ e = cc in
+    subst (λ x. ((step w x).node v).value t ≡ (w.node v).value t) same rests
+single-event w a v t rests (b ∷ []) after e parts = absurd cc
+single-event w a v t rests (b ∷ c ∷ before) after e parts = absurd cc
+
+-- node 1's machine does not move in a tick of node 0
+not-in_another_tick : ¬ MachineMove calm (Tick 0 ∷ []) 1
+not-in_another_tick m = m.moves (single-event calm (Tick 0) 1 m.machine refl m.before m.after m.event m.parts)
+
+-- nor in its own, in which it takes the value that it has
+at-rest : (t : ℕ) → ((step calm (Tick 1)).node 1).value t ≡ (calm.node 1).value t
+at-rest t = grind arith
+
+not-without_a_change : ¬ MachineMove calm (Tick 1 ∷ []) 1
+not-without_a_change m = m.moves (single-event calm (Tick 1) 1 m.machine (at-rest m.machine) m.before m.after m.event m.parts)

@@ -25,11 +25,11 @@ abbrev waiting_desk : DeskState
 waiting_desk = record { waiting = 7 ∷ []; lent = None; left = 0; served = false }
 
 -- the calm world, except that ticket 7 waits at node 1
-abbrev asking : World
+abbrev pub asking : World
 asking = record { net = two_nodes; spares = 0; node = λ v. node_with v (if v == 0 then no_desk else waiting_desk) 0 0 0; link = λ u v. [] }
 
 -- both nodes tick, and a frame goes each way
-abbrev least : List Event
+abbrev pub least : List Event
 least = Tick 0 ∷ Tick 1 ∷ Send 0 1 ∷ Take 0 1 ∷ Send 1 0 ∷ Take 1 0 ∷ []
 
 -- the same if a loan of node 1 begins: ticket 7 releases the lock, and node 1 makes a full tick
@@ -37,7 +37,7 @@ abbrev lending : List Event
 lending = Tick 0 ∷ Tick 1 ∷ Leave 1 7 ∷ Tick 1 ∷ Send 0 1 ∷ Take 0 1 ∷ Send 1 0 ∷ Take 1 0 ∷ []
 
 -- one stretch after the other
-abbrev joined : List (List Event) → List Event
+abbrev pub joined : List (List Event) → List Event
 joined [] = []
 joined (es ∷ ess) = es ++ joined ess
 
@@ -70,7 +70,7 @@ sweep-of_two w es same holds =
       renewed = λ u v edge. each-link (λ i j. IsTrue (is_renewed w es i j)) d.0 d.1 u v (subst (λ (n : Network). IsTrue (are_joined n.edges u v)) same edge);
     }
 
-sweeps-of_two : (w : World) (ess : List (List Event)) → AreSweeps w ess → Sweeps w (length ess) (joined ess)
+pub sweeps-of_two : (w : World) (ess : List (List Event)) → AreSweeps w ess → Sweeps w (length ess) (joined ess)
 sweeps-of_two w [] all = tt
 sweeps-of_two w (es ∷ ess) all = (es, joined ess, refl, sweep-of_two w es all.0 all.1, sweeps-of_two (run w es) ess all.2)
 
@@ -86,7 +86,7 @@ stretches =
 abbrev events : List Event
 events = joined stretches
 
-asking-in_range : IsWorldInRange asking
+pub asking-in_range : IsWorldInRange asking
 asking-in_range = record {
   network = is-accepted;
   nodes = each-node (λ v. IsNodeInRange (site asking v) (asking.node v))
@@ -96,7 +96,7 @@ asking-in_range = record {
   items = λ u v joined. All-nil (λ item. IsTrue (item_fits (ranges_of two_nodes) item));
 }
 
-asking-is_legitimate : IsLegitimate asking
+pub asking-is_legitimate : IsLegitimate asking
 asking-is_legitimate = record {
   links = calm-links_stable;
   tree = record {
