@@ -27,6 +27,21 @@ out-and_back = (refl, refl)
 no-place : (value_at table 0 0 ≡ 0) × (value_at table 1 1 ≡ 0)
 no-place = (refl, refl)
 
+-- each direction has its own link
+between-two : (link_between links 0 1 ≡ link 1 (Noise ∷ [])) × (link_between links 1 0 ≡ link 1 [])
+between-two = (refl, refl)
+
+between_not-turned : ¬ (link_between links 1 0 ≡ link 1 (Noise ∷ []))
+between_not-turned e = let items : ◌≡◌ {A = List Item} [] (Noise ∷ []) = ap (λ (l : LinkView). l.items) e in absurd cc
+
+-- the first link is marked by its capacity: it stands for the link of a node to itself, and for
+-- one that would come from no node
+abbrev marked : LinksView
+marked = record links { links = link 7 [] ∷ link 1 [] ∷ link 1 [] ∷ [] }
+
+between-missing : (link_between marked 0 0 ≡ link 7 []) × (link_between marked 2 0 ≡ link 7 [])
+between-missing = (refl, refl)
+
 one-under_way : under_way links 0 1 ≡ Noise ∷ []
 one-under_way = refl
 

@@ -12,6 +12,7 @@ use Rattle.node_core.specs.State.{LocalState, default_node}
 use Rattle.node_core.specs.Machines.{before, is_node_privileged, is_special, may_move, moved_value, payload_for, ring_for, tree_of}
 use Rattle.node_core.specs.Step.{copied_distance, desk_done, heard, item_fits, machines_moved, recomputed, taken, ticked}
 use Rattle.node_core.specs.Rewire.{rewired}
+use Rattle.node_core.specs.Writes.{own_fits}
 use Rattle.node_core.specs.Status.{status_line}
 
 abbrev two : Network
@@ -166,6 +167,14 @@ items_fit = (refl, refl)
 
 item_fits_not : item_fits (ranges_of two) (item.Frame (frame_with 3)) ≡ false
 item_fits_not = refl
+
+-- distance 2 is the greatest on two nodes, and the parent is one of them, or none
+own_fit : (own_fits (ranges_of two) 2 (Some 1) ≡ true) × (own_fits (ranges_of two) 0 None ≡ true)
+own_fit = (refl, refl)
+
+-- neither a greater distance fits, nor a parent that is no node
+own_fit_not : (own_fits (ranges_of two) 3 (Some 1) ≡ false) × (own_fits (ranges_of two) 2 (Some 2) ≡ false)
+own_fit_not = (refl, refl)
 
 -- a frame is heard at the port of its neighbour, and at no other
 heard_there : ((heard far 0 (frame_with 2) (child_with 3 4)).port 0).copy ≡ (frame_with 2).payload

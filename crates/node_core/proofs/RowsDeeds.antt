@@ -1,13 +1,14 @@
 -- Deeds of one node, small enough to check by hand.
-use Rattle.std.proofs.Common.{◌≡◌, ℕ, List, [], ◌∷◌, false, refl, ap, rules, arith}
+use Rattle.std.proofs.Common.{◌≡◌, ℕ, List, [], ◌∷◌, Some, true, false, refl, ap, rules, arith}
 use Rattle.std.proofs.lemmas.Grind.{common_steps}
-use Rattle.lock_desk.specs.Desk.{no_desk}
+use Rattle.std.specs.List.{range_with_len}
+use Rattle.lock_desk.specs.Desk.{DeskState, no_desk}
 use Rattle.node_core.specs.Site.{Site}
 use Rattle.node_core.specs.State.{LocalState, default_node}
 use Rattle.registers.specs.topology.declared.frame.Ranges.{Ranges}
 use Rattle.registers.specs.topology.declared.frame.Frame.{Frame}
 use Rattle.data_link.specs.Port.{frame_of}
-use Rattle.node_core.specs.Deeds.{Ticks, Sends, Takes, Asks, Leaves, Leads, taken_from, sent_to}
+use Rattle.node_core.specs.Deeds.{Ticks, Sends, Takes, Asks, Leaves, after_ask, Leads, taken_from, sent_to}
 
 -- node 1 of a line of three, which is not the root
 abbrev sizes : Ranges
@@ -21,6 +22,29 @@ start = default_node sizes
 
 abbrev with_waiting : List ℕ → LocalState
 with_waiting tickets = record start { desk = record no_desk { waiting = tickets } }
+
+-- ticket 5 borrows, and 8 and 7 wait
+abbrev lending : DeskState
+lending = record { waiting = 8 ∷ 7 ∷ []; lent = Some 5; left = 2; served = true }
+
+-- a ticket that asks waits after both, and nothing else changes
+ask-waits_last : after_ask 6 lending ≡ record lending { waiting = 8 ∷ 7 ∷ 6 ∷ [] }
+ask-waits_last = refl
+
+-- the one that borrows and one that waits are refused, and change nothing
+ask-refused : (after_ask 5 lending ≡ lending) × (after_ask 8 lending ≡ lending)
+ask-refused = (refl, refl)
+
+-- 64 tickets wait, and one more changes nothing
+abbrev crowd : DeskState
+crowd = record no_desk { waiting = range_with_len 0 64 }
+
+ask-full : after_ask 64 crowd ≡ crowd
+ask-full = refl
+
+-- a ticket that asks does not wait in front of others
+ask_not-first : ¬ ((after_ask 6 lending).waiting ≡ 6 ∷ 8 ∷ 7 ∷ [])
+ask_not-first e = absurd cc
 
 -- two tickets ask, the one that asks again is refused, and the first leaves
 two-ask : Leads middle (Asks 7 ∷ Asks 8 ∷ Asks 7 ∷ Leaves 7 ∷ []) start (with_waiting (8 ∷ []))

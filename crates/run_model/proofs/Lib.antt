@@ -28,3 +28,4 @@ pub mod RowsFaults
 mod RowsHappened
 mod RowsChange
 mod RowsParts
+mod RowsRewire

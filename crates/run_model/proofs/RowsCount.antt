@@ -5,7 +5,7 @@ use Rattle.link_model.specs.topology.Network.{are_joined}
 use Rattle.run_model.specs.World.{World}
 use Rattle.run_model.specs.Run.{run}
 use Rattle.run_model.specs.Sweep.{has_full_tick, is_renewed, IsSweep}
-use Rattle.run_model.specs.Count.{IsSweepCount}
+use Rattle.run_model.specs.Count.{IsGreatestCount, after_damage, IsSweepCount}
 use Rattle.run_model.specs.Greedy.{IsUnfinished, IsCounted}
 use Rattle.run_model.specs.Stretch.{old_items}
 use Rattle.run_model.specs.declared.event.Event.{Event}
@@ -62,6 +62,52 @@ not-yet_two = counted-greatest start 1 least nearly are-joined refl one-counted.
 none-since_damage : IsSweepCount start (least ++ Damage (harm.Empty 0 1) ∷ nearly) 0
 none-since_damage = counted-greatest (run start (least ++ Damage (harm.Empty 0 1) ∷ [])) 0 [] nearly are-joined refl refl
     (unrenewed (run start (least ++ Damage (harm.Empty 0 1) ∷ [])) nearly 1 0 refl refl)
+
+-- ---- the greatest count, whether or not there was damage
+
+-- the two sweeps are all that their list holds
+greatest-two : IsGreatestCount start (least ++ least) 2
+greatest-two = two-sweeps
+
+-- one is not the greatest number, since a second sweep follows the first
+greatest_not-one : ¬ IsGreatestCount start (least ++ least) 1
+greatest_not-one count = count.no_more (least, least, refl, least-is_sweep, (least, [], refl, again-is_sweep, tt))
+
+-- a list that lacks the last event of a sweep does not hold one
+greatest_not-unfinished : ¬ IsGreatestCount start nearly 1
+greatest_not-unfinished count = unrenewed start nearly 1 0 refl refl count.held.0 count.held.1 count.held.2 count.held.3
+
+-- ---- the moment after the last damage
+
+-- of two accepted harms the last counts: its value is written, and the send is still to come
+abbrev harms : List Event
+harms = Damage (harm.Value 0 1 6) ∷ Tick 1 ∷ Damage (harm.Value 0 1 5) ∷ Send 0 1 ∷ []
+
+moment-after_last : ((after_damage start harms).rest ≡ Send 0 1 ∷ []) × (((after_damage start harms).world.node 0).value 1 ≡ 5)
+    × ((after_damage start harms).world.link 0 1 ≡ [])
+moment-after_last = (refl, refl, refl)
+
+moment_not-after_first : ¬ ((after_damage start harms).rest ≡ Tick 1 ∷ Damage (harm.Value 0 1 5) ∷ Send 0 1 ∷ [])
+moment_not-after_first e = absurd cc
+
+-- nothing is to come if the last event is damage
+abbrev broken : List Event
+broken = Send 0 1 ∷ Damage (harm.Empty 0 1) ∷ []
+
+moment-at_the_end : after_damage start broken ≡ record { world = run start broken; rest = [] }
+moment-at_the_end = refl
+
+-- it is the start if there is no damage, and a refused harm is none
+moment-at_start : after_damage start least ≡ record { world = start; rest = least }
+moment-at_start = refl
+
+abbrev refused : List Event
+refused = Send 0 1 ∷ Damage (harm.Value 0 1 7) ∷ []
+
+moment-at_refused : after_damage start refused ≡ record { world = start; rest = refused }
+moment-at_refused = refl
+
+-- ---- old items
 
 -- an old item that is taken or lost is one old item fewer; a new item does not count
 old-taken : old_items (run start (Send 0 1 ∷ [])) (Take 0 1 ∷ Send 0 1 ∷ []) 0 1 ≡ 0
