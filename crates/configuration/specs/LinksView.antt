@@ -17,7 +17,7 @@ pub record LinksView : Type 0 where
   pub links : List LinkView
   pub spares : List ℕ
 
--- the link from u to v; the first link stands for all missing ones
+-- the link from u to v, if v is a node; the first link stands for all missing ones
 abbrev pub link_between : LinksView → ℕ → ℕ → LinkView
 link_between l u v = slice_index_or l.links (value_at l.places u v) (link 0 [])
 

@@ -20,8 +20,8 @@ can_join net u v = not (u == v) && (not (are_joined net.edges u v) && nat_lt (le
 abbrev pub can_part : Network → ℕ → ℕ → Bool
 can_part net u v = is_connected (parted_net net u v)
 
--- the node v with its neighbours in another network: its data for a neighbour that stays is kept,
--- and that for a new neighbour is as at the start
+-- the node v with its neighbours in another network of as many nodes: its data for a neighbour that
+-- stays is kept, and all other data for neighbours is as at the start
 abbrev pub node_in : World → Network → ℕ → LocalState
 node_in w net v = rewired (ranges_of w.net) (neighbours_of w.net v) (neighbours_of net v) (w.node v)
 
