@@ -27,4 +27,5 @@ mod RowsServed
 mod RowsService
 mod RowsSettled
 mod RowsClosure
+mod RowsVisited
 mod RowsSaid

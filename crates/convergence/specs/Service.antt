@@ -1,5 +1,5 @@
 -- The nodes that the privilege visits, and the desks that it passes.
-use Rattle.std.specs.Prelude.{◌≡◌, ◌≢◌, ℕ, zero, suc, ◌+◌, ◌-◌, ◌*◌, ◌<◌, ◌⊎◌, List, [], ◌∷◌, length}
+use Rattle.std.specs.Prelude.{◌≡◌, ◌≢◌, ℕ, zero, suc, ◌+◌, ◌-◌, ◌*◌, ◌<◌, ◌⊎◌, List, [], ◌∷◌, ◌++◌, length}
 use Rattle.std.specs.Prelude.{Bool, true, false, ◌==◌, ◌&&◌, ◌||◌, IsTrue, IsFalse}
 use Rattle.tree_convergence.specs.lock_desk.Act.{desk_act}
 use Rattle.tree_convergence.specs.lock_desk.Desk.{waits, borrows}
@@ -7,7 +7,7 @@ use Rattle.tree_convergence.specs.lock_desk.declared.act.DeskAct.TheVariants.{Lo
 use Rattle.topology.specs.Eccentricity.{sharp_of}
 use Rattle.run_model.specs.World.{World, IsWorldInRange}
 use Rattle.run_model.specs.Step.{step}
-use Rattle.run_model.specs.Run.{is_damage, IsUndamaged}
+use Rattle.run_model.specs.Run.{run, is_damage, IsUndamaged}
 use Rattle.run_model.specs.Privilege.{is_lending}
 use Rattle.run_model.specs.Sweep.{Sweeps}
 use Rattle.run_model.specs.Visited.{is_privileged_once}
@@ -22,11 +22,18 @@ LegitimateVisits =
     → v < w.net.nodes
     → Sweeps w (16 * (w.net.nodes - 1)) es → IsTrue (is_privileged_once w es v)
 
--- from any world, at some moment of this many sweeps after it became legitimate
+-- the run comes to a legitimate world, and then, or at a later moment of the run, v is privileged
+abbrev pub IsVisitedOnceLegitimate : World → List Event → ℕ → Type 0
+IsVisitedOnceLegitimate w es v =
+    (first : List Event) × (rest : List Event) × (es ≡ first ++ rest)
+    × IsLegitimate (run w first) × IsTrue (is_privileged_once (run w first) rest v)
+
+-- from any world, over this many sweeps the world becomes legitimate, and each node is privileged then
+-- or later
 abbrev pub EachStateVisits : Type 0
 EachStateVisits =
     (w : World) (es : List Event) (v : ℕ) → IsWorldInRange w → IsUndamaged w es → v < w.net.nodes
-    → Sweeps w (sharp_of w.net + 16 * (w.net.nodes - 1)) es → IsTrue (is_privileged_once w es v)
+    → Sweeps w (sharp_of w.net + 16 * (w.net.nodes - 1)) es → IsVisitedOnceLegitimate w es v
 
 -- If a machine of v moves while a ticket waits at its desk, the desk had served, or a loan ends
 -- in that very tick,

@@ -85,8 +85,9 @@ pub fn sharp()
 }
 
 /// Service: from a legitimate world, over every list of events without damage, each node is
-/// privileged at some moment of any 16(n - 1) sweeps; from any other world, this holds once it is
-/// legitimate. The privilege passes a desk at which a ticket waits only if the desk had served, or
+/// privileged at some moment of any 16(n - 1) sweeps. From any other world, over that many sweeps
+/// more than the sharper bound, the world becomes legitimate, and each node is privileged at some
+/// moment after that. The privilege passes a desk at which a ticket waits only if the desk had served, or
 /// a loan ends in that very tick; after that the desk is ready to lend. So a ticket that waits
 /// after i others, and does not leave while it waits, is lent the lock within 8(n - 1)(i + 2)
 /// sweeps.

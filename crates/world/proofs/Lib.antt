@@ -4,6 +4,8 @@ mod SimulatedBytes
 mod SimulatedEnd
 pub mod SimulatedPieces
 mod RowsSimulated
+mod RowsLines
+mod RowsAnswers
 mod Headline
 mod Visits
 mod RowsRuns

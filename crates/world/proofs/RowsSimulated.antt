@@ -10,10 +10,10 @@ use Rattle.events_text.specs.EventsText.{text_lines}
 use Rattle.world.specs.SimulatedText.{refusal_line, refusals_of, refused_lines, simulated_start, said_events, simulated_text}
 use Rattle.world.specs.StateText.{link_line, counts_line, sweeps_line}
 
-abbrev two_nodes : Network
+abbrev pub two_nodes : Network
 two_nodes = record { nodes = 2; root = 0; capacity = 1; lease = 0; edges = (0, 1) ∷ [] }
 
-abbrev start : World
+abbrev pub start : World
 start = default_world two_nodes
 
 -- how the numbers below are spelled
@@ -68,7 +68,7 @@ shown-sweeps : sweeps_line start 5 ≡ codes "sweeps 5 of " ++ decimal 69 ++ cod
 shown-sweeps = rw five-is
 
 -- the simulated text of no events
-abbrev nothing_happened : List ℕ
+abbrev pub nothing_happened : List ℕ
 nothing_happened =
     codes "node 0 distance 2 parent none token no lent none waiting 0\nnode 1 distance 2 parent none token no lent none waiting 0\n"
     ++ codes "link 0 1 items 0\nlink 1 0 items 0\nprivileged 0 lending 0\nsweeps 0 of " ++ decimal 69 ++ codes "\n"

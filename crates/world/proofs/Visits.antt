@@ -1,5 +1,6 @@
 -- After enough sweeps, the mask of visited nodes has the bit of each node.
-use Rattle.std.proofs.Common.{◌≡◌, ◌∙◌, sym, ap, subst, ℕ, ◌+◌, ◌-◌, ◌*◌, ◌<◌, ◌≤◌, Bool, ◌&&◌, nat_lt, if◌then◌else◌, IsTrue, List, [], ◌∷◌, arith, refl}
+use Rattle.std.proofs.Common.{◌≡◌, ◌∙◌, sym, ap, subst, ℕ, ◌+◌, ◌-◌, ◌*◌, ◌<◌, ◌≤◌, Bool, ◌&&◌, nat_lt, if◌then◌else◌, IsTrue, List, [], ◌∷◌, ◌++◌, arith, refl}
+use Rattle.std.proofs.lemmas.Bool.{or_right}
 use Rattle.std.proofs.lemmas.Grind.{common_steps}
 use Rattle.topology.specs.Network.{Network, IsAcceptedNetwork, bound_of}
 use Rattle.topology.specs.Eccentricity.{SharpWithinBound, sharp_of}
@@ -9,6 +10,7 @@ use Rattle.judge.specs.run_model.Run.{run, IsUndamaged}
 use Rattle.judge.specs.run_model.Sweep.{Sweeps}
 use Rattle.judge.specs.run_model.Count.{Moment, after_damage, IsSweepCount}
 use Rattle.judge.specs.run_model.Laws.{FewerSweeps, NetworkStays, FrameStays, MomentLeads}
+use Rattle.judge.specs.run_model.Privilege.{is_privileged}
 use Rattle.judge.specs.run_model.Visited.{is_privileged_once, is_visited}
 use Rattle.judge.specs.run_model.declared.event.Event.{Event}
 use Rattle.convergence.specs.Legitimate.{IsLegitimate}
@@ -25,6 +27,12 @@ at-start w (e ∷ es) fine = ap (λ b. if b then after_damage (step w e) es else
 
 bit-is : (mask v n : ℕ) (visited : Bool) → has_bit mask v ≡ (nat_lt v n && visited) → v < n → IsTrue visited → IsTrue (has_bit mask v)
 bit-is mask v n visited same l there = grind (arith, common_steps)
+
+-- a moment of the rest of a list is a moment of the list
+once-late : (w : World) (first rest : List Event) (v : ℕ) → IsTrue (is_privileged_once (run w first) rest v) → IsTrue (is_privileged_once w (first ++ rest) v)
+once-late w [] rest v once = once
+once-late w (e ∷ first) rest v once =
+    or_right (is_privileged w v) (is_privileged_once (step w e) (first ++ rest) v) (once-late (step w e) first rest v once)
 
 module _ (fewer : FewerSweeps) (network : NetworkStays) (frame : FrameStays) (leads : MomentLeads) (start : World) (es : List Event) (ok : IsWorldInRange start)
     (sweeps count : ℕ) (counts : IsSweepCount start es count) (same : sweeps ≡ counted_up_to count) (mask : ℕ) (visited : AreVisited start es mask) where
@@ -47,7 +55,8 @@ module _ (fewer : FewerSweeps) (network : NetworkStays) (frame : FrameStays) (le
         let led = leads start es ok in
         let few : sharp_of after.world.net + 16 * (after.world.net.nodes - 1) ≤ count = subst (λ n. sharp_of n + 16 * (n.nodes - 1) ≤ count) (sym then-is) (omega (arith, enough, same)) in
         let held = fewer after.world (sharp_of after.world.net + 16 * (after.world.net.nodes - 1)) count after.rest few counts.held in
-        let once = law after.world after.rest v led.0 led.1 (subst (λ n. v < n.nodes) (sym then-is) l) held in
+        let late = law after.world after.rest v led.0 led.1 (subst (λ n. v < n.nodes) (sym then-is) l) held in
+        let once = subst (λ xs. IsTrue (is_privileged_once after.world xs v)) (sym late.2) (once-late after.world late.0 late.1 v late.4) in
         let nodes : net.nodes ≡ start.net.nodes = ap (λ n. n.nodes) net-is ∙ (frame start es).nodes in
         bit-is mask v start.net.nodes (is_visited start es v) (visited v) (subst (λ n. v < n) nodes l) once
 
