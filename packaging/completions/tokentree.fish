@@ -17,7 +17,7 @@ complete -c tokentree -n '__fish_seen_subcommand_from bound; and not contains --
 complete -c tokentree -n '__fish_seen_subcommand_from bound; and not contains -- -- (commandline -opc)' -l time -d 'Also show how long recovery and a grant take'
 complete -c tokentree -n '__fish_seen_subcommand_from bound; and not contains -- -- (commandline -opc)' -l turn -x -d 'Each node gets a turn in this time [default: 2.2]'
 complete -c tokentree -n '__fish_seen_subcommand_from bound; and not contains -- -- (commandline -opc)' -l delay -x -d 'A frame arrives within this time [default: 0.1]'
-complete -c tokentree -n '__fish_seen_subcommand_from bound; and not contains -- -- (commandline -opc)' -l loan -x -d 'A loan ends within this time [default: 0]'
+complete -c tokentree -n '__fish_seen_subcommand_from bound; and not contains -- -- (commandline -opc)' -l loan -x -d 'A loan ends within this time [default: repeat + delay]'
 complete -c tokentree -n '__fish_seen_subcommand_from bound; and not contains -- -- (commandline -opc)' -l repeat -x -d 'A frame is repeated after this time [default: 8]'
 complete -c tokentree -n __fish_use_subcommand -f -a simulate -d 'Replays a list of events, and shows the state that they lead to'
 complete -c tokentree -n '__fish_seen_subcommand_from simulate; and not contains -- -- (commandline -opc)' -l layers -d 'Show what has settled at the end, too'

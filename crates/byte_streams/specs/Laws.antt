@@ -3,7 +3,7 @@ use Rattle.std.specs.Prelude.{◌≡◌, ℕ, ◌+◌, ◌<◌, ◌≤◌, List,
 use Rattle.byte_streams.specs.Streams.{Gives, HasRead}
 
 -- A text is read in pieces: after what has been read comes what the next read gives, and at a read
--- that gives nothing all has been read.
+-- that has room and gives nothing, all has been read.
 pub record PiecesMakeTheText : Type 0 where
   pub more : (bytes : List ℕ) (n count : ℕ) (before after : Option (List ℕ)) (buffer : List ℕ)
       → HasRead n bytes before → Gives count before after buffer → HasRead (n + count) bytes after

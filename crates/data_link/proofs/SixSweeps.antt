@@ -1,5 +1,7 @@
--- Six sweeps make a link stable: after two each number is one that near has had since; a move then
--- leaves near's number fresh, and the next one mends the rest
+-- Six sweeps make a link stable. After 2C + 2 moves of near's number it is so anyway. With fewer,
+-- the only numbers on the link after the first two sweeps are those that near has had since. The
+-- next two contain a move, which leaves near's number fresh, and the last two contain the move that
+-- mends the rest
 use Rattle.std.proofs.Common.{◌≡◌, ℕ, ◌+◌, ◌*◌, ◌<◌, ◌≤◌, ◌⊎◌, inl, inr, List, [], ◌∷◌, ◌++◌, sym, ◌∙◌, ap, subst, arith}
 use Rattle.std.proofs.lemmas.Bool.{cases_lt}
 use Rattle.std.proofs.lemmas.Grind.{common_steps}

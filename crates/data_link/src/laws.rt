@@ -52,9 +52,8 @@ pub fn turns_stable()
     k_state_laws::fresh_value();
 }
 
-/// A link becomes stable within six sweeps, whatever its capacity. After the first two, the only
-/// numbers on it are those that its sender has had since; the next two contain a move to a number
-/// that is nowhere else; and the last two contain the move that makes the link stable.
+/// A link is stable after six sweeps, whatever its capacity. The proof that all links of a world
+/// are stable after as many sweeps needs this.
 pub fn six_sweeps()
     ensures { StableAfterSixSweeps }
 {

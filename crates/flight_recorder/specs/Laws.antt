@@ -44,9 +44,10 @@ abbrev pub added : ℕ → Noted → RecorderView → List Entry
 added instant n r =
     if is_passed_over n r || has_no_room r then [] else entry_noted instant n r ∷ []
 
--- A note adds its entry; a page that is written goes to the end of the file; if that is full, a record of
--- no entries is begun. A recorder that goes on after the front of a file, with what comes after it cut off,
--- holds that front. Reading the file and then the page gives the entries of the front and then these very
+-- A note adds its entry, unless it is passed over or there is no room; a page that is written goes to the
+-- end of the file; if that is full, a record of no entries is begun. A recorder that goes on after the front
+-- of a file, with what comes after it cut off, holds that front. If these entries name their frames, reading
+-- the file and then the page gives the entries of the front and then short forms that stand for these very
 -- entries.
 pub record FilesAreRecords : Type 0 where
   pub noted : (front : List ℕ) (base : ℕ) (r : RecorderView) (file : List ℕ) (es : List Entry) (instant : ℕ) (n : Noted)

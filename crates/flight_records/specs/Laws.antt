@@ -189,8 +189,8 @@ StandFor v (s ∷ ss) [] = ⊥
 StandFor v (s ∷ ss) (e ∷ es) =
     (lengthened v s.noted ≡ Some e.noted) × (s.instant ≡ e.instant) × StandFor (frames_after v e.noted) ss es
 
--- Entries in their short forms stand for those very entries, may stand one after the other if those
--- may, and grow entry by entry.
+-- The short forms of entries that name their frames stand for those very entries. Short forms may
+-- stand one after the other if the entries may, and grow entry by entry.
 pub record ShortFormsStand : Type 0 where
   pub stand : (v : FramesView) (es : List Entry) → AllByRecursion (λ e. IsLong e.noted) es
       → StandFor v (short_entries v es) es

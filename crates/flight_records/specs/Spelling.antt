@@ -9,7 +9,8 @@ abbrev pub numbers : ℕ → Entry → List ℕ
 numbers last e = kind e.noted ∷ (e.instant - last) ∷ fields e.noted
 
 -- The check of some bytes: with it, their sum leaves 255 over 256. So no zeros pass, and no change
--- of one byte does. It is the modular sum of Intel's hexadecimal object files, complemented.
+-- of one byte that keeps the entry's length does. It is the modular sum of Intel's hexadecimal
+-- object files, complemented.
 abbrev pub check : List ℕ → ℕ
 check bytes = 255 - sum bytes % 256
 

@@ -31,8 +31,9 @@ pub fn records_grow()
     ensures { RecordsGrow }
 {}
 
-/// Entries in their short forms stand for those very entries. Code that notes a frame that came
-/// again as the last one of its link, and code that reads the record, rely on this law.
+/// The short forms of entries that name their frames stand for those very entries. Code that notes
+/// a frame that came again as the last one of its link, and code that reads the record, rely on
+/// this law.
 pub fn short_forms_stand()
     ensures { ShortFormsStand }
 {}

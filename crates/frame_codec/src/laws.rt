@@ -3,9 +3,9 @@ ghost use Rattle.frame_codec.specs.Laws.{OneReading, AnyCutting, JunkEndsAtNewli
 
 use byte_lines::laws as byte_lines_laws;
 
-/// A line is read as a frame exactly if it is the frame's spelling and the frame is in range. So
-/// what is encoded is read again, no two frames share a line, and no other line is read. Code that
-/// sends frames as text relies on it.
+/// A line is read as a frame exactly if it is the frame's spelling and the frame is in range. So a
+/// frame in range that is encoded is read again, no two frames in range share a line, and no other
+/// line is read. Code that sends frames as text relies on it.
 pub fn one_reading()
     ensures { OneReading }
 {}

@@ -1,4 +1,5 @@
--- A good ring has one boundary, and between two head moves it passes every item
+-- If there are two values or more, a good ring has one boundary, and between two head moves it
+-- passes every item
 use Rattle.std.proofs.Common.{◌≡◌, ◌≢◌, ℕ, ◌+◌, ◌%◌, ◌<◌, ◌≤◌, ◌==◌, ◌⊎◌, inl, inr, zero, suc, List, [], ◌∷◌, length, IsTrue, true, not, refl, sym, ◌∙◌, ap, subst, arith}
 use Rattle.std.specs.List.{AllByRecursion}
 use Rattle.std.proofs.lemmas.Bool.{cases_eq, cases_lt, eq-eqb, eqb-true}

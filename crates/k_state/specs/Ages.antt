@@ -1,6 +1,7 @@
 -- Ages: how many moves lead a head from the value that it had at some moment to the value that an
 -- item holds. Items are copied from left to right, so if each item of a ring is a copy of what
--- the head held since that moment, ages never rise along the ring.
+-- the head held since that moment, and the head has moved fewer than q times since, ages never rise
+-- along the ring.
 use Rattle.std.specs.Prelude.{ℕ, ◌+◌, ◌-◌, ◌%◌, ◌≤◌, List, [], ◌∷◌}
 use Rattle.k_state.specs.Ring.{head_of, tail_of}
 

@@ -91,13 +91,14 @@ SomeItemIsPrivileged =
     (ring : List ℕ) → 0 < length ring
     → (i : ℕ) × (i < length ring) × IsTrue (is_privileged_at ring i)
 
--- at most one item of a good ring is privileged
+-- if there are two values or more, at most one item of a good ring is privileged
 abbrev pub OneItemIsPrivileged : Type 0
 OneItemIsPrivileged =
     (q i j : ℕ) (ring : List ℕ) → 1 < q → IsRing q ring → IsGood q ring
     → IsTrue (is_privileged_at ring i) → IsTrue (is_privileged_at ring j) → i ≡ j
 
--- between two moves of the head of a good ring, each item is privileged at some moment
+-- if there are two values or more, each item of a good ring whose items stay in their places is
+-- privileged at some moment between two moves of the head
 abbrev pub PrivilegePasses : Type 0
 PrivilegePasses =
     (q n i : ℕ) (ring : ℕ → List ℕ) (moves : ℕ → ℕ) → 1 < q
@@ -108,7 +109,7 @@ PrivilegePasses =
 
 -- ---- ages
 
--- a value that the head has just had is of age 0
+-- the head's value at the moment from which ages count is of age 0
 abbrev pub AgeOfStart : Type 0
 AgeOfStart = (q start : ℕ) → start < q → age q start start ≡ 0
 

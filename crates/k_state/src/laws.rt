@@ -43,18 +43,19 @@ pub fn parallel_copies()
     ensures join { RunsJoin }
 {}
 
-/// Privilege: some item always has it, in a good ring only one, and between two head moves of a
-/// good ring whose items stay in their places it comes to each item.
+/// Privilege: some item always has it. If there are two values or more, only one item of a good
+/// ring has it, and between two head moves of a good ring whose items stay in their places it comes
+/// to each item.
 pub fn privilege()
     ensures some { SomeItemIsPrivileged }
     ensures one { OneItemIsPrivileged }
     ensures passes { PrivilegePasses }
 {}
 
-/// Ages since a moment: how many moves lead from the head's value then to an item's. If each item
-/// is a copy of what the head held since, ages fall along the ring, and go on to do so; the items
-/// that equal the head are in front, and its next move makes the ring good, however few its moves
-/// were. Proofs about fewer moves than items need this.
+/// Ages since a moment: how many moves lead from the head's value then to an item's. Ages that fall
+/// along a ring go on to do so while the head's own age and its further moves add up to less than
+/// the modulus. If ages fall, the items that equal the head are in front, and its next move makes
+/// the ring good, however few its moves were. Proofs about fewer moves than items need this.
 pub fn ages()
     ensures start { AgeOfStart }
     ensures apart { AgesDiffer }

@@ -1,4 +1,5 @@
--- Each call at a desk in range leaves it in range.
+-- A desk in range stays in range if a ticket asks and is not refused, if one leaves, and if a loan
+-- that fits is written.
 use Rattle.std.proofs.Common.{Fits, w16, suc, get_or, ◌<◌, ◌≡◌, ℕ, ◌≤◌, Bool, true, false, List, [], ◌∷◌, ◌++◌, length, Option, None, refl, arith}
 use Rattle.std.specs.List.{list_all}
 use Rattle.std.proofs.lemmas.Grind.{common_steps}
@@ -27,7 +28,7 @@ length-without : (t : ℕ) (xs : List ℕ) → length (without t xs) ≤ length 
 length-without t [] = omega arith
 length-without t (x ∷ xs) = grind (arith, common_steps, nat_tests, length-without t xs)
 
--- a desk stays in range when a ticket asks
+-- a desk stays in range when a ticket asks and is not refused
 pub fits-asked : (lease t : ℕ) (d : DeskState) → is_number t ≡ true → desk_fits lease d ≡ true → ask_fault t d ≡ None → desk_fits lease (asked t d) ≡ true
 fits-asked lease t d n f a = grind (arith, common_steps, nat_tests, are_distinct-more d.waiting t)
 

@@ -1,4 +1,4 @@
--- From the moment at which a desk lends or has served, no loan begins until a full tick is over.
+-- Once a desk lends or has served, no ask, leave or tick begins a loan until a full tick is over.
 use Rattle.std.proofs.Common.{◌≡◌, ℕ, true, false, ◌||◌, List, [], ◌∷◌, arith}
 use Rattle.std.proofs.lemmas.Grind.{common_steps}
 use Rattle.lock_desk.specs.Desk.{DeskState, lends}

@@ -5,8 +5,8 @@ use Rattle.lock_desk.specs.Act.{desk_act}
 use Rattle.lock_desk.specs.declared.act.DeskAct.{DeskAct}
 use Rattle.lock_desk.specs.declared.act.DeskAct.TheVariants.{Quiet, Granted, Lost}
 
--- a desk lends after a tick only if the node was privileged: a loan begins and outlasts a tick
--- only with privilege
+-- a desk lends after a tick only if the node was privileged: a loan begins in a tick, or outlasts
+-- one, only with privilege
 abbrev pub LoansNeedPrivilege : Type 0
 LoansNeedPrivilege =
     (lease : ℕ) (privileged : Bool) (d : DeskState) → lends (desk_ticked lease privileged d) ≡ true
@@ -26,7 +26,7 @@ LoansAreNotExchanged =
     → lends (desk_ticked lease privileged d) ≡ true
     → (desk_ticked lease privileged d).lent ≡ d.lent
 
--- what may happen at a desk; a tick comes with privilege or without
+-- an ask, a leave or a tick at a desk; a tick comes with privilege or without
 pub data DeskCall : Type 0 where
   Asks : ℕ → DeskCall
   Leaves : ℕ → DeskCall
@@ -56,7 +56,7 @@ LendsNoMore lease d (call ∷ calls) =
     × (is_full_tick lease call d ≡ false → LendsNoMore lease (after_call lease call d) calls)
 
 -- a desk that lends, or has served, begins no loan before the next full tick is over, whatever
--- calls come
+-- asks, leaves and ticks come
 abbrev pub OneLoanAStay : Type 0
 OneLoanAStay =
     (lease : ℕ) (d : DeskState) (calls : List DeskCall) → lends d || d.served ≡ true

@@ -5,27 +5,26 @@ ghost use Rattle.lock_desk.specs.Laws.{OneLoanAStay, PassesOnlyServed, FullTicks
 ghost use Rattle.lock_desk.specs.Laws.{FirstComeFirstServed, TicksKeepRanges, AsksKeepRanges};
 ghost use Rattle.lock_desk.specs.Laws.{LeavesKeepRanges, LoansKeepRanges};
 
-/// A loan begins and outlasts a tick only with privilege. So if at most one node is privileged,
-/// after each node's next tick at most one desk lends; the proof that a legitimate network stays
-/// legitimate needs this.
+/// A loan begins in a tick, or outlasts one, only with privilege. So after a tick without privilege
+/// a desk lends to nobody. The proof that a legitimate network stays legitimate needs this.
 pub fn loans_need_privilege()
     ensures { LoansNeedPrivilege }
 {}
 
-/// A loan begins only in a tick: a proof that follows loans from event to event need not consider
-/// asks and leaves any further.
+/// No ask begins a loan, and no leave does. So of asks, leaves and ticks, only a tick can begin
+/// one: a proof that follows how loans begin need not consider the other two.
 pub fn only_ticks_lend()
     ensures { OnlyTicksLend }
 {}
 
-/// One tick never ends a loan and begins another, so an act names everything that a tick did.
+/// One tick never ends a loan and begins another, so an act names each loan that a tick began or
+/// ended.
 pub fn loans_are_not_exchanged()
     ensures { LoansAreNotExchanged }
 {}
 
-/// A desk lends at most once in a stay of the privilege: from the moment at which it lends or has
-/// served, no loan begins until a full tick is over, whatever calls come. And a full tick clears
-/// `served`.
+/// Once a desk lends or has served, no ask, leave or tick begins a loan until a full tick is over.
+/// So between two full ticks they begin at most one. A full tick clears `served`.
 pub fn one_loan_a_stay()
     ensures kept_off { OneLoanAStay }
     ensures cleared { FullTicksClear }
@@ -39,8 +38,9 @@ pub fn waiting_tickets_are_served()
     ensures in_turn { FirstComeFirstServed }
 {}
 
-/// Each call leaves a desk in range: at most 64 distinct tickets wait, none of them borrows, and
-/// what is left of a loan is at most the lease.
+/// A desk in range stays in range: in a tick, if a ticket asks and is not refused, if one leaves,
+/// and if a loan that fits is written. In range, at most 64 distinct tickets wait, none of them
+/// borrows, and what is left of a loan is at most the lease.
 pub fn ranges_are_kept()
     ensures ticks { TicksKeepRanges }
     ensures asks { AsksKeepRanges }

@@ -10,9 +10,9 @@
 //! prove anything to others: there are no fencing numbers.
 //!
 //! The trap: a loan does not outlast the first tick without privilege, so `tick` must be given the
-//! privilege of that very moment, and a `Lost` must be handed on to the client. After a loan the
-//! desk lends to nobody until a tick has ended with no loan, even if others wait: that tick lets
-//! the token pass.
+//! privilege of that very moment, and a `Lost` must be handed on to the client. After a loan no
+//! ask, leave or tick begins another until a tick has ended with no loan, even if others wait: that
+//! tick lets the token pass.
 //!
 //! Its rules are this project's own; the token that it relies on is that of Dijkstra,
 //! Self-stabilizing systems in spite of distributed control, 1974.

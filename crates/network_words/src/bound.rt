@@ -53,12 +53,14 @@ never above the other one.
 They hold if the machine keeps these premises. Each node gets a whole turn in
 each stretch of --turn. A node sends its frame again after --repeat at the
 latest. A frame is taken in the first turn that begins --delay after it was
-sent, so every connection is up. A loan ends within --loan, as its node sees it.
-Then each window holds a sweep. So after the last fault the lock works within
-the first time, from any state. From then on a client that waits alone is
-granted the lock within the second. Times are milliseconds up to 3600000 (an
-hour), with at most 3 decimals; --turn and --repeat are above 0. The times shown
-are rounded up.
+sent, so every connection is up. A loan ends within --loan, as its node sees it,
+also one that a fault forged. The default is the longest loan that leaves the
+window as it is: --repeat plus --delay, up to an hour. With --loan 0 no node
+lends, and the second time says nothing. Then each window holds a sweep. So
+after the last fault the lock works within the first time, from any state. From
+then on a client that waits alone is granted the lock within the second. Times
+are milliseconds up to 3600000 (an hour), with at most 3 decimals; --turn and
+--repeat are above 0. The times shown are rounded up.
 
 With --json it prints one JSON object. The names are those of the lines, with
 window_us in microseconds, and recovers_within_ms and lends_within_ms.",
@@ -80,7 +82,7 @@ window_us in microseconds, and recovers_within_ms and lends_within_ms.",
         Parameter::Value(
             "loan",
             MILLISECONDS,
-            "A loan ends within this time [default: 0]",
+            "A loan ends within this time [default: repeat + delay]",
         ),
         Parameter::Value(
             "repeat",

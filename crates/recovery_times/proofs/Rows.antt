@@ -13,14 +13,19 @@ window-loan : window_of (record usual { loan = 1000000 }) ≡ 1004400
 window-loan = refl
 
 -- a loan of 8.1 ms is the longest that costs nothing
-window-short_loan : window_of (record usual { loan = 8100 }) ≡ 12500
+window-short_loan : map (λ loan. window_of (record usual { loan = loan })) (0 ∷ 8100 ∷ []) ≡ 12500 ∷ 12500 ∷ []
 window-short_loan = refl
 
 window-longer_loan : window_of (record usual { loan = 8101 }) ≡ 12501
 window-longer_loan = refl
 
-full-usual : full_of usual ≡ 2200
+-- a loan of 8.1 ms and two turns
+full-usual : full_of usual ≡ 12500
 full-usual = refl
+
+-- each turn has a full tick if no node lends
+full-no_loan : full_of (record usual { loan = 0 }) ≡ 2200
+full-no_loan = refl
 
 full-loan : full_of (record usual { loan = 1 }) ≡ 4401
 full-loan = refl

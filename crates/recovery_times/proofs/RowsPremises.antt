@@ -1,13 +1,15 @@
 -- Premises by words, times of networks, and words that are invalid; by hand.
-use Rattle.std.proofs.Common.{◌≡◌, ◌∷◌, None, Some, [], Ok, Err, map, refl, codes}
+use Rattle.std.proofs.Common.{◌≡◌, ℕ, List, ◌∷◌, None, Some, [], Ok, Err, map, refl, ap, codes}
 use Rattle.std.specs.Fmt.{digits}
+use Rattle.std.specs.Borrow.{Bor}
+use Rattle.std.specs.Option.{option_map, unwrap_or}
 use Rattle.topology.specs.Network.{Network}
 use Rattle.recovery_times.specs.declared.words.TimeFault.TheVariants.{Turn, Delay, Loan, Repeat}
 use Rattle.recovery_times.specs.Times.{usual, lending_of, recovery_of}
 use Rattle.line_words.specs.Numbers.{digits_up_to}
-use Rattle.recovery_times.specs.Reading.{point_at, whole_of, thousandths_of, after_point, part_of, within_an_hour}
+use Rattle.recovery_times.specs.Reading.{point_at, whole_of, thousandths_of, after_point, part_of, within_an_hour, micros_of}
 use Rattle.recovery_times.specs.Text.{times_text}
-use Rattle.recovery_times.specs.Words.{no_less, time_or, or_fault, premises_of, option_name, least_text, time_fault_text}
+use Rattle.recovery_times.specs.Words.{no_less, time_or, or_fault, free_loan, time_if, if_or_fault, premises_of, option_name, least_text, time_fault_text}
 
 -- a ring of three: 51 sweeps and 8 * 2 * 2 for one who waits alone, of 12.5 ms each
 abbrev ring_of_three : Network
@@ -81,6 +83,29 @@ least_not-below = refl
 
 no-word : time_or None 1 2200 ≡ Some 2200
 no-word = refl
+
+-- the loan that is left out fits the other times, and is at most an hour
+free-loan : free_loan 1000 500 ≡ 1500
+free-loan = refl
+
+free_loan-hour : free_loan 3600000000 1 ≡ 3600000000
+free_loan-hour = refl
+
+-- a loan may be left out, or be 0; a word that is no time is a fault
+loan-none : time_if None ≡ Some None
+loan-none = refl
+
+loan-word : (word : Bor (List ℕ)) → word.now ≡ codes "0" → time_if (Some word) ≡ Some (Some 0)
+loan-word word is = ap (λ text. option_map (λ micros. Some micros) (micros_of text)) is
+
+loan_not-word : (word : Bor (List ℕ)) → word.now ≡ codes "x" → time_if (Some word) ≡ None
+loan_not-word word is = ap (λ text. option_map (λ micros. Some micros) (micros_of text)) is
+
+loan-left_out : if_or_fault Loan (λ loan. Ok (record usual { loan = unwrap_or loan 7 })) (Some None) ≡ Ok (record usual { loan = 7 })
+loan-left_out = refl
+
+loan_not-known : if_or_fault Loan (λ loan. Ok usual) None ≡ Err Loan
+loan_not-known = refl
 
 no-words : premises_of (record { turn = None; delay = None; loan = None; repeat = None }) ≡ Ok usual
 no-words = refl

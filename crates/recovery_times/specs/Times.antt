@@ -4,9 +4,10 @@ use Rattle.topology.specs.Network.{Network}
 use Rattle.topology.specs.Eccentricity.{sharp_of}
 use Rattle.recovery_times.specs.declared.premises.Premises.{Premises}
 
--- turns each 2.2 ms, frames 0.1 ms on the way and again after 8 ms, and nobody borrows
+-- turns each 2.2 ms, frames 0.1 ms on the way and again after 8 ms, and loans of at most 8.1 ms, the
+-- longest that leave the window as it is
 abbrev pub usual : Premises
-usual = record { turn = 2200; delay = 100; loan = 0; repeat = 8000 }
+usual = record { turn = 2200; delay = 100; loan = 8100; repeat = 8000 }
 
 -- A node has a full tick in each stretch of this length. If nobody borrows, each turn has one. Else
 -- a loan may stand in the first turn; it ends; and the first tick after it lends to nobody.

@@ -1,6 +1,7 @@
 -- Premises, as the options of a command line give them.
-use Rattle.std.specs.Prelude.{ℕ, nat_le, if◌then◌else◌, List, ◌++◌, Option, Some, None, Result, Ok, Err, codes}
+use Rattle.std.specs.Prelude.{ℕ, ◌+◌, min, nat_le, if◌then◌else◌, List, ◌++◌, Option, Some, None, Result, Ok, Err, codes}
 use Rattle.std.specs.Borrow.{Bor}
+use Rattle.std.specs.Option.{option_map, unwrap_or}
 use Rattle.recovery_times.specs.Reading.{micros_of}
 use Rattle.recovery_times.specs.declared.premises.Premises.{Premises}
 use Rattle.recovery_times.specs.declared.words.PremiseWords.{PremiseWords}
@@ -22,13 +23,27 @@ abbrev pub or_fault : TimeFault → (ℕ → Result Premises TimeFault) → Opti
 or_fault fault next None = Err fault
 or_fault fault next (Some micros) = next micros
 
+-- the longest loan that leaves the window as it is, and is at most an hour
+abbrev pub free_loan : ℕ → ℕ → ℕ
+free_loan repeat delay = min (repeat + delay) 3600000000
+
+-- the time that a word spells; without a word there is none
+abbrev pub time_if : Option (Bor (List ℕ)) → Option (Option ℕ)
+time_if None = Some None
+time_if (Some word) = option_map (λ micros. Some micros) (micros_of word.now)
+
+-- what follows with that time, or the fault if there is a word and it is no time
+abbrev pub if_or_fault : TimeFault → (Option ℕ → Result Premises TimeFault) → Option (Option ℕ) → Result Premises TimeFault
+if_or_fault fault next None = Err fault
+if_or_fault fault next (Some micros) = next micros
+
 -- the premises that the words say, or the first option whose word is invalid; turns and repeated
 -- frames take some time
 abbrev pub premises_of : PremiseWords → Result Premises TimeFault
 premises_of w =
-    or_fault Turn (λ turn. or_fault Delay (λ delay. or_fault Loan (λ loan. or_fault Repeat (λ repeat.
-    Ok (record { turn = turn; delay = delay; loan = loan; repeat = repeat }))
-    (time_or w.repeat 1 8000)) (time_or w.loan 0 0)) (time_or w.delay 0 100))
+    or_fault Turn (λ turn. or_fault Delay (λ delay. if_or_fault Loan (λ loan. or_fault Repeat (λ repeat.
+    Ok (record { turn = turn; delay = delay; loan = unwrap_or loan (free_loan repeat delay); repeat = repeat }))
+    (time_or w.repeat 1 8000)) (time_if w.loan)) (time_or w.delay 0 100))
     (time_or w.turn 1 2200)
 
 -- the option, and the least time that it takes

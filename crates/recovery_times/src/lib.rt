@@ -6,7 +6,7 @@
 //! That a window holds a sweep is a law of the crate `processes`.
 //!
 //! ```
-//! let premises = Premises::usual();           // turns each 2.2 ms, 0.1 ms on the way, no loan
+//! let premises = Premises::usual();           // turns each 2.2 ms, 0.1 ms on the way, ..
 //! premises.window();                          // 12500 microseconds
 //! premises.recovers_within(&net);             // 637500 microseconds for a ring of three
 //! micros_of(b"2.2");                          // Some(2200); none of "02.2", "2." and "2.2001"

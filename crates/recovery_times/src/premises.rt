@@ -12,22 +12,22 @@ pub struct Premises {
     pub turn: u32,
     /// A frame is taken at the latest in the first turn that begins this long after it was sent.
     pub delay: u32,
-    /// The longest loan, from the grant to the leave, as its node sees it; 0 if nobody borrows.
+    /// The longest loan, from the grant to the leave, as its node sees it; 0 if no node lends.
     pub loan: u32,
     /// The time after which a node sends its frame again.
     pub repeat: u32,
 }
 
 impl Premises {
-    /// Turns each 2.2 milliseconds, 0.1 milliseconds on the way, no loan, and frames again after 8
-    /// milliseconds.
+    /// Turns each 2.2 milliseconds, 0.1 milliseconds on the way, loans of at most 8.1 milliseconds,
+    /// the longest that leave the window as it is, and frames again after 8 milliseconds.
     pub fn usual() -> Premises
         ensures { result ≡ usual }
     {
         Premises {
             turn: 2_200,
             delay: 100,
-            loan: 0,
+            loan: 8_100,
             repeat: 8_000,
         }
     }
@@ -63,7 +63,8 @@ impl Premises {
         u64::from(sweeps) * self.window()
     }
 
-    /// The time within which a network that serves lends to one who waits alone, in microseconds.
+    /// The time within which a network that serves lends to a client that waits alone, in
+    /// microseconds. If `loan` is 0, no node lends, and this says nothing.
     pub fn lends_within<A: Allocator + Copy>(&self, net: &Net<A>) -> u64
         ensures { result ≡ lending_of net.now 0 self.now }
     {

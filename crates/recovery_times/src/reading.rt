@@ -6,7 +6,7 @@ ghost use Rattle.recovery_times.specs.Reading.{micros_of, thousandths_in, within
 use line_words::digits_up_to;
 
 /// The longest time that is read, an hour, in microseconds.
-const HOUR: u32 = 3_600_000_000;
+pub(crate) const HOUR: u32 = 3_600_000_000;
 
 /// The same in milliseconds.
 const HOUR_IN_MILLIS: u32 = 3_600_000;

@@ -1,13 +1,13 @@
 //! Premises, as the options of a command line give them.
 ghost use Rattle.std.specs.Prelude.{◌≡◌, ◌≤◌, IfOk, Some};
-ghost use Rattle.recovery_times.specs.Words.{time_or, premises_of, time_fault_text};
+ghost use Rattle.recovery_times.specs.Words.{time_or, time_if, free_loan, premises_of, time_fault_text};
 
 use crate::premises::Premises;
-use crate::reading::micros_of;
+use crate::reading::{HOUR, micros_of};
 use std::fmt;
 
 /// The words of the options, each a time in milliseconds with at most three decimals. One that is
-/// left out has its usual time.
+/// left out has its usual time; `--loan`, the longest that leaves the window as it is.
 #[derive(Clone, Copy)]
 pub struct PremiseWords<'a> {
     /// The word of `--turn`.
@@ -28,7 +28,7 @@ pub enum TimeFault {
     Turn,
     /// `--delay`, which may be 0.
     Delay,
-    /// `--loan`, which may be 0.
+    /// `--loan`, which may be 0: no node lends.
     Loan,
     /// `--repeat`, which is above 0.
     Repeat,
@@ -62,12 +62,33 @@ impl PremiseWords<'_> {
         ensures { result ≡ premises_of self.now }
     {
         let usual = Premises::usual();
+        let turn = time_or(self.turn, 1, usual.turn).ok_or(TimeFault::Turn)?;
+        let delay = time_or(self.delay, 0, usual.delay).ok_or(TimeFault::Delay)?;
+        let loan = time_if(self.loan).ok_or(TimeFault::Loan)?;
+        let repeat = time_or(self.repeat, 1, usual.repeat).ok_or(TimeFault::Repeat)?;
         Ok(Premises {
-            turn: time_or(self.turn, 1, usual.turn).ok_or(TimeFault::Turn)?,
-            delay: time_or(self.delay, 0, usual.delay).ok_or(TimeFault::Delay)?,
-            loan: time_or(self.loan, 0, usual.loan).ok_or(TimeFault::Loan)?,
-            repeat: time_or(self.repeat, 1, usual.repeat).ok_or(TimeFault::Repeat)?,
+            turn,
+            delay,
+            loan: loan.unwrap_or(free_loan(repeat, delay)),
+            repeat,
         })
+    }
+}
+
+/// The longest loan that leaves the window as it is, and is at most an hour.
+fn free_loan(repeat: u32, delay: u32) -> u32
+    ensures { result ≡ free_loan repeat delay }
+{
+    repeat.saturating_add(delay).min(HOUR)
+}
+
+/// The time that a word spells, which may be 0; `None` inside if there is no word.
+fn time_if(word: Option<&str>) -> Option<Option<u32>>
+    ensures { result ≡ time_if word.entry }
+{
+    match word {
+        None => Some(None),
+        Some(word) => micros_of(word.as_bytes()).map(Some),
     }
 }
 

@@ -89,6 +89,29 @@ A line of eight has 155 sweeps, and lends within 112.
   recovers within 1938 ms
   lends within 1400 ms
 
+A loan of 8.1 milliseconds, as long as a frame is repeated after and is on its way, costs nothing, and is what is meant
+if none is named. One tenth more makes the window longer by as much.
+
+  $ timed ring-3.toml --loan 8.1
+  window 12.5 ms
+  recovers within 638 ms
+  lends within 400 ms
+  $ timed ring-3.toml --loan 8.2
+  window 12.6 ms
+  recovers within 643 ms
+  lends within 404 ms
+
+So if frames are repeated each millisecond, and no loan is named, a window is 1 + 0.1 + 2 * 2.2 milliseconds.
+
+  $ timed ring-3.toml --repeat 1
+  window 5.5 ms
+  recovers within 281 ms
+  lends within 176 ms
+  $ timed ring-3.toml --repeat 1 --loan 0
+  window 5.5 ms
+  recovers within 281 ms
+  lends within 176 ms
+
 If a loan lasts a second, a window of the ring is 1004.4 milliseconds.
 
   $ timed ring-3.toml --loan 1000
