@@ -25,7 +25,7 @@ ScrambleIsAccepted =
     (w : World) (g : Lcg) → IsWorldInRange w → WaitsNowhere w 65535
     → AreAccepted w (draw_world w.net g).0
 
--- and the harms leave the network as it is
+-- and at the end of the harms the network is the same
 abbrev pub ScrambleKeepsNetwork : Type 0
 ScrambleKeepsNetwork =
     (w : World) (g : Lcg) → IsWorldInRange w → WaitsNowhere w 65535

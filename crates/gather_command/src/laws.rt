@@ -14,8 +14,9 @@ pub fn weaving_is_faithful()
     record_gathering_laws::runs();
 }
 
-/// A list that begins in the middle is set up as the world stood then; a simulation refuses none of its
-/// events, and no entry is missing. Anyone who replays a stretch of a recording relies on this law.
+/// A list that begins in the middle is set up as the world stood then, if its edges can be set so,
+/// as they can if none changed. A simulation refuses none of its events, and no entry is missing.
+/// Anyone who replays a stretch of a recording relies on this law.
 pub fn stretches_are_faithful()
     ensures { StretchesAreFaithful }
 {

@@ -15,9 +15,9 @@
 //! A [`TimeStretch`] may be shorter than the records: it begins a given number of seconds after the earliest
 //! entry of all records, or before the latest one, and goes on to the end. Then the list begins with events
 //! that set up the network as it stood when the first entry of the stretch came next: edges that had joined
-//! or parted, each node's state, and what was under way. So a reader that plays the list needs only the
-//! network. All that comes before the stretch is woven too, but its events go nowhere. For the last seconds
-//! the records are read twice.
+//! or parted, as far as they can be set so, each node's state, and what was under way. So a reader that
+//! plays the list needs only the network. All that comes before the stretch is woven too, but its events go
+//! nowhere. For the last seconds the records are read twice.
 //!
 //! A record that is missing, empty, of another network or of another node is a [`GatherFault`], which is
 //! found before anything is written. A record that ends within an entry, or is spoiled from some place on,

@@ -1,4 +1,5 @@
--- A command's own status is returned exactly if the lock was held all the while.
+-- A command's own status is returned exactly if the lock was held all the while, and its release
+-- then confirmed.
 use Rattle.std.proofs.Common.{◌≡◌, Bool, false, List, [], ◌∷◌, arith, refl, inl, inr}
 use Rattle.lock_client.specs.declared.answer.Answer.{Answer}
 use Rattle.lock_client.specs.declared.answer.Answer.TheVariants as answer

@@ -1,4 +1,5 @@
--- A command that lost its lock ends with 122, and a signal ends a client only before its command.
+-- A client whose lock was lost, if it ends, says that it was lost; and a signal ends a client only
+-- before its command.
 use Rattle.std.proofs.Common.{◌≡◌, ◌⊎◌, ◌↔◌, Bool, true, false, List, [], ◌∷◌, filter, arith, refl}
 use Rattle.std.proofs.lemmas.Grind.{common_steps}
 use Rattle.lock_client.specs.declared.outcome.Outcome.{Outcome}

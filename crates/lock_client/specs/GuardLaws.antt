@@ -52,15 +52,17 @@ abbrev pub KillsAfterAsking : Type 0
 KillsAfterAsking =
     (keeps : Bool) (events : List GuardEvent) → AsksFirst (guard_deeds keeps Idle events)
 
--- a command that may run on, or has had the signal that ended the client, is never asked to end
+-- a command that may run on is never asked to end; if a look of a guard that searches shows that a
+-- signal came to the whole group, the command is not asked to end after that
 pub record LeavesAlone : Type 0 where
   pub keeps : (events : List GuardEvent)
       → filter is_asking (guard_deeds true Idle events) ≡ []
   pub signalled : (quiet : ℕ) (sight : GuardSight) (events : List GuardEvent) → sight.signalled ≡ true
       → filter is_asking (guard_deeds false (Searching quiet) (Looked sight ∷ events)) ≡ []
 
--- a guard ends when its client is done, or is gone and announced no command; if the client is
--- gone, the guard looks for the command and asks it to end once found
+-- a guard ends when the client that announced a command is done, or is gone and announced none; if
+-- a client that announced one is gone, the guard looks for the command, and asks it to end once
+-- found, unless it may run on or a signal came to the whole group
 pub record GuardEnds : Type 0 where
   pub done : (keeps : Bool) → guard_after keeps (Said word.Done) Watching ≡ Over
   pub unused : (keeps : Bool) → guard_after keeps Closed Idle ≡ Over

@@ -44,8 +44,9 @@ IsWaiting (event.Ended end) = Unit {0}
 IsWaiting event.GuardGone = Unit {0}
 IsWaiting _ = ⊥
 
--- the lock was held all the while and the guard lived: the node said nothing but `full` until it
--- said `granted`, then nothing until the command ended like this, and then `released`
+-- the lock was held all the while and the guard lived, and the release was confirmed: the node said
+-- nothing but `full` until it said `granted`, then nothing until the command ended like this, and
+-- then `released`
 abbrev pub HeldThroughout : CommandEnd → List ClientEvent → Type 0
 HeldThroughout end [] = ⊥
 HeldThroughout end (e ∷ es) =
@@ -53,7 +54,7 @@ HeldThroughout end (e ∷ es) =
     ⊎ (IsWaiting e × HeldThroughout end es)
 
 -- unless the command may run on, its own status is returned exactly if the lock was held all the
--- while and the guard lived
+-- while and the guard lived, and the node then confirmed the release
 abbrev pub HeldThroughoutLaw : Type 0
 HeldThroughoutLaw =
     (end : CommandEnd) (events : List ClientEvent)
@@ -93,8 +94,8 @@ is_loss event.GuardGone = true
 is_loss _ = false
 
 -- if the node says anything or is gone, or the guard is gone, while the command runs, the command
--- is asked to end, at most once in all, and the status is always 122; a command that may run on is
--- never asked
+-- is asked to end, at most once in all, and if the client ends, it always says that the lock was
+-- lost; a command that may run on is never asked
 pub record EndsWhatLostItsLock : Type 0 where
   pub asks : (e : ClientEvent) → is_loss e ≡ true
       → deed_between false e Holding (stage_after false e Holding) ≡ EndCommand
@@ -103,8 +104,8 @@ pub record EndsWhatLostItsLock : Type 0 where
       → stage_after_all false Holding (e ∷ events) ≡ Over outcome → outcome ≡ Lost
   pub kept : (events : List ClientEvent) → filter is_ending (deeds true Asking events) ≡ []
 
--- a signal ends a client only if no command was started; a running command gets SIGTERM passed on,
--- and no other signal does anything
+-- a signal ends a client only if no command was started; while a client holds the lock, SIGTERM is
+-- passed on to its command, no other signal is, and none changes the client's stage
 pub record SignalsAreHeeded : Type 0 where
   pub before : (keeps : Bool) (signal : Signal) (events : List ClientEvent)
       → stage_after_all keeps Asking events ≡ Over (Stopped signal)

@@ -68,7 +68,7 @@ pub enum GuardDeed {
 }
 
 /// The guard of a command that runs under the lock. It holds the lock together with the client; if
-/// the client is killed, it holds it as long as the command runs.
+/// the client is killed, it holds it as long as its looks find a process of the command.
 #[derive(Clone, Copy)]
 pub struct Guard {
     keeps_running: bool,

@@ -7,36 +7,39 @@ ghost use Rattle.lock_client.specs.GuardLaws.{LeavesAlone, GuardEnds};
 ghost use Rattle.lock_client.specs.Lines.{AnswersAreRead};
 
 /// Unless the command may run on without the lock, its own status is returned exactly if the lock
-/// was held, and the guard lived, all the while it ran. Users who run a build, a migration or a
-/// backup under the lock rely on it.
+/// was held, and the guard lived, all the while it ran, and the node then confirmed the release.
+/// Users who run a build, a migration or a backup under the lock rely on it.
 pub fn a_command_that_is_done_held_the_lock()
     ensures { HeldThroughoutLaw }
 {}
 
-/// The command is started at most once, and `unlock` is written at most once: one lock taken, one
-/// released.
+/// The command is started at most once, and `unlock` is written at most once: at most one lock is
+/// taken, and at most one released.
 pub fn one_lock_is_taken()
     ensures starts { StartsAtMostOnce }
     ensures gives_back { GivesBackOnce }
 {}
 
 /// If the node says anything or is gone, or the guard is gone, while a command runs that may not
-/// run on without the lock, this command is asked to end, at most once, and the status is 122. So
-/// it does not run on for long without the lock, and no status says that the lock was held. A
-/// command that may run on is never asked.
+/// run on without the lock, this command is asked to end, at most once, and the client, if it ends,
+/// says that the lock was lost: status 122, or the one that was chosen. This law does not say that
+/// the command then ends. A command that may run on is never asked. Users whose command must not
+/// run without the lock rely on it.
 pub fn what_lost_its_lock_is_ended()
     ensures { EndsWhatLostItsLock }
 {}
 
 /// A signal that is held back ends a client only before its command is started. Of all signals,
-/// only SIGTERM is passed on to a running command.
+/// only SIGTERM is passed on to a command that runs under the lock.
 pub fn signals_are_heeded()
     ensures { SignalsAreHeeded }
 {}
 
-/// A client ends. Before the lock is granted, it ends when its time is up, when nobody serves, or
-/// when a signal comes. Once its command has ended, it ends at the latest with the node's next
-/// word, when the node is gone, or when its time is up. So no client with a limit waits for ever.
+/// A client that waits for an answer ends. Before the lock is granted, it ends when its time is up,
+/// when nobody serves, or when a signal comes. Once it has released the lock, it ends at the latest
+/// with the node's next word, when the node is gone, or when its time is up. In between, its
+/// command's end leads on: the client then releases the lock, or ends if the lock was lost. No
+/// clause bounds that time. Whoever gives a client a limit relies on this law.
 pub fn a_client_ends()
     ensures { EndsByItself }
 {}
@@ -47,15 +50,16 @@ pub fn answers_are_read()
 {}
 
 /// A guard releases the lock only if its client says that it is done, or is gone without having
-/// announced a command, or four looks in a row found no process of the command. So nobody else gets
-/// the lock while a command still runs after its `lock` was killed.
+/// announced a command, or four looks in a row found no process of the command. So if `lock` is
+/// killed after it announced a command, nobody else gets the lock from this guard as long as its
+/// looks find a process of the command.
 pub fn a_guard_holds_the_lock()
     ensures { GivesBackRightly }
 {}
 
-/// A guard asks the command to end at most once, and kills it only after that. With `--keep`, or
-/// if the command has had the signal that ended its client, it does neither. It ends when its
-/// client is done.
+/// A guard asks the command to end at most once, and kills it only after that. With `--keep` it
+/// does neither. If a look shows, before it asks, that a signal came to the whole group, it does
+/// not ask after that. Once a command is announced, it ends when its client is done.
 pub fn a_guard_is_gentle()
     ensures once { AsksAtMostOnce }
     ensures kills { KillsAfterAsking }

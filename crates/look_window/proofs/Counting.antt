@@ -1,4 +1,4 @@
--- A machine is counted in just those turns in which it moves.
+-- For a machine that is seen before a tick and after it, a move is counted exactly if it moves in that tick.
 use Rattle.std.proofs.Common.{◌≡◌, ◌≢◌, ◌∙◌, ◌<◌, ◌+◌, ◌%◌, ℕ, zero, suc, Bool, true, false, not, ◌&&◌, inl, inr, refl, sym, ap, arith}
 use Rattle.std.specs.Prelude.{◌==◌, if◌then◌else◌, is_none}
 use Rattle.std.proofs.Math.Nat.{mod-eq_of_lt, mod_self}

@@ -1,4 +1,4 @@
--- What is shown is what the node's status line says, and what is counted are moves.
+-- What is shown begins with what the node's status line says, and what is counted are moves.
 use Rattle.std.specs.Prelude.{◌≡◌, ◌++◌, ◌<◌, ◌&&◌, ℕ, Bool, List, codes, Some, is_none}
 use Rattle.turn_watch.specs.declared.notes.TurnNotes.{TurnNotes}
 use Rattle.turn_watch.specs.Rounds.{has_moved}

@@ -7,15 +7,16 @@ pub fn nodes_write_their_lines()
     ensures { NodesWriteTheirLines }
 {}
 
-/// A looker is shown what the node's status line says at the same moment. So `status` may read either.
+/// A looker is shown first what the node's status line says at the same moment.
 pub fn a_look_says_the_status()
     ensures { LooksSayTheStatus }
 {
     nodes_write_their_lines();
 }
 
-/// A reader of how often the token came round relies on this: if a machine is looked at after each
-/// turn, each of its moves is counted, and nothing else is.
+/// A reader of how often the token came round relies on this: if one machine is looked at before a
+/// tick and after it, one move is counted if it moved in that tick, and none if it did not. If the
+/// parent changes, another machine is looked at from then on; this law does not speak of that tick.
 pub fn a_move_is_counted()
     ensures { MovesAreCounted }
 {}

@@ -9,12 +9,12 @@ use Rattle.node_keeping.specs.declared.saved.Lost.{Lost}
 use Rattle.node_keeping.specs.declared.saved.AfterSave.{AfterSave}
 use Rattle.node_keeping.specs.declared.saved.AfterSave.TheVariants.{Displaced, StopStays, Stop, GoOn}
 
--- a name that leads to no file of this node's
+-- a name that was seen to lead to no file of this node's
 abbrev pub is_lost : FileSight → Bool
 is_lost NotOwn = true
 is_lost _ = false
 
--- a stop file is this node's unless the folder is another's
+-- a stop file is this node's unless the folder was seen to be another's
 abbrev pub looks_for_stop : FileSight → Bool
 looks_for_stop place = not (is_lost place)
 
@@ -26,15 +26,15 @@ lost_of sights = record {
   looks = is_lost sights.looks;
 }
 
--- a node with a place of its own ends if there is a stop file, with a fault if that stays, or if it
--- is asked to; otherwise it runs on, and takes back each name that is lost
+-- a node that did not see its place lost ends if it sees a stop file, with a fault if that stays,
+-- or if it is asked to; otherwise it runs on, and takes back each name that is lost
 abbrev pub in_place : Sights → StopSight → AfterSave
 in_place sights Stays = StopStays
 in_place sights Removed = Stop
 in_place sights Absent =
     if sights.is_asked then Stop else GoOn (lost_of sights)
 
--- a node whose lock file is gone or another's ends at once
+-- a node that sees that its lock file is gone or another's ends at once
 abbrev pub after_save : Sights → AfterSave
 after_save sights =
     if looks_for_stop sights.place then in_place sights sights.stop else Displaced

@@ -16,12 +16,13 @@ use Rattle.node_keeping.specs.declared.keeper.KeeperDeed.TheVariants.{Rest, Star
 use Rattle.node_keeping.specs.AfterSave.{after_save, lost_of}
 use Rattle.node_keeping.specs.Steps.{stage_after, stage_after_all, deeds, asked_after, looks, is_failed}
 
--- a node whose lock file is not its own ends at once, whatever else it sees
+-- a node ends at once, whatever else it sees, exactly if it sees that its lock file is gone or
+-- another's
 abbrev pub EndsWhereDisplaced : Type 0
 EndsWhereDisplaced = (sights : Sights) → (after_save sights ≡ Displaced) ↔ (sights.place ≡ NotOwn)
 
--- a node that runs on has a place of its own, was not stopped, and takes back just the names that
--- lead elsewhere
+-- a node that runs on did not see its place lost, saw no stop file and was not asked to end; it
+-- takes back just the names that it saw lead elsewhere
 abbrev pub RunsOnInPlace : Type 0
 RunsOnInPlace =
     (sights : Sights) (lost : Lost) → after_save sights ≡ GoOn lost
@@ -49,7 +50,7 @@ NobodyStartsAfterTheEnd =
     (failures : ℕ) (stage : KeeperStage) (seen : List Seen)
     → filter is_start (deeds failures (asked_after stage) seen) ≡ []
 
--- a node that ended is started again after 10 looks, unless it failed at its start
+-- a node that ran and ended, and did not fail at its start, is started again after 10 looks
 abbrev pub IsStartedAgain : Type 0
 IsStartedAgain =
     (failures age : ℕ) (end : End) → is_failed end age ≡ false

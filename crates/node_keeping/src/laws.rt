@@ -5,7 +5,9 @@ ghost use Rattle.node_keeping.specs.Laws.{IsLeftAfterThreeFailures, IsKilledOnce
 ghost use Rattle.node_keeping.specs.Laws.{IsNamedAtItsEnd, IsKilledAtOnce};
 ghost use Rattle.node_keeping.specs.CourseLaws.{RunsUnasked, AsksOnce, UrgesOnce};
 
-/// A node lends only in a folder that is its own: whoever removes the folder of a network and makes
+/// A node ends after the save at which it sees that its lock file is gone or another's. It does not
+/// end for this reason if the system does not say. A node that runs on did not see its place lost,
+/// saw no stop file and was not asked to end. Whoever removes the folder of a network and makes
 /// another there relies on this.
 #[tactic(auto, using(crate::proofs::AfterSaving::displaced))]
 pub fn a_node_runs_on_in_its_place()
@@ -14,7 +16,9 @@ pub fn a_node_runs_on_in_its_place()
     ensures asked { StopsWhenAsked }
 {}
 
-/// A node that ended is started again, unless it failed at its start three times in a row.
+/// A node that ran and ended is started again if it did not fail at its start. It is left alone
+/// only after the third failure in a row. What becomes of one that failed once or twice, no clause
+/// says.
 pub fn a_node_is_started_again()
     ensures again { IsStartedAgain }
     ensures left { IsLeftAfterThreeFailures }
@@ -30,8 +34,8 @@ pub fn up_leaves_nobody()
     ensures at_once { IsKilledAtOnce }
 {}
 
-/// `up` runs on as long as nothing asks it to end. It asks its nodes to end at most once, and urges
-/// them at most once.
+/// `up` asks no node to end as long as nothing asks it to end. Whatever it sees, it asks its nodes
+/// to end at most once, and urges them at most once.
 #[tactic(auto, using(crate::proofs::Coursing::unasked, crate::proofs::Coursing::said_once))]
 pub fn up_ends_when_asked()
     ensures unasked { RunsUnasked }

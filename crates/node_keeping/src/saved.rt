@@ -7,7 +7,7 @@ use crate::sight::FileSight;
 /// What became of the file by which a node is stopped.
 #[derive(Clone, Copy)]
 pub enum StopSight {
-    /// It is not there.
+    /// It is not there, or the system does not say.
     Absent,
     /// It was there, and is removed.
     Removed,

@@ -14,7 +14,8 @@ pub fn spellings_are_read()
 /// Nothing else is read: bytes that are accepted are the spelling of a state in range, and what is
 /// read is that state, re-matched. A file in the layout that is written, with the neighbours that
 /// the node has now, is read as a state whose spelling is that very file. So one state has one
-/// spelling, and a file that a fault has changed is invalid or is that of a different state.
+/// spelling, and a file that a fault has changed is invalid or is that of a different state. This
+/// holds for files in that layout and with those neighbours, before the fault and after it.
 pub fn what_is_read_is_spelled()
     ensures spelled { WhatIsReadIsSpelled }
     ensures again { WhatIsReadIsWrittenAgain }

@@ -12,7 +12,7 @@ use Rattle.pace.specs.declared.port.Hearing.TheVariants as hearing
 use Rattle.pace.specs.declared.port.PortSight.{PortSight}
 use Rattle.pace.specs.declared.port.PortPace.{PortPace}
 
--- a port that takes frames is given one once the repetition time is over
+-- a port that takes frames is due one once the repetition time is over
 abbrev pub EachPortIsGiven : Type 0
 EachPortIsGiven =
     (sight : PortSight) (is_held : Bool) (repeat now : ℕ) (port : PortPace)

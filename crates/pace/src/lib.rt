@@ -18,8 +18,8 @@
 //!
 //! It is no part of the protocol: whatever it says, a node stays in range and a network
 //! stabilises, and whatever its fields hold, no rest is longer than 2 milliseconds, every port
-//! that takes frames is given one each repetition time, and a tick is left out for the sake of a
-//! lease alone.
+//! that takes frames is due one once the repetition time is over, and a tick is left out for the
+//! sake of a lease alone.
 //!
 //! The trap: times are microseconds of a clock that never goes back. A time that lies ahead counts
 //! as long ago.

@@ -1,4 +1,5 @@
--- A field that is named differs, and if none is named, the node is as it was noted.
+-- A field that is named differs, and if none is named for a part of a node's state, the node is as it was
+-- noted; for a port, this holds if it leads to a neighbour.
 use Rattle.std.proofs.Common.{◌≡◌, ◌≢◌, refl, subst, arith, ℕ, ◌<◌, ◌==◌, Bool, true, false, List, ◌∷◌, Option, None}
 use Rattle.std.proofs.lemmas.Grind.{common_steps}
 use Rattle.std.proofs.lemmas.Slice.Eq.{bytes_eq-Decides}

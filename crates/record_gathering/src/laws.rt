@@ -19,8 +19,9 @@ pub fn harms_mean_differences()
     ensures { HarmsMeanDifferences }
 {}
 
-/// A field that is named as different is different; and if none is named, the node is as it was
-/// noted. Showing a reader the places of damage rests on this.
+/// A field that is named as different is different. For a part of a node's state, none is named
+/// exactly if the node is as it was noted; for a port, this holds if it leads to a neighbour.
+/// Showing a reader the places of damage rests on this.
 pub fn fields_mean_differences()
     ensures { FieldsMeanDifferences }
 {}

@@ -30,8 +30,9 @@ module _ {P : Type 0} (gave took : P → Option (List ℕ)) (counts : P → Coun
       → (site_in last.node ≡ site_in old.node)
       × Leads (site_in old.node) (all_deeds ts) (state_of old.node) (state_of last.node)
 
-  -- At its port to each neighbour it took and sent exactly the frames of the connections that stood
-  -- there, one after the other.
+  -- At its port to each neighbour it took and sent exactly the frames of some connections, one
+  -- after the other, by what their pipes report, if what the port's link keeps at first is what its
+  -- pipe gave and has yet to write.
   abbrev pub TurnsGoByConnections : Type 0
   TurnsGoByConnections =
       (old last : Moment P) (ts : List (Went P)) (w : ℕ) (port : NodePort P) (start : Start)
@@ -73,9 +74,9 @@ module _ {P : Type 0} (gave took : P → Option (List ℕ)) (counts : P → Coun
       × ((events : List Event) → IsOrderOf account (history_on w wires) events
       → KeepsPromise w last events))
 
-  -- A port whose link is up is given a frame again and again, whatever the pace of its node
-  -- remembers at first: after any instant from the first turn on, by the end of each turn that
-  -- begins the repetition time or more later.
+  -- A port whose link takes each frame that is offered, throughout, is given one again and again,
+  -- whatever the pace of its node remembers at first: after any instant from the first turn on, by
+  -- the end of each turn that begins the repetition time or more later.
   abbrev pub PortsAreGivenAgain : Type 0
   PortsAreGivenAgain =
       (w : ℕ) (first : Moment P) (turns : List (TimedTurn P)) (pace : Pace) (start until : ℕ)

@@ -42,7 +42,7 @@ module _ {P : Type 0} (r : Ranges) (gave took : P → Option (List ℕ)) where
     pub pulled : IsPulled r gave c.start.given c.taken c.link
     pub pushed : IsPushed took (c.start.taken ++ lines_of c.sent) c.link
 
-  -- A port took these frames and sent those, on these connections.
+  -- A port took these frames and sent those, on these connections, by what their pipes report.
   pub record PortWas (taken sent : List Frame) (cs : List (Stood P)) : Type 0 where
     pub each : AllByRecursion IsStood cs
     pub takes : all_taken cs ≡ taken

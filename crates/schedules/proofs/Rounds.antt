@@ -26,7 +26,7 @@ use Rattle.schedules.proofs.Plain.{IsPlain, ArePlain, plain-net, plain-step, pla
 use Rattle.schedules.proofs.Exchanges.{handed-append, all-hand}
 use Rattle.schedules.proofs.Ticks.{ticked-front, ticks-full, tick-is}
 
--- the desk has no client
+-- nobody waits at the desk, and it lends to nobody
 abbrev pub HasNoClient : DeskState → Type 0
 HasNoClient d = (d.waiting ≡ []) × (d.lent ≡ None)
 
@@ -82,7 +82,7 @@ module _ (known : Below) where
       let whole : IsSweep w (first ++ rest) = known.grows w [] first rest ok (subst (IsUndamaged w) parts (plain-undamaged w.net w es (plain-round w.net))) sweep in
       subst (IsSweep w) (sym parts) whole
 
-  -- ---- if there is no client
+  -- ---- if no client waits and no node lends
 
   tick-idle : (net : Network) (w : World) (a v : ℕ) → w.net ≡ net → v < net.nodes → HasNoClient (w.node v).desk → HasNoClient ((step w (Tick a)).node v).desk
   tick-idle net w a v same node idle =

@@ -19,7 +19,7 @@ abbrev pub AreTicksFullFor : World → ℕ → Type 0
 AreTicksFullFor w zero = Unit {0}
 AreTicksFullFor w (suc n) = AreTicksFull w × AreTicksFullFor (run w (round w.net)) n
 
--- no client waits, and none has the lock
+-- no client waits, and no node lends, as damage may have made one lend
 abbrev pub IsIdle : World → Type 0
 IsIdle w =
     (v : ℕ) → v < w.net.nodes → ((w.node v).desk.waiting ≡ []) × ((w.node v).desk.lent ≡ None)
@@ -33,7 +33,7 @@ abbrev pub RoundsAreSweeps : Type 0
 RoundsAreSweeps =
     (w : World) (n : ℕ) → IsWorldInRange w → AreTicksFullFor w n → Sweeps w n (rounds w.net n)
 
--- n rounds are n sweeps if there is no client, whatever else the state is
+-- n rounds are n sweeps if no client waits and no node lends, whatever else the state is
 abbrev pub IdleRoundsAreSweeps : Type 0
 IdleRoundsAreSweeps =
     (w : World) (n : ℕ) → IsWorldInRange w → IsIdle w → Sweeps w n (rounds w.net n)
@@ -51,8 +51,8 @@ abbrev pub SlowRoundIsUndamaged : Type 0
 SlowRoundIsUndamaged =
     (net : Network) (slow : Slow) (share i : ℕ) (w : World) → IsUndamaged w (slow_round net slow share i)
 
--- With a slow one, n rounds hold a sweep for each round in which it has its part, if there is no client:
--- so of a hundred rounds as many as its share says.
+-- With a slow one, n rounds hold a sweep for each round in which it has its part, if no client waits and
+-- no node lends: so of a hundred rounds as many as its share says.
 abbrev pub IdleSlowRoundsHoldSweeps : Type 0
 IdleSlowRoundsHoldSweeps =
     (w : World) (slow : Slow) (share n : ℕ) → share ≤ 100 → IsWorldInRange w → IsIdle w

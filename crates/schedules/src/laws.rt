@@ -24,8 +24,9 @@ fn below()
 }
 
 /// A round is a sweep in every world in which each tick is full, and n rounds are n sweeps if that
-/// holds at the start of each; in a network without clients it always does. So the rounds of this
-/// schedule can be counted to see how fast a network recovers under it.
+/// holds at the start of each. It does in a network in which no client waits and no node lends, as
+/// damage may have made one lend. So the rounds of this schedule can be counted to see how fast a
+/// network recovers under it.
 pub fn rounds()
     ensures sweep { RoundIsSweep }
     ensures sweeps { RoundsAreSweeps }
@@ -42,9 +43,9 @@ pub fn accepted()
     configuration_laws::runs();
 }
 
-/// Rounds with a slow link or node are without damage. In a network without clients n rounds hold a
-/// sweep for each of them in which the slow one has its part. So a run under this schedule reaches
-/// any number of sweeps if the share is at least 1.
+/// Rounds with a slow link or node are without damage. In a network in which no client waits and no
+/// node lends, n rounds hold a sweep for each of them in which the slow one has its part. So a run
+/// under this schedule then reaches any number of sweeps if the share is at least 1.
 pub fn slow_rounds()
     ensures undamaged { SlowRoundIsUndamaged }
     ensures sweeps { IdleSlowRoundsHoldSweeps }

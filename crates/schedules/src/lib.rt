@@ -3,15 +3,15 @@
 //! What a self-stabilising system does depends on who moves when. A schedule by *rounds* is the
 //! plainest fair one: in each round every node ticks once, and every link carries one item more
 //! than it holds. Whether a run is fair is otherwise an assumption; of this schedule it is a law
-//! that each of its rounds is a sweep (`laws::rounds`), so the theorem on sweeps says what it leads
-//! to.
+//! that a round is a sweep if each tick is full (`laws::rounds`), so the theorem on sweeps says
+//! what it leads to.
 //!
 //! Another is the *random* one: each step is drawn from a seeded generator, so the same seed gives
 //! the same events on any machine. It can lose items, and have clients that ask and leave.
 //!
 //! In a third kind a link or a node is *slow*: the rounds are as before, but it has its part only
-//! in a share of them. This shows what a single laggard costs. These rounds hold sweeps as well
-//! (`laws::slow_rounds`).
+//! in a share of them. This shows what a single laggard costs. These rounds hold sweeps as well, if
+//! no client waits and no node lends (`laws::slow_rounds`).
 //!
 //! The events go to an [`EventSink`], one by one; no list of them is kept:
 //!

@@ -16,7 +16,7 @@ abbrev pub OneLoanIsNotCritical : Type 0
 OneLoanIsNotCritical = (net : Network) (a b c : List NodeAnswer)
     → OneLends a ⊎ (OneLends b ⊎ OneLends c) → severity (finding net a b c) ≢ Critical
 
--- each node is in its place, and at most one lends
+-- each answer is there and true of the node that it names, and at most one says that its node lends
 abbrev pub IsWell : Network → List NodeAnswer → Type 0
 IsWell net answers = (list_any (is_faulty net) answers ≡ false) × (length (filter lends answers) ≤ 1)
 

@@ -18,7 +18,8 @@ same_id None None = true
 same_id (Some v) (Some w) = v == w
 same_id _ _ = false
 
--- the node is one of the network, with the distance and the parent that the network gives
+-- the node that the line names is one of the network, and the line has the distance and the parent
+-- that the network gives it
 abbrev pub is_true : Network → StatusLine → Bool
 is_true net line =
     nat_lt line.node net.nodes && (line.distance == distance_of net line.node)
@@ -28,7 +29,7 @@ abbrev pub line_is_faulty : Network → Option StatusLine → Bool
 line_is_faulty net None = true
 line_is_faulty net (Some line) = not (is_true net line)
 
--- the node gave no answer, or one that is not true
+-- the node gave no answer, or one that is not true of the node that it names
 abbrev pub is_faulty : Network → NodeAnswer → Bool
 is_faulty net answer = line_is_faulty net answer.line
 

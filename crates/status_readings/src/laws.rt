@@ -8,8 +8,9 @@ pub fn one_loan_is_not_critical()
     ensures { OneLoanIsNotCritical }
 {}
 
-/// If all is said to be well, each node of each reading answered, with the distance and the parent that
-/// the network gives, and at most one lent.
+/// If all is said to be well, each answer of each reading is there and true of the node that it
+/// names: it has the distance and the parent that the network gives this node. And in each reading
+/// at most one answer says that its node lends.
 pub fn fine_is_true()
     ensures { FineIsTrue }
 {}

@@ -1,9 +1,9 @@
 //! What holds for woven journals: each law is the contract of a function that does nothing.
 ghost use Rattle.weaving.specs.Laws.{OneWovenList, WovenIsRun};
 
-/// If the nodes' journals match, the woven list is a run: in it each node does what its journal
-/// says and takes from each link the item that it took, and no event is refused. So matching
-/// journals are enough to know that nodes side by side did a run.
+/// If the nodes' journals match, the woven list is a run: no event is refused, no send meets a full
+/// link, no take an empty one, and it ends as the journals do. So matching journals are enough to
+/// know that nodes side by side did a run.
 pub fn weave()
     ensures { WovenIsRun }
 {
