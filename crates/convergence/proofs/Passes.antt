@@ -1,5 +1,5 @@
 -- A machine moves only in a full tick with privilege. So if a ticket waits at the desk, the machine
--- moves only if the desk had served or a loan ends.
+-- moves only if the desk is marked as having served or a loan ends.
 use Rattle.std.proofs.Common.{◌≡◌, ◌≢◌, ℕ, inl, inr, true, false, ◌==◌, ◌&&◌, sym, ◌∙◌, ap}
 use Rattle.std.specs.Prelude.{is_none, is_some, if◌then◌else◌}
 use Rattle.std.specs.List.{list_any}

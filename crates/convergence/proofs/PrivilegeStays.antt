@@ -1,4 +1,5 @@
--- A privileged machine stays privileged until it moves: what it sees does not change.
+-- On the good token ring of a settled world, over events without damage, a privileged machine stays
+-- privileged until it moves: what it sees does not change.
 use Rattle.std.proofs.Common.{◌≡◌, ℕ, ◌<◌, inl, inr, true, false, sym, ◌∙◌, ap, subst}
 use Rattle.topology.specs.Network.{Network, are_joined}
 use Rattle.topology.specs.declared.frame.Payload.{Payload}

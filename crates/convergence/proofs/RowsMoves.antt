@@ -18,7 +18,7 @@ use Rattle.convergence.specs.RingService.{MachineMove}
 -- ---- The token ring needs more values than it has places: with 4 values on the 6 places of two
 -- nodes it may go round for ever and never be good.
 
--- values are copied to the right and the head moves this many times, and no ring on the way or at
+-- a run of the copying ring in which the head moves this many times, and no ring on the way or at
 -- the end is good
 data NeverGood (q : ℕ) : ℕ → List ℕ → List ℕ → Type 0 where
   Ends : {xs : List ℕ} → NeverGood q zero xs xs

@@ -1,4 +1,5 @@
--- On stable links, after three sweeps, what is staged and copied was said within them.
+-- On stable links, after three sweeps, what is staged and copied is what its node would have said
+-- at some moment of them.
 use Rattle.std.proofs.Common.{◌≡◌, ℕ, Bool, true, false, ◌==◌, ◌&&◌, nat_eq, List, [], ◌∷◌, Option, refl, ◌∙◌, ap, arith}
 use Rattle.std.specs.List.{list_any}
 use Rattle.std.specs.Option.{option_eq}

@@ -29,8 +29,8 @@ OneLending =
     (w : World) (u v : ℕ) → IsWorldInRange w → IsLegitimate w → u < w.net.nodes → v < w.net.nodes
     → IsTrue (is_lending w u) → IsTrue (is_lending w v) → u ≡ v
 
--- on a good token ring a privileged node whose machines keep their values in an event stays
--- privileged
+-- on the good token ring of a settled world, a privileged node whose machines keep their values in
+-- an event without damage stays privileged
 abbrev pub PrivilegeStays : Type 0
 PrivilegeStays =
     (w : World) (e : Event) (v : ℕ) → IsSettled w → is_damage w e ≡ false → IsTokenRingGood w
@@ -45,8 +45,8 @@ SettledStays = (w : World) (es : List Event) → IsSettled w → IsUndamaged w e
 
 -- ---- the token ring, by moves of its head
 
--- On the token ring of a settled world an event is a run of copies to the right and at most one
--- move of the head.
+-- On the token ring of a settled world an event without damage is a run of the copying ring:
+-- changes that leave the head as it is, and at most one move of the head.
 abbrev pub EventIsRingRun : Type 0
 EventIsRingRun =
     (w : World) (e : Event) → IsSettled w → is_damage w e ≡ false

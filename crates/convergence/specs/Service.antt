@@ -35,8 +35,8 @@ EachStateVisits =
     (w : World) (es : List Event) (v : ℕ) → IsWorldInRange w → IsUndamaged w es → v < w.net.nodes
     → Sweeps w (sharp_of w.net + 16 * (w.net.nodes - 1)) es → IsVisitedOnceLegitimate w es v
 
--- If a machine of v moves while a ticket waits at its desk, the desk had served, or a loan ends
--- in that very tick,
+-- If a machine of v moves while a ticket waits at its desk, the desk is marked as having served,
+-- which damage may have written, or a loan ends in that very event,
 abbrev pub MovesPassServed : Type 0
 MovesPassServed =
     (w : World) (e : Event) (v t : ℕ) → is_damage w e ≡ false
@@ -45,7 +45,7 @@ MovesPassServed =
     → ((w.node v).desk.served ≡ true)
     ⊎ ((ticket : ℕ) × (desk_act (w.node v).desk ((step w e).node v).desk ≡ Lost ticket))
 
--- and in any case the desk then lends to nobody and has not served.
+-- and in any case the desk then lends to nobody and is not marked as having served.
 abbrev pub MovesClearDesks : Type 0
 MovesClearDesks =
     (w : World) (e : Event) (v t : ℕ) → is_damage w e ≡ false

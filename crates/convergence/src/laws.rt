@@ -45,9 +45,9 @@ pub fn desks()
     below();
 }
 
-/// Closure: from a legitimate world every list of events without damage leads only through
-/// legitimate worlds, and a legitimate world serves: each distance is the least length of a walk
-/// and each parent the true one, at most one node is privileged, and at most one lends.
+/// Closure: from a legitimate world in range every list of events without damage leads only through
+/// legitimate worlds, and a legitimate world in range serves: each distance is the least length of
+/// a walk and each parent the true one, at most one node is privileged, and at most one lends.
 pub fn closure()
     ensures stays { LegitimateStays }
     ensures serves { LegitimateServes }
@@ -56,9 +56,10 @@ pub fn closure()
 }
 
 /// Convergence: from every world in range, over every list of events without damage, the links are
-/// stable after 4(C + 1) sweeps, and from then on any three sweeps replace everything that is
-/// staged and copied. The tree is reached after 4(n + 1) more, and the token ring is good after
-/// 48(n - 1)(n - 1) more. After one more, the R-th, the world is legitimate, and so it serves.
+/// stable after 4(C + 1) sweeps. From then on, at the end of any three sweeps, all that is staged
+/// and copied is what its node would have said at some moment of them. The tree is reached 4(n + 1)
+/// sweeps after the links are stable, and the token ring is good after 48(n - 1)(n - 1) more. After
+/// one more, the R-th, the world is legitimate, and so it serves.
 pub fn converge()
     ensures links { LinksConverge }
     ensures payloads { PayloadsConverge }
@@ -84,6 +85,7 @@ pub fn sharp()
     below();
 }
 
+<<<<<<< ours
 /// Service: from a legitimate world, over every list of events without damage, each node is
 /// privileged at some moment of any 16(n - 1) sweeps. From any other world, over that many sweeps
 /// more than the sharper bound, the world becomes legitimate, and each node is privileged at some
@@ -91,6 +93,15 @@ pub fn sharp()
 /// a loan ends in that very tick; after that the desk is ready to lend. So a ticket that waits
 /// after i others, and does not leave while it waits, is lent the lock within 8(n - 1)(i + 2)
 /// sweeps.
+=======
+/// Service: from a legitimate world in range, over every list of events without damage, each node
+/// is privileged at some moment of any 16(n - 1) sweeps; from any other world in range, this holds
+/// once it is legitimate. While a ticket waits at a desk, a machine of its node moves, and so
+/// passes the privilege on, only if the desk is marked as having served, which damage may have
+/// written, or a loan ends in that very event; after that the desk is ready to lend. So in a
+/// legitimate world a ticket that waits after i others, and does not leave while it waits, is lent
+/// the lock within 8(n - 1)(i + 2) sweeps.
+>>>>>>> theirs
 pub fn service()
     ensures legitimate { LegitimateVisits }
     ensures each_state { EachStateVisits }

@@ -7,11 +7,12 @@
 //! the privilege and lends the lock.
 //!
 //! The token ring is Dijkstra's K-state machines on a tree, laid along its Euler tour. On a
-//! *settled* world (in range, every link stable, the tree reached) each event of the network copies
-//! values of the ring to the right and moves its head at most once. So the ring becomes *good*,
-//! after moves of the head or after sweeps, and stays good; and on a good ring at most one node is
-//! privileged. A world is *legitimate* if it is settled, its ring is good, and each node that lends
-//! is privileged.
+//! *settled* world (in range, every link stable, the tree reached) each event without damage is a
+//! run of changes of the copying ring in which its head moves at most once. So the ring becomes
+//! *good*, after moves of the head or after sweeps, and stays good; and on a good ring at most one
+//! node is privileged. A world is *legitimate* if every link is stable, the tree is reached, its
+//! ring is good, and each node that lends is privileged. That it is in range is not part of this:
+//! the laws ask for it apart.
 //!
 //! Nothing is computed here, and nothing is claimed about time: not that sweeps occur, only what
 //! holds once they have. The laws are contracts of functions without parameters. A proof about a

@@ -50,9 +50,10 @@ pub fn below()
     legs();
 }
 
-/// One token: if the tree is reached and the token ring is good, at most one node is privileged,
-/// and in a legitimate world at most one lends. A privileged node stays privileged until one of
-/// its machines moves. This is the purpose of the lock.
+/// One token, in a world in range: if the tree is reached and the token ring is good, at most one
+/// node is privileged, and in a legitimate world at most one lends. This is the purpose of the
+/// lock. On a settled world with a good ring, over events without damage, a privileged node stays
+/// privileged until one of its machines moves.
 pub fn one_token()
     ensures privileged { OnePrivileged }
     ensures lending { OneLending }
@@ -68,9 +69,9 @@ pub fn settled()
     below();
 }
 
-/// The token ring of a settled world, by moves of its head: an event copies values to the right and
-/// moves the head at most once, 6(n - 1) moves make the ring good, and any 8(n - 1) sweeps contain
-/// a move.
+/// The token ring of a settled world, over events without damage, by moves of its head: an event is
+/// a run of changes of the copying ring in which the head moves at most once, 6(n - 1) moves make
+/// the ring good, and any 8(n - 1) sweeps contain a move.
 pub fn head()
     ensures runs { EventIsRingRun }
     ensures moves_turn_good { MovesTurnRingGood }

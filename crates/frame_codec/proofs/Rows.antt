@@ -8,7 +8,7 @@ use Rattle.frame_codec.specs.Spelling.{spelling, hello}
 use Rattle.frame_codec.specs.Reading.{frame_of}
 use Rattle.frame_codec.specs.Lines.{good_lines, frames_of_pieces}
 
-abbrev frame : ℕ → ℕ → ℕ → Option ℕ → ℕ → Frame
+abbrev pub frame : ℕ → ℕ → ℕ → Option ℕ → ℕ → Frame
 frame seq ack distance parent ring = record { seq = seq; ack = ack; payload = record { distance = distance; parent = parent; ring = ring } }
 
 -- on a line of three nodes with capacity 1 the counters are below 5 and the ring values below 13

@@ -4,9 +4,9 @@ use Rattle.std.proofs.lemmas.List.{append-nil}
 use Rattle.byte_lines.specs.Lines.{newline, half_after}
 use Rattle.byte_lines.specs.Kept.{kept}
 use Rattle.frame_codec.specs.Spelling.{digit, digits, parent_number, spelling}
-use Rattle.frame_codec.specs.Reading.{digit_value, number_from, parent_of, frame_of}
+use Rattle.frame_codec.specs.Reading.{digit_value, number_from, parent_of, candidate, frame_of}
 use Rattle.frame_codec.specs.Lines.{frames_after, good_lines, ReadsFrames, ReadsOn}
-use Rattle.frame_codec.proofs.Rows.{line, first}
+use Rattle.frame_codec.proofs.Rows.{frame, line, first}
 
 -- digits are hexadecimal, and lower case
 digit-nine : digit 9 ≡ 57
@@ -39,6 +39,18 @@ parent-read = refl
 
 parent_not-zero : parent_of 0 ≡ Some 0
 parent_not-zero = refl
+
+-- the five numbers of a line stand in this order
+fields-in-order : candidate (codes "F00010002000300040005") ≡ frame 1 2 3 (Some 4) 5
+fields-in-order = refl
+
+-- a line with a small `f` has a candidate too, which it does not spell
+candidate-unspelled : candidate (codes "f00010002000300040005") ≡ frame 1 2 3 (Some 4) 5
+candidate-unspelled = refl
+
+-- no candidate has ffff as its parent
+candidate_not-parent : ¬ (candidate (codes "F000100020003ffff0005") ≡ frame 1 2 3 (Some 65535) 5)
+candidate_not-parent e = let parent = ap (λ f. f.payload.parent) e in grind (arith, parent)
 
 -- a half line goes on in the next piece; without its first half the second is no frame
 after-half : frames_after line (codes "F00000000000") (codes "10000000c" ++ newline ∷ []) ≡ first ∷ []

@@ -16,8 +16,9 @@ use Rattle.node_core.specs.View.{NodeView, site_in, state_of}
 use Rattle.node_core.specs.declared.ticked.Ticked.{Ticked}
 use Rattle.pace.specs.declared.pace.Plan.{Plan}
 use Rattle.node_connections.specs.socket_links.Counts.{Counts}
+use Rattle.node_connections.specs.declared.port.NodePort.{NodePort}
 use Rattle.node_service.specs.Deeds.{Acts, Became, Deed, IsLeave, IsOfClient, IsTake, Leads, ticks_in, Takes, Asks, Leaves, Ticks, Sends}
-use Rattle.node_loop.specs.Moments.{Moment}
+use Rattle.node_loop.specs.Moments.{Moment, moment_of}
 use Rattle.node_loop.specs.Speaking.{IsPlanOf, outlook_of, sent_if}
 use Rattle.node_loop.specs.Turns.{Attends, Turns}
 use Rattle.node_loop.proofs.Accounts.{attend-ticks}
@@ -113,6 +114,14 @@ module _ {P : Type 0} where
     };
     let_go = false;
   }
+
+  -- a moment has the node, the ports, the pace, and whether a client let go, each as it is given
+  moment-of : (p q : NodePort P) → moment_of root_ticked (p ∷ q ∷ []) (moment root).pace true
+      ≡ record { node = root_ticked; ports = p ∷ q ∷ []; pace = (moment root).pace; let_go = true }
+  moment-of p q = refl
+
+  moment_not-let-go : ¬ (moment_of root [] (moment root).pace true ≡ moment root)
+  moment_not-let-go e = let let_go = ap (λ (m : Moment P). m.let_go) e in grind (arith, let_go)
 
   -- it lends to ticket 3, with a lease
   abbrev lending : Moment P

@@ -116,7 +116,8 @@ CarryActs r capacity junk (c ∷ cs) acts =
 -- A link of bytes: one connection after another, each of which carries its acts. At the start whole
 -- lines stand on it, those of frames that are under way, or any others. What is accepted is what the
 -- one end sent, what is given is what the other end took, and when a connection ends, all that is
--- left on it is lost.
+-- left on it is lost. All of this is in order by instants; so no frame is accepted at an instant at
+-- which one is given, and a connection ends later than its last act if frames are left on it.
 pub record IsLinkOfBytes (r : Ranges) (capacity : ℕ) (junk : List ℕ) (sent taken : List Act)
     (cs : List Ended) (acts : List Act) : Type 0 where
   pub whole : half_line junk ≡ []

@@ -47,7 +47,8 @@ OrdersAreRuns =
 -- What is promised of a list of events that leads from the one world to the other. It is a run that
 -- goes through. Once it holds R sweeps the network serves, and goes on serving; R is 16(n - 1) + 4e
 -- + 15, with e the greatest distance from the root, or the greater bound of the network. And from
--- then on it lends the lock to every ticket that waits.
+-- then on a ticket that waits, and does not leave while it waits, is lent the lock once the run
+-- holds as many more sweeps as the ticket's place asks for.
 pub record KeepsPromise (w last : World) (events : List Event) : Type 0 where
   pub leads : run w events ≡ last
   pub through : GoesThrough w events

@@ -15,8 +15,8 @@ use Rattle.processes.specs.Connections.{accepted_frames, given_frames, IsWithin,
 use Rattle.processes.specs.Connections.{history_over, KeepOrder, as_items, line_of, lines_of}
 use Rattle.processes.specs.Connections.{AreInRange, IsConnection, IsLinkOfBytes, left_over}
 
--- connections of which each keeps order and loses nothing until it ends are a history that a link
--- of that capacity can have
+-- what happens on connections, each of which keeps order and loses nothing until it ends, with at
+-- most `capacity` frames under way, can happen on a link of that capacity, one act after the other
 abbrev pub ConnectionsPlay : Type 0
 ConnectionsPlay =
     (capacity : ℕ) (way last : List Frame) (cs : List Ended) (acts : List Act)
@@ -49,7 +49,8 @@ BytesKeepOrder =
     → IsWithin capacity (length (good_lines r junk)) acts
     → (left : List Frame) × KeepsOrder capacity (good_lines r junk) acts left
 
--- a half line that stood on it spoils at most the first frame, which is then lost
+-- whatever stood on it at the start spoils at most the first frame: those after it are read, if
+-- they are in range
 abbrev pub JunkSpoilsOneFrame : Type 0
 JunkSpoilsOneFrame =
     (r : Ranges) (junk : List ℕ) (f : Frame) (fs : List Frame) → AreNarrow r → AreInRange r fs

@@ -92,8 +92,8 @@ Plays capacity way (Loses t i ∷ acts) last =
     (i < length way) × Plays capacity (remove way i) acts last
 
 -- The history of a link: what it accepted is what its sender sent, what it gave is what its
--- receiver took, each at the same instant, with losses between them as the reader finds them; and a
--- link of that capacity, which keeps order, can do it.
+-- receiver took, each at the same instant, with losses between them as the reader finds them; its
+-- acts are in order by instants; and a link of that capacity, which keeps order, can do it.
 pub record IsHistory (capacity : ℕ) (first : List Item) (sent taken : List Act)
     (history : List Act) (last : List Item) : Type 0 where
   pub accepted : the_accepts history ≡ sent

@@ -40,18 +40,22 @@ pub fn promise()
 }
 
 /// A link that is one connection after another: if each keeps order and loses nothing until it
-/// ends, and at most as many frames as the capacity are under way, the link has a history. So two
-/// nodes that are joined by connections keep the premise of the laws above. And the frames of a
-/// history are those that the accounts of the link's two ends speak of.
+/// ends, and at most as many frames as the capacity are under way, a link of that capacity can do
+/// all their acts, one after the other. These acts are a history, as the laws above ask, if they
+/// are also in order by instants and those of the link's two ends. And the frames of a history are
+/// those that the accounts of the two ends speak of.
 pub fn connections()
     ensures play { ConnectionsPlay }
     ensures frames { HistoriesGiveFrames }
 {}
 
-/// A connection of bytes: two pipes, of which one gives a beginning of what the other took. It keeps
-/// order and loses nothing until it ends, if what was sent on it is in range. So a link that is one
-/// such connection after another has a history. A half line that stood on a connection at the start
-/// spoils at most one frame.
+/// A connection of bytes: two pipes, of which one gives a beginning of what the other took. It
+/// keeps order and loses nothing until it ends, if no half line stood on it at the start, what was
+/// sent on it is in range, and at most as many frames as the capacity are under way. So a link that
+/// is one such connection after another has a history, if the acts are also those of its two ends,
+/// and in order by instants. That order asks that no frame is accepted at an instant at which one
+/// is taken, and that a connection ends later than its last act if frames are left on it. A half
+/// line that stood on a connection at the start spoils at most one frame.
 pub fn bytes()
     ensures pipes { PipesAreConnections }
     ensures beginning { ConnectionsGiveABeginning }
@@ -67,8 +71,10 @@ pub fn bytes()
 
 /// The whole of the headline and the service, for processes over bytes. What is asked: the nodes go
 /// by their own steps; each link is one connection of bytes after another, on which whole lines
-/// stand at the start; a frame is taken later than it was accepted; and at most as many frames as
-/// the capacity are under way on a link. What a node sends is in range by itself.
+/// stand at the start; what happens on a link is in order by instants; on one link no frame is
+/// accepted at an instant at which one is taken; a connection ends later than its last act if
+/// frames are left on it; and at most as many frames as the capacity are under way on a link. What
+/// a node sends is in range by itself.
 pub fn promise_over_bytes()
     ensures are { BytesAreProcesses }
     ensures keep { BytesKeepPromise }

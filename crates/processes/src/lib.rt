@@ -2,10 +2,11 @@
 //! hold for them.
 //!
 //! Each node has an account of what it did, deed by deed, each at an instant. Each link between two
-//! nodes has a history: it keeps order, it may lose any frame, and it holds at most as many frames
-//! as its capacity. If the nodes go by their own steps and the links by such histories, there is a
-//! list of events, the deeds in the order of their instants with losses between them, that is a run
-//! of the network. So from every state the network comes to serve, and then serves permanently.
+//! nodes has a history by the same instants: it keeps order, it may lose any frame, it holds at
+//! most as many frames as its capacity, and it accepts no frame at an instant at which it gives
+//! one. If the nodes go by their own steps and the links by such histories, there is a list of
+//! events, the deeds in the order of their instants with losses between them, that is a run of the
+//! network. So from every state the network comes to serve, and then serves permanently.
 //!
 //! Nothing is computed here: `laws` has the statements, as contracts of functions that do nothing.
 //! The code that drives a node names its account. What is asked of the links is believed.

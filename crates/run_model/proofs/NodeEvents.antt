@@ -1,5 +1,5 @@
--- What an event does to the machines and the desk of one node: it ticks, or its machines keep their
--- values and its desk begins no loan.
+-- What an event does to the machines and the desk of one node: what a tick does, or the machines
+-- keep their values and the desk lends only if it lent before.
 use Rattle.std.proofs.Common.{◌≡◌, ℕ, ◌⊎◌, inl, inr, true, false, ◌==◌, List, [], ◌∷◌, Option, Some, None, refl, sym, ◌∙◌, ap, subst, arith}
 use Rattle.std.specs.Prelude.{is_some, is_none}
 use Rattle.std.proofs.lemmas.Bool.{cases_Bool, cases_eq, false≢true, cond-true, cond-false, eq-eqb, ne_eqb}

@@ -1,5 +1,5 @@
 -- Longer stretches: the whole hands over what a part of it does, so a sweep stays a sweep if
--- events are added before or after it.
+-- events without damage are added before or after it.
 use Rattle.std.proofs.Common.{◌≡◌, ℕ, ◌<◌, suc, List, [], ◌∷◌, ◌++◌, true, IsTrue, length, map, refl, sym, ap, subst, arith}
 use Rattle.std.proofs.lemmas.Bool.{or_left, or_right, or_parts}
 use Rattle.std.proofs.lemmas.List.{map-append}
@@ -127,7 +127,7 @@ sweep-late w xs ys edges fine sweep =
           (sweep.renewed u v (subst (λ net. IsTrue (are_joined net.edges u v)) same joined));
     }
 
--- more events before or after a sweep leave it a sweep
+-- more events without damage before or after a sweep leave it a sweep
 pub sweep-grows : (w : World) (front es back : List Event) → AreEdges w.net → IsUndamaged w (front ++ es ++ back) → IsSweep (run w front) es
     → IsSweep w (front ++ es ++ back)
 sweep-grows w front es back edges fine sweep =

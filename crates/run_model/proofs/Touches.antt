@@ -1,4 +1,4 @@
--- An event changes only its own node and its own link.
+-- An event leaves each node and each link unchanged that is not its own.
 use Rattle.std.proofs.Common.{◌≡◌, ℕ, List, false, arith}
 use Rattle.std.proofs.lemmas.Grind.{common_steps}
 use Rattle.link_model.specs.declared.item.Item.{Item}

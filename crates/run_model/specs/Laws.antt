@@ -99,7 +99,7 @@ EdgeSweeps =
 
 -- ---- sweeps
 
--- more events before or after a sweep leave it a sweep
+-- more events without damage before or after a sweep leave it a sweep
 abbrev pub SweepGrows : Type 0
 SweepGrows =
     (w : World) (front es back : List Event) → IsWorldInRange w → IsUndamaged w (front ++ es ++ back) → IsSweep (run w front) es
@@ -198,7 +198,7 @@ CountRises =
     (w : World) (r : ℕ) (done rest : List Event) (e : Event) → IsWorldInRange w → IsCounted w done rest r → IsSweep (run w done) (rest ++ e ∷ [])
     → IsCounted w (done ++ (rest ++ e ∷ [])) [] (suc r)
 
--- a list has one sweep count
+-- a list has at most one sweep count
 abbrev pub OneCount : Type 0
 OneCount = (w : World) (es : List Event) (r s : ℕ) → IsSweepCount w es r → IsSweepCount w es s → r ≡ s
 

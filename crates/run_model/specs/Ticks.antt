@@ -13,14 +13,14 @@ pub record IsResting (old new : World) (v : ℕ) : Type 0 where
   pub values : (new.node v).value ≡ (old.node v).value
   pub loan : IsTrue (is_some (new.node v).desk.lent) → IsTrue (is_some (old.node v).desk.lent)
 
--- the node ticks from one world to the next
+-- from one world to the next the node becomes what a tick makes of it
 abbrev pub IsTicking : World → World → ℕ → Type 0
 IsTicking old new v = new.node v ≡ ticked (site old v) (old.node v)
 
--- a node rests in each event that is no damage and not its own tick
+-- in each event that is no damage a node rests, or becomes what a tick makes of it
 abbrev pub NodesMoveInTicks : Type 0
 NodesMoveInTicks = (w : World) (e : Event) (v : ℕ) → is_damage w e ≡ false → IsResting w (step w e) v ⊎ IsTicking w (step w e) v
 
--- no tick of a node of the network is refused
+-- a node of the network becomes in its tick what a tick makes of it
 abbrev pub TicksAreAccepted : Type 0
 TicksAreAccepted = (w : World) (v : ℕ) → v < w.net.nodes → IsTicking w (step w (Tick v)) v

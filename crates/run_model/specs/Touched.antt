@@ -1,4 +1,5 @@
--- The node and the link that an event may change.
+-- The nodes and the links that an event may change: at most one of each, or two of each if an edge
+-- joins or goes.
 use Rattle.std.specs.Prelude.{ℕ, Bool, false, ◌==◌, ◌||◌}
 use Rattle.run_model.specs.Sweep.{is_link}
 use Rattle.run_model.specs.declared.event.Event.{Event}

@@ -50,8 +50,10 @@ pub fn in_range()
     node_core_laws::ranges_are_kept();
 }
 
-/// An event changes only its own node and its own link. So proofs about one node or one edge skip
-/// all other events.
+/// An event leaves each node and each link unchanged that is not its own. An event has at most one
+/// node and one link of its own; but if an edge joins or goes, both its nodes and both its links
+/// are the event's own, and the network and the spare pairs change too. So proofs about one node or
+/// one edge skip all other events.
 pub fn own_changes()
     ensures node { OwnNodeAlone }
     ensures link { OwnLinkAlone }
@@ -71,9 +73,9 @@ pub fn edges()
     in_range();
 }
 
-/// Lists that hold sweeps: r + s sweeps are r and then s, and conversely; a list that holds some
-/// holds fewer; more events before or after remove none. Convergence goes in stages, each with its
-/// own sweeps.
+/// Lists that hold sweeps: r + s sweeps are r and then s, and conversely if the first list is
+/// without damage; a list that holds some holds fewer; more events without damage before, or any
+/// more after, remove none. Convergence goes in stages, each with its own sweeps.
 pub fn sweep_numbers()
     ensures grows { SweepGrows }
     ensures split { SweepsSplit }
@@ -107,8 +109,9 @@ pub fn stretches()
     topology_laws::joined();
 }
 
-/// The greatest number of sweeps is found greedily: end each sweep at the first event that
-/// completes it. So a reader of a run keeps only the count and the unfinished stretch.
+/// The greatest number of sweeps of a list without damage is found greedily: end each sweep at the
+/// first event that completes it. So a reader of a run keeps only the count and the unfinished
+/// stretch. And a list has at most one sweep count.
 pub fn sweep_counts()
     ensures earliest { EarliestIsBest }
     ensures greedy { GreedyCount }
@@ -134,8 +137,10 @@ pub fn moments()
     in_range();
 }
 
-/// Machines move, and loans begin, only in a node's own ticks. So proofs about one node along a
-/// run need no other event.
+/// An event that is no damage keeps the values of a node's machines, and lets it lend only if it
+/// lent before; or it makes of the node what a tick does. The tick of a node of the network does
+/// the latter. So proofs about when a node's machines move, or when it begins to lend, look only at
+/// ticks.
 pub fn ticks()
     ensures moves { NodesMoveInTicks }
     ensures accepted { TicksAreAccepted }

@@ -1,6 +1,6 @@
 -- Small examples of turns in a row, of connections of a port, and of links of pipes; and some that look
 -- like them and are none.
-use Rattle.std.proofs.Common.{◌≡◌, ℕ, List, [], ◌∷◌, ◌++◌, Option, None, Some, refl, ap, sym, subst, inl, inr, arith}
+use Rattle.std.proofs.Common.{◌≡◌, ℕ, List, [], ◌∷◌, ◌++◌, Option, None, Some, refl, ap, sym, subst, ◌∙◌, inl, inr, arith}
 use Rattle.topology.specs.declared.frame.Frame.{Frame}
 use Rattle.topology.specs.declared.frame.Ranges.{Ranges}
 use Rattle.node_core.specs.State.{LocalState}
@@ -20,7 +20,7 @@ use Rattle.processes.specs.Connections.{lines_of}
 use Rattle.processes.proofs.RowsLinks.{numbered}
 use Rattle.running_nodes.specs.Pipes.{Ends, sent_at, taken_at, outs_of, intos_of, GaveSince, TookSince, IsOneStream, IsOnlyRead, AreEnds, Carries, CarryOn, IsLinkOfPipes}
 use Rattle.running_nodes.specs.Stood.{Start, Stood, all_taken, all_sent, IsStood, PortWas, StartsAt}
-use Rattle.running_nodes.specs.Stretches.{IsTurn, Goes, all_deeds}
+use Rattle.running_nodes.specs.Stretches.{Went, IsTurn, Goes, all_deeds}
 
 abbrev sizes : Ranges
 sizes = record { nodes = 3; counter = 5; ring = 13 }
@@ -40,6 +40,15 @@ module _ {P : Type 0} (gave took : P → Option (List ℕ)) (counts : P → Coun
     one-turn : Goes gave took counts old (record { account = t.account; after = new } ∷ []) new
     one-turn = (inl (says, now, t, refl), refl)
 
+  module _ (says next : Ticked) (now later : ℕ) (old mid new : Moment P) (s : Turns gave took counts says now old mid)
+      (t : Turns gave took counts next later mid new) where
+    abbrev both : List (Went P)
+    both = record { account = s.account; after = mid } ∷ record { account = t.account; after = new } ∷ []
+
+    -- each of two turns in a row has its own account, and is followed by the moment that it led to
+    two-turns : Goes gave took counts old both new
+    two-turns = (inl (says, now, s, refl), (inl (next, later, t, refl), refl))
+
   attend-is : (now : ℕ) (old new : Moment P) (a : Attends gave took counts now old new) → IsTurn gave took counts a.account old new
   attend-is now old new a = inr (now, a, refl)
 
@@ -55,6 +64,15 @@ module _ {P : Type 0} (gave took : P → Option (List ℕ)) (counts : P → Coun
     -- nor do no turns
     goes_not-at-once : ¬ Goes gave took counts old [] new
     goes_not-at-once same = let e : new.node.distance ≡ old.node.distance = ap (λ (m : Moment P). m.node.distance) same in omega (arith, before, after, e)
+
+    -- nor does one turn whose account has no deed, or after which the node is as before
+    went_not-idle : ¬ Goes gave took counts old (record { account = []; after = new } ∷ []) new
+    went_not-idle g = turn_not-nothing g.0
+
+    went_not-elsewhere : (t : Went P) → t.after ≡ old → ¬ Goes gave took counts old (t ∷ []) new
+    went_not-elsewhere t same g =
+        let e : new.node.distance ≡ old.node.distance = ap (λ (m : Moment P). m.node.distance) (g.1 ∙ same) in
+        omega (arith, before, after, e)
 
   goes-nowhere : (old : Moment P) → Goes gave took counts old [] old
   goes-nowhere old = refl

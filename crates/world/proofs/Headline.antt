@@ -38,7 +38,8 @@ module _ (network : NetworkStays) (leads : MomentLeads) (start : World) (es : Li
       let few : needed m.world.net ≤ count = subst (λ n. needed n ≤ count) (sym same-network) enough in
       subst P l.2 (law m.world m.rest l.0 l.1 (fewer m.world (needed m.world.net) count m.rest few counts.held))
 
-  -- what is staged and copied at its end was said within its last three sweeps
+  -- what is staged and copied at its end is what its node would have said at some moment of its
+  -- last three sweeps
   pub payloads-fresh : RunsJoin → PayloadsConverge → ArePayloadsFresh start es (run start es)
   payloads-fresh joins law first last u v parted joined early late =
       let m = after_damage start es in

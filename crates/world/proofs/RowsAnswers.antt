@@ -131,6 +131,13 @@ stopped-not_yet h =
     let two : h.count ≡ 2 = omega (arith, counted h.count two_unread (codes "y\n") h.read) in
     absurd (let more = begun _ (codes "line 1: Unread\nl") (rw two at h.written) in cc)
 
+-- `tick` is not refused before the whole line ` 0` after it is read
+stopped-not_half : ¬ IsStopped start (codes "tick 0\n") (Some (codes " 0\n")) (Some []) (Some (codes "line 1: Unread\n"))
+unfolding digits
+stopped-not_half h =
+    let four : h.count ≡ 4 = omega (arith, counted h.count (codes "tick 0\n") (codes " 0\n") h.read) in
+    absurd (let none = begun _ (codes "line 1: Unread\n") (rw four at h.written) in cc)
+
 -- the refusal of the last line was written, and a part of the first node's line
 half-shown : IsHalfShown start (codes "x") (Some []) (Some (codes "line 1: Unread\nnode 0 dist"))
 unfolding digits
@@ -211,7 +218,7 @@ simulated-refusal : IsSimulated start two_unread (Some (codes "y\n")) (Some []) 
 simulated-refusal = inl stopped
 
 simulated-state : IsSimulated start (codes "x") (Some []) (Some []) (Some (codes "line 1: Unread\nnode 0 dist")) (Err Write)
-simulated-state = inr (refl, omega arith, half-shown)
+simulated-state = inr (refl, omega arith, inr half-shown)
 
 -- no state is written while a byte is left
 simulated-not_state : ¬ IsSimulated start (codes "#\n") (Some (codes "\n")) (Some []) (Some (codes "node")) (Err Write)

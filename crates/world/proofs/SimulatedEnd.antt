@@ -1,7 +1,6 @@
 -- The end of a simulation: the text of the world, after the refusal lines.
 use Rattle.std.proofs.Common.{◌≡◌, ◌∙◌, ap, sym, ℕ, ◌≤◌, List, [], Option, Some, Result, Ok, Err, IsErrAnd, IfErr, length, arith, inl, inr}
 use Rattle.std.proofs.lemmas.Grind.{common_steps}
-use Rattle.std.proofs.Math.Seq.{take-length, drop-length}
 use Rattle.judge.specs.run_model.World.{World}
 use Rattle.judge.specs.run_model.Run.{run}
 use Rattle.judge.specs.run_model.NodeCounts.{lending_count}
@@ -69,9 +68,7 @@ pub all_was_read : (start : World) (bytes : List ℕ) (rest before now : Option 
     → rest ≡ Some [] → length bytes ≤ longest_text → IfErr result (λ fault. fault ≡ Write) → Finishes result start bytes before now
     → IsSimulated start bytes rest before now result
 all_was_read start bytes rest before now (Ok summary) ended short write f = (ended, short, f)
-all_was_read start bytes rest before now (Err fault) ended short write (inl b) =
-    rw write (inl (record { count = length bytes; read = (omega arith, ended ∙ ap Some (sym (drop-length bytes))); written = rw (take-length bytes) b }))
-all_was_read start bytes rest before now (Err fault) ended short write (inr b) = rw write (inr (ended, short, b))
+all_was_read start bytes rest before now (Err fault) ended short write stopped = rw write (inr (ended, short, stopped))
 
 -- the failures of two calls, one after the other
 pub rose_then : (failures more most : ℕ) → failures ≤ more → Rose more most → Rose failures most

@@ -47,11 +47,19 @@ pub record IsTooLong (start : World) (bytes : List ℕ) (rest before after : Opt
   pub long : longest_text < count
   pub written : Takes (refusals_of start (ended_lines (take longest_text bytes))) before after
 
--- The first bytes were read, and only a beginning of the refusal lines of their lines was written.
+-- The first bytes were read, and only a beginning of the refusal lines of their whole lines was
+-- written.
 pub record IsStopped (start : World) (bytes : List ℕ) (rest before after : Option (List ℕ)) : Type 0 where
   pub count : ℕ
   pub read : HasRead count bytes rest
-  pub written : TakesABeginning (refusals_of start (text_lines (take count bytes))) before after
+  pub written : TakesABeginning (refusals_of start (ended_lines (take count bytes))) before after
+
+-- All was read, and only a beginning was written: of the refusal lines of all lines, or of the whole
+-- simulated text.
+abbrev pub IsStoppedAtTheEnd : World → List ℕ → Option (List ℕ) → Option (List ℕ) → Option (List ℕ) → Type 0
+IsStoppedAtTheEnd start bytes rest before after =
+    (rest ≡ Some []) × (length bytes ≤ longest_text)
+    × (TakesABeginning (refusals_of start (text_lines bytes)) before after ⊎ IsHalfShown start bytes before after)
 
 -- What an answer says about the bytes that the source had to give, those that it still has, and
 -- what the sink had taken before and after.
@@ -61,7 +69,7 @@ IsSimulated start bytes rest before after (Err Memory) = (rest ≡ Some bytes) �
 IsSimulated start bytes rest before after (Err Read) = IsCutShort start bytes rest before after
 IsSimulated start bytes rest before after (Err Long) = IsTooLong start bytes rest before after
 IsSimulated start bytes rest before after (Err Write) =
-    IsStopped start bytes rest before after ⊎ ((rest ≡ Some []) × (length bytes ≤ longest_text) × IsHalfShown start bytes before after)
+    IsStopped start bytes rest before after ⊎ IsStoppedAtTheEnd start bytes rest before after
 
 -- A result that holds more than a summary, reduced to its summary.
 abbrev pub summary_in : {T E : Type 0} → (T → Summary) → Result T E → Result Summary E

@@ -37,14 +37,15 @@ pub struct Report<A: Allocator + Copy = Global> {
 /// Lets events happen one after the other, from this world on, and counts sweeps and refusals.
 ///
 /// From any state, any two sweeps move the number of each sender. After 4(C + 1) sweeps the links
-/// are stable, and from then on all that is staged and copied was said within the last three. The
-/// tree is reached after 4(n + 1) more, and after as many sweeps as `Net::bound` says, the world is
-/// legitimate: each distance is the least length of a walk and each parent the true one, and at
-/// most one node is privileged and at most one lends. `Net::sharp_bound` is never more than that,
-/// and is enough too. C, n and the bounds are those of the network at the end. The sweeps are those
-/// since the last damage: how the world came to its state does not matter. From a legitimate world,
-/// events without damage lead only through legitimate worlds, and in 16(n - 1) sweeps each node is
-/// privileged once; from any world, in that many sweeps more than either of the bounds.
+/// are stable. Three sweeps later, and from then on, all that is staged and copied is what its node
+/// would have said at some moment of the last three. The tree is reached 4(n + 1) sweeps after the
+/// links are stable, and after as many sweeps as `Net::bound` says, the world is legitimate: each
+/// distance is the least length of a walk and each parent the true one, and at most one node is
+/// privileged and at most one lends. `Net::sharp_bound` is never more than that, and is enough too.
+/// C, n and the bounds are those of the network at the end. The sweeps are those since the last
+/// damage: how the world came to its state does not matter. From a legitimate world, events without
+/// damage lead only through legitimate worlds, and in 16(n - 1) sweeps each node is privileged
+/// once; from any world, in that many sweeps more than either of the bounds.
 pub fn judge<A: Allocator + Copy>(start: World<A>, events: &[Event]) -> Report<A>
     ensures world { world_of result.world ≡ run (world_of start) events.now }
     // the counts are exact, up to the greatest value of their type

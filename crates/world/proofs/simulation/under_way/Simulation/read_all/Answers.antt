@@ -2,7 +2,7 @@ use Rattle.std.proofs.Common.{◌≡◌, ◌∙◌, ap, ◌+◌, ◌-◌, ◌≤
 use Rattle.std.proofs.lemmas.Grind.{common_steps}
 use Rattle.std.proofs.Math.Seq.{take-length}
 use Rattle.world.specs.Simulating.{longest_text}
-use Rattle.world.proofs.SimulatedPieces.{beginning_of_text}
+use Rattle.world.proofs.SimulatedPieces.{beginning_of_lines}
 use Rattle.world.proofs.simulation.under_way.Simulation.read_all.Given as given
 use Rattle.world.proofs.simulation.under_way.Simulation.read_all.Goals.{After-min}
 use Rattle.world.proofs.simulation.under_way.Simulation.read_all.Goals as goal
@@ -47,7 +47,7 @@ returns-in_default-take-clause-text g c =
     record {
       count = n + count;
       read = c.reading_in_pieces.ensures.more bytes n count _ _ c.read.new.buffer (so_far.0, so_far.1) c.in-Ok.ensures.reads.1;
-      written = beginning_of_text c.any_cutting.ensures start bytes (n + c.min.result) (n + count) before _ fewer
+      written = beginning_of_lines c.any_cutting.ensures start bytes (n + c.min.result) (n + count) before _ fewer
           (rw bytes_are at (c.in_default-take.ensures.text start (take n bytes) before so_far.2));
     }
 
