@@ -85,23 +85,14 @@ pub fn sharp()
     below();
 }
 
-<<<<<<< ours
-/// Service: from a legitimate world, over every list of events without damage, each node is
-/// privileged at some moment of any 16(n - 1) sweeps. From any other world, over that many sweeps
-/// more than the sharper bound, the world becomes legitimate, and each node is privileged at some
-/// moment after that. The privilege passes a desk at which a ticket waits only if the desk had served, or
-/// a loan ends in that very tick; after that the desk is ready to lend. So a ticket that waits
-/// after i others, and does not leave while it waits, is lent the lock within 8(n - 1)(i + 2)
-/// sweeps.
-=======
 /// Service: from a legitimate world in range, over every list of events without damage, each node
-/// is privileged at some moment of any 16(n - 1) sweeps; from any other world in range, this holds
-/// once it is legitimate. While a ticket waits at a desk, a machine of its node moves, and so
-/// passes the privilege on, only if the desk is marked as having served, which damage may have
-/// written, or a loan ends in that very event; after that the desk is ready to lend. So in a
-/// legitimate world a ticket that waits after i others, and does not leave while it waits, is lent
-/// the lock within 8(n - 1)(i + 2) sweeps.
->>>>>>> theirs
+/// is privileged at some moment of any 16(n - 1) sweeps. From any other world in range, over that
+/// many sweeps more than the sharper bound, the world becomes legitimate, and each node is
+/// privileged at some moment after that. While a ticket waits at a desk, a machine of its node
+/// moves, and so passes the privilege on, only if the desk is marked as having served, which damage
+/// may have written, or a loan ends in that very event; after that the desk is ready to lend. So in
+/// a legitimate world a ticket that waits after i others, and does not leave while it waits, is
+/// lent the lock within 8(n - 1)(i + 2) sweeps.
 pub fn service()
     ensures legitimate { LegitimateVisits }
     ensures each_state { EachStateVisits }

@@ -1,6 +1,6 @@
 //! A node that runs: what one turn of its process does.
 ghost use Rattle.std.specs.Prelude.{◌≡◌, ◌↔◌, ◌<◌, ◌≤◌, ◌+◌, ◌%◌, false, length};
-ghost use Rattle.std.specs.Prelude.{IfOk, IfErr, IfSome, IsSome};
+ghost use Rattle.std.specs.Prelude.{IfOk, IfErr, IfNone, IfSome, IsSome};
 ghost use Rattle.std.specs.Prelude.{ℕ, []};
 ghost use Rattle.node_core.specs.Site.{site_of};
 ghost use Rattle.node_core.specs.View.{site_in, state_of};
@@ -153,6 +153,7 @@ impl<D: Doors, S: Store + Drop, A: Allocator + Copy> NodeRun<D, S, A> {
             Saves saved (file_of self.old.net (site_in self.new.node).id (state_of self.new.node))
             (S.stored self.old.store) (S.stored self.new.store)
             (S.failures self.old.store) (S.failures self.new.store)) }
+        ensures otherwise { IfNone result.saved (self.new.store ≡ self.old.store) }
         ensures net { self.new.net ≡ self.old.net }
     {
         let ticked = self.act(now, notes);

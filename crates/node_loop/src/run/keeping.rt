@@ -1,6 +1,6 @@
 //! What stays from turn to turn: the state in its store, the network, the links.
 ghost use Rattle.std.specs.Prelude.{◌≡◌, ◌↔◌, ◌≤◌, ◌+◌, ◌%◌, false, length};
-ghost use Rattle.std.specs.Prelude.{IfSome, IsSome, IsTrue, Contains, slice_get};
+ghost use Rattle.std.specs.Prelude.{IfNone, IfSome, IsSome, IsTrue, Contains, slice_get};
 ghost use Rattle.topology.specs.Change.{is_same_frame};
 ghost use Rattle.topology.specs.Network.{neighbours_of};
 ghost use Rattle.node_core.specs.Rewire.{rewired};
@@ -29,6 +29,7 @@ impl<D: Doors, S: Store + Drop, A: Allocator + Copy> NodeRun<D, S, A> {
             Saves saved (file_of self.old.net (site_in self.old.node).id (state_of self.old.node))
             (S.stored self.old.store) (S.stored self.new.store)
             (S.failures self.old.store) (S.failures self.new.store)) }
+        ensures otherwise { IfNone result (self.new.store ≡ self.old.store) }
         ensures same { (self.new.node ≡ self.old.node) × (self.new.clients ≡ self.old.clients)
             × (self.new.net ≡ self.old.net) }
         ensures ports { (self.new.ports ≡ self.old.ports) × (self.new.pace ≡ self.old.pace)

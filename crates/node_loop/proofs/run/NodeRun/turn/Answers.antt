@@ -28,5 +28,8 @@ returns-clause-saves g c = rw c.act-ticked.ensures.rest.1 at c.save.ensures.when
 pub returns-clause-counts : goal.returns-clause-counts
 returns-clause-counts g c = rw c.act-ticked.ensures.rest.1 at c.save.ensures.turns
 
+pub returns-clause-otherwise : goal.returns-clause-otherwise
+returns-clause-otherwise g c = rw c.act-ticked.ensures.rest.2 at c.save.ensures.otherwise
+
 pub returns-clause-net : goal.returns-clause-net
 returns-clause-net g c = rw c.save.ensures.same.2 c.act-ticked.ensures.rest.0
