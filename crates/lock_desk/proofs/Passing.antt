@@ -1,5 +1,5 @@
--- A full tick with privilege, while somebody waits, is one of a desk that had served, or one that
--- ended a loan.
+-- A full tick with privilege, while somebody waits, is one of a desk that was marked as having
+-- served, or one that ended a loan.
 use Rattle.std.proofs.Common.{◌≡◌, ◌⊎◌, ℕ, ◌<◌, true, false, length, Option, Some, None, refl, inl, inr, arith}
 use Rattle.std.proofs.lemmas.Grind.{common_steps}
 use Rattle.std.proofs.lemmas.Bool.Decides.{nat_tests}
@@ -7,7 +7,7 @@ use Rattle.lock_desk.specs.Desk.{DeskState, lends, desk_ticked}
 use Rattle.lock_desk.specs.Act.{desk_act}
 use Rattle.lock_desk.specs.declared.act.DeskAct.TheVariants.{Lost}
 
--- nobody was lent to: then the desk had served, or the first who waits would borrow
+-- nobody was lent to: then the desk was marked as having served, or the first who waits would borrow
 had-served : (lease : ℕ) (d : DeskState) → d.lent ≡ None → 0 < length d.waiting → lends (desk_ticked lease true d) ≡ false → d.served ≡ true
 had-served lease d none some full = grind (arith, common_steps, nat_tests)
 

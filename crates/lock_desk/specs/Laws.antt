@@ -62,8 +62,8 @@ OneLoanAStay =
     (lease : ℕ) (d : DeskState) (calls : List DeskCall) → lends d || d.served ≡ true
     → LendsNoMore lease d calls
 
--- if a tick with privilege is full while somebody waits, the desk had served before, or the tick
--- ended a loan
+-- if a tick with privilege is full while somebody waits, the desk was marked as having served
+-- before, or the tick ended a loan
 abbrev pub PassesOnlyServed : Type 0
 PassesOnlyServed =
     (lease : ℕ) (d : DeskState) → 0 < length d.waiting → lends (desk_ticked lease true d) ≡ false

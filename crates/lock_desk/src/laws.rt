@@ -30,8 +30,8 @@ pub fn one_loan_a_stay()
     ensures cleared { FullTicksClear }
 {}
 
-/// Privilege passes a waiting ticket only if the desk had served, or ended a loan in that very
-/// tick; and tickets are served in the order in which they wait. The proof that counts the sweeps
+/// Privilege passes a waiting ticket only if the desk is marked as having served, which damage may
+/// have written, or ended a loan in that very tick; and tickets are served in the order in which they wait. The proof that counts the sweeps
 /// until a ticket is served needs both.
 pub fn waiting_tickets_are_served()
     ensures passes { PassesOnlyServed }

@@ -123,7 +123,7 @@ RecoversInTime =
     → AreSince (start + recovery_of w.net p) after → IsServing (world_after w before)
 
 -- and from then on a ticket at place i, which does not leave while it waits, is lent the lock within
--- `lending_of`.
+-- `lending_of`. If the longest loan is 0, this says nothing: no node lends then.
 abbrev pub WaitsInTime : Type 0
 WaitsInTime =
     (p : Premises) (start until : ℕ) (turns : ℕ → List Turn) (w last : World)

@@ -121,9 +121,11 @@ pub fn pace()
 /// Recovery and service as times, from what is believed of a machine: each stretch of `turn` holds a
 /// whole turn of each node; a port that was given nothing for `repeat` is given a frame in the next
 /// turn; a frame is taken in the next turn that begins `delay` after it was accepted; a node ticks in
-/// each of its turns, unless it lends; and it lends to nobody, or each loan ends within `loan`. Then
-/// each stretch of `recovery_times`' `full_of` holds a full tick of each node, a window is a sweep,
-/// and the network serves after the time that `tokentree bound --time` prints, from every state.
+/// each of its turns, unless it lends; and each loan, also one that a fault forged, ends within
+/// `loan`: if that is 0, no node lends. Then each stretch of `recovery_times`' `full_of` holds a full
+/// tick of each node, a window is a sweep, and the network serves after the time that `tokentree
+/// bound --time` prints, from every state. If `loan` is above 0, a ticket that waits from then on is
+/// lent the lock within the time for its place. With 0 this says nothing, since no node lends.
 pub fn premises()
     ensures full { TurnsTickFully }
     ensures windows { PremisesGiveWindows }

@@ -32,8 +32,9 @@ pub fn links()
     run_model_laws::edges();
 }
 
-/// Payloads: what is staged was present, what a stable link copies was staged, and three sweeps
-/// replace both: two replace what is staged, and one more the copy. The tree needs this for
+/// Payloads: what is staged was present, what a stable link copies was staged, and after
+/// three sweeps both are what was present at some moment of them: after two what is staged, and one
+/// later the copy. The tree needs this for
 /// distances and parents, the token ring for ring values.
 pub fn payloads()
     ensures staged { StagedIsPresent }
