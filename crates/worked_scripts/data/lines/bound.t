@@ -89,8 +89,8 @@ A line of eight has 155 sweeps, and lends within 112.
   recovers within 1938 ms
   lends within 1400 ms
 
-A loan of 8.1 milliseconds, as long as a frame is repeated after and is on its way, costs nothing, and is what is meant
-if none is named. One tenth more makes the window longer by as much.
+A loan of 8.1 milliseconds, the repetition and the way of a frame, makes the window no longer. It is meant if no loan is
+named. One tenth more makes the window longer by as much.
 
   $ timed ring-3.toml --loan 8.1
   window 12.5 ms
