@@ -324,7 +324,8 @@ impl<A: Allocator + Copy> Configuration<A> {
     /// Lets one event happen, and returns what it did. It is refused for the first cause that
     /// holds, in the order of `EventFault`; then nothing has changed.
     ///
-    /// No step takes memory, looks through the network, or copies a state.
+    /// No step takes memory. None looks through the network or copies a state, unless it is to add
+    /// or remove an edge.
     #[inline(always)]
     pub fn step(&mut self, event: &Event) -> Result<Happened, EventFault>
         ensures { Answers self.old event.now self.new result }

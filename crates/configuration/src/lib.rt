@@ -17,11 +17,11 @@
 //! and `part` of edges, need no more. A [`PairTable`] has a number for each pair of nodes: the
 //! place of something that belongs to the two.
 //!
-//! From any state, a network serves after as many sweeps as its bound says, and from then on.
-//! [`serves`] says whether it does at one moment, exactly as the headline says it. To ask after
-//! each event of a run, keep the answer: [`serves_after`] looks only at the node that the event
-//! touched, by [`touched_sight`] before and after it, and at the whole network only if that node
-//! looks different.
+//! From any state, a network serves after as many sweeps as its bound says, and from then on until
+//! something is damaged. [`serves`] says whether it does at one moment, exactly as the headline
+//! says it. To ask after each event of a run, keep the answer: [`serves_after`] looks only at the
+//! node that the event touched, by [`touched_sight`] before and after it, and at the whole network
+//! only if that node looks different or the event is a harm.
 //!
 //! ```
 //! let before = touched_sight(&configuration, &event);

@@ -140,8 +140,8 @@ fn lay_all<A: Allocator + Copy, N: Allocator + Copy>(
 }
 
 impl<A: Allocator + Copy> Links<A> {
-    /// Empty links of a network, which is copied, and `pairs` spare pairs of links. Reserves all
-    /// places.
+    /// Empty links of a network, which is copied, and `pairs` spare pairs of links, at most 256.
+    /// Reserves all places.
     pub fn with_spares<N: Allocator + Copy>(
         alloc: A,
         net: &Net<N>,

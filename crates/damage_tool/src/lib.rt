@@ -2,10 +2,10 @@
 //! generator.
 //!
 //! [`scramble_node`] writes all of a node's state but its desk; [`scramble_world`] lists harms that
-//! write every part of a world; [`cut`] shortens bytes, as a write that broke off does;
-//! [`junk_line`] makes a line of a stream that is a frame only by chance. What is drawn is always
-//! in range, so every state that comes out is a possible start, and every harm is accepted if no
-//! client waits. The same seed gives the same damage, on any machine:
+//! write every part of a world but the waiting tickets; [`cut`] shortens bytes, as a write that
+//! broke off does; [`junk_line`] makes a line of a stream that is a frame only by chance. What is
+//! drawn is always in range, so every state that comes out is a possible start, and every harm is
+//! accepted if no client waits. The same seed gives the same damage, on any machine:
 //!
 //! ```
 //! let mut generator = Lcg64Xsh32::seed_from_u64(7);

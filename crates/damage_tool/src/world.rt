@@ -178,8 +178,9 @@ fn push_world<A: Allocator, N: Allocator + Copy>(
 
 /// Puts the harms that write every part of a world at the end of `out`: each node by ascending id,
 /// with its ports by ascending neighbour, and then each link by ascending source and destination.
-/// Everything is drawn except which tickets wait at a desk. In a world in which no client waits,
-/// each harm is accepted.
+/// Everything is drawn except which tickets wait at a desk, and to which ticket a desk lends if it
+/// lends: that is 65535. In a world with this network in which no client waits, each harm is
+/// accepted.
 ///
 /// If memory is refused, neither `out` nor the generator changes.
 pub fn scramble_world<A: Allocator, N: Allocator + Copy>(

@@ -10,15 +10,16 @@
 //! let heard = port.on_frame(&frame, present);    // heard.accepted: the frame was news
 //! ```
 //!
-//! Whatever is in the ports and on the links at first, an edge becomes *stable* and stays so: then
-//! each copy is a payload that the neighbour staged ([`laws`]).
+//! Whatever is in the ports and on the links at first, if it is in range, an edge is *stable* after
+//! six sweeps and stays so: then each payload that is copied is the one that the neighbour has
+//! staged ([`laws`]).
 //!
 //! This is not a reliable transport: a payload that is replaced before it is staged is never sent,
 //! and nothing says when a frame arrives.
 //!
 //! The traps: `on_frame` needs the payload that was present *before* the frame; with one that is
-//! made from the new copy it would be a different protocol. And until an edge is stable, a copy may
-//! be anything that fits.
+//! made from the new copy it would be a different protocol. And until an edge has been stable for a
+//! sweep, a copy may be anything that fits.
 //!
 //! Source: S. Dolev, Self-Stabilization, 2000 (token passing over bounded links, by counters).
 #![tactic(auto)]

@@ -39,7 +39,9 @@ pub fn node_of(name: &[u8]) -> Option<u16>
     number(name.strip_prefix(b"desk-")?.strip_suffix(b".sock")?)
 }
 
-/// The nodes that have a socket of their desk in a folder, by ascending id.
+/// The nodes that have a socket of their desk in a folder, by ascending id. Only names count: a
+/// file of another kind with such a name is taken for a socket, and an entry that cannot be read is
+/// left out.
 ///
 /// # Errors
 /// The system's, if the folder cannot be read; `OutOfMemory`, if memory runs out.

@@ -44,8 +44,9 @@ pub record IsSettlingWithin (net : Network) (s : Settling) : Type 0 where
   pub ring : s.ring ≤ sharp_of net - 1
   pub served : s.served ≤ sharp_of net
 
--- The run of a seed on a network under a scheduler: it bears the seed, and is shown by the same
--- stretches as the run that is measured without its layers.
+-- The run of a seed on a network under a scheduler: it bears the seed; it is shown by enough
+-- stretches, drawn as for the run that is measured without its layers; and no layer stood later
+-- than the proof says.
 pub record IsSettlingOf (net : Network) (scheduler : Scheduler) (seed : ℕ) (s : Settling) : Type 0 where
   pub seed_is : s.seed ≡ seed
   pub count : ℕ

@@ -65,7 +65,7 @@ stretches scheduler net w g (suc n) =
     let events = before.0 ++ stretch.0 in
     (events ++ leaves (run w events), stretch.1)
 
--- a run ends once it has had as many sweeps as the sharper bound says, or 1000 stretches for each
--- of them
+-- at its end a run has had at least as many sweeps as the sharper bound says, or 1000 stretches for
+-- each of them
 abbrev pub HasEnough : Network → ℕ → ℕ → Type 0
 HasEnough net seen count = (sharp_of net ≤ seen) ⊎ (count ≡ sharp_of net * 1000)

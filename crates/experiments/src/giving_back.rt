@@ -92,7 +92,7 @@ impl<A: Allocator + Copy> EventSink for Lending<A> {
 /// Gives the sink what the order says, with what is given back.
 ///
 /// # Errors
-/// [`Failed`] if the sink failed; then it took an initial part of the events.
+/// [`Failed`] if the sink failed; nothing is promised of what it took then.
 pub(crate) fn give_order_back<A: Allocator + Copy, S: EventSink>(
     net: &Net<A>,
     order: Order,

@@ -8,7 +8,8 @@ use run_model::laws as run_model_laws;
 use std::alloc::{AllocError, Allocator};
 use topology::Net;
 
-/// When each layer of the proof stood permanently in a run, in sweeps since its start.
+/// When each layer of the proof stood permanently in a run, in sweeps since its start. A layer's
+/// number is one more than `seen` if it failed at some moment after the last sweep.
 #[derive(Clone, Copy)]
 pub struct Settling {
     /// The seed of the run.

@@ -40,7 +40,8 @@ pub enum Scheduler {
 pub struct Recovery {
     /// The seed of the run.
     pub seed: u64,
-    /// After how many sweeps the network served at each moment of the run.
+    /// After how many sweeps the network served at each moment of the run. This is one more than
+    /// `seen` if it did not serve at some moment after the last sweep.
     pub sweeps: u64,
     /// How many sweeps there were.
     pub seen: u64,

@@ -62,8 +62,8 @@ impl From<Failed> for PlanFault {
 /// the list of the harms.
 ///
 /// # Errors
-/// `Memory` if that memory is refused; `Sink` if the sink failed, and then it took an initial part
-/// of the events.
+/// `Memory` if that memory is refused; `Sink` if the sink failed. Nothing is promised of what the
+/// sink took then.
 pub fn give_plan<A: Allocator + Copy, S: EventSink>(
     alloc: A,
     net: &Net<A>,

@@ -5,7 +5,7 @@ use topology::{Frame, Payload};
 /// One entry: what was noted, and when.
 #[derive(Clone, Copy, PartialEq, Eq)]
 pub struct Entry {
-    /// When that was, in microseconds of the machine's monotonic clock.
+    /// When that was, in microseconds of the clock that the writer of the record uses.
     pub instant: u64,
     /// What was noted.
     pub noted: Noted,

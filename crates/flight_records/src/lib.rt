@@ -2,9 +2,10 @@
 //!
 //! A record is entries in a row. An [`Entry`] is spelled as numbers in LEB128 (its kind, the
 //! microseconds since the entry before it, its fields), and then one byte that checks it. A tick
-//! takes 3 or 4 bytes, and a frame that is sent or taken again 4, if the last entry was less than
-//! 128 microseconds ago. [`write_entry`] writes an entry at the end of a buffer, and an
-//! [`EntryReader`] reads one after the other, from a buffer that may hold a part of the record.
+//! takes 3 bytes, and a frame that is sent or taken again 4, if the last entry was less than 128
+//! microseconds ago; if that was longer ago, they take more. [`write_entry`] writes an entry at the
+//! end of a buffer, and an [`EntryReader`] reads one after the other, from a buffer that may hold a
+//! part of the record.
 //!
 //! ```
 //! write_entry(last, &entry, &mut page);                // at most 121 bytes

@@ -67,7 +67,7 @@ delays_after_event instant d (event.Lose u v i) = with_lost d u v i
 delays_after_event instant d (event.Damage h) = delays_after_harm d h
 delays_after_event instant d _ = d
 
--- An entry of this instant became these events. If a frame that nobody sent is among them, what was under
--- way is put on its link again after it.
+-- An entry of this instant became these events. If a frame that nobody sent is among them, nothing
+-- changes: what was under way is put on its link again after it.
 abbrev pub delays_after : DelaysView → ℕ → List Event → DelaysView
 delays_after d instant es = if any_written es then d else fold (delays_after_event instant) d es

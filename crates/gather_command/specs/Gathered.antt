@@ -20,9 +20,9 @@ use Rattle.gather_command.specs.Watch.{seen_of, numbers_of, summary_of}
 use Rattle.gather_command.specs.WeavingView.{WeavingView}
 use Rattle.gather_command.specs.Woven.{IsTurn, HasWoven}
 
--- The records of all nodes were read to their ends, or to their first flaws, and woven from the network
--- as it starts. A sink took the events of what was woven, and they are counted; the first differences are
--- listed. `Reads` says how the files are read, and `takes` what the sink took.
+-- The files of all nodes' records were read, each to its end or to its flaw, and woven from the
+-- network as it starts. A sink took the events of what was woven, and they are counted; the first
+-- differences are listed. `Reads` says how the files are read, and `takes` what the sink took.
 pub record IsGathered {K : Type 0} (Reads : ℕ → Side → List Entry → Option FlawKind → Type 0)
     (takes : K → List Event → K → Type 0) (net : Network) (before : K) (summary : RecordingSummary)
     (differences : List Difference) (flaws : List Flaw) (after : K) : Type 0 where

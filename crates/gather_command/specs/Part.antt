@@ -83,8 +83,8 @@ pub record IsGatheredOf {K : Type 0} (Fails : Type 0) (takes : K → List Event 
   pub come : AreToCome Fails nodes entries flaws
   pub part : IsPart takes net instant entries before summary differences after
 
--- The records of all nodes were read to their ends, or to their first flaws, and the stretch of them that
--- begins at an instant was gathered. `BeginsAt` says which instant it is.
+-- The files of all nodes' records were read, each to its end or to its flaw, and the stretch of
+-- them that begins at an instant was gathered. `BeginsAt` says which instant it is.
 pub record IsGatheredFrom {K : Type 0} (Reads : ℕ → Side → List Entry → Option FlawKind → Type 0)
     (takes : K → List Event → K → Type 0) (net : Network) (BeginsAt : List (List Entry) → ℕ → Type 0) (before : K)
     (summary : RecordingSummary) (differences : List Difference) (flaws : List Flaw) (after : K) : Type 0 where

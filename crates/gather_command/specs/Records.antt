@@ -74,9 +74,9 @@ pub data AreRecordsOf (Reads : ℕ → Side → List Entry → Option FlawKind �
       → IsRecordOf Reads mark v es flaws → AreRecordsOf Reads mark (suc v) ess more
       → AreRecordsOf Reads mark v (es ∷ ess) (flaws ++ more)
 
--- Why a file of v's record is invalid: it cannot be read, or it has bytes but no entry can be read from
--- them; or its first entry is no start of a state, or the start of another network's or another node's.
--- `Reads` says how files are read, and `Begins` which entry is the first.
+-- Why a file is not begun: it cannot be read, or it has bytes but no entry can be read from them;
+-- or its first entry is no start of a state, or the start of another network's or another node's;
+-- or memory ran out. `Reads` says how files are read, and `Begins` which entry is the first.
 abbrev pub IsFileFault : (ℕ → Side → List Entry → Option FlawKind → Type 0) → (ℕ → Side → Entry → Type 0)
     → ℕ → RecordFile → GatherFault → Type 0
 IsFileFault Reads Begins mark file (fault.Absent v) = ⊥

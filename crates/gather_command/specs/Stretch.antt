@@ -21,7 +21,8 @@ abbrev pub earlier_of : ℕ → Option Entry → ℕ
 earlier_of least None = least
 earlier_of least (Some e) = min least e.instant
 
--- the earliest of these entries, any of which may be none
+-- the instant of the earliest of these entries, any of which may be none; the greatest one if all
+-- are none
 abbrev pub least_of : List (Option Entry) → ℕ
 least_of heads = fold earlier_of (2 ^ 64 - 1) heads
 
@@ -37,8 +38,8 @@ abbrev pub IsReadThrough : Type 0 → NodeRecordView → ℕ → ℕ → Type 0
 IsReadThrough Fails old greatest latest =
     (es : List Entry) × (flaws : List Flaw) × IsToCome Fails old es flaws × (latest ≡ later_of greatest es)
 
--- the records of all nodes were read to their ends, or to their first flaws, and this is the instant of
--- the latest entry
+-- the files of all nodes' records were read, each to its end or to its flaw, and this is the
+-- instant of the latest entry
 pub record IsLatest (Reads : ℕ → Side → List Entry → Option FlawKind → Type 0) (net : Network) (latest : ℕ) : Type 0 where
   pub entries : List (List Entry)
   pub flaws : List Flaw

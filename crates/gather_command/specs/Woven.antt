@@ -84,7 +84,8 @@ abbrev pub AreEarlier : ℕ → List Moment → Type 0
 AreEarlier instant [] = Unit {0}
 AreEarlier instant (m ∷ ms) = (m.entry.instant < instant) × AreEarlier instant ms
 
--- one entry that is earlier was woven; or none is left, and nothing changed
+-- one entry that is earlier was woven; or the next one is not earlier, or none is left, and nothing
+-- changed
 abbrev pub IsOnePassed : Type 0 → ℕ → WeavingView → Bool → WeavingView → Type 0
 IsOnePassed Fails instant old true new =
     (m : Moment) × HasLed Fails old (m ∷ []) new × (m.entry.instant < instant)

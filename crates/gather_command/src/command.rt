@@ -32,18 +32,19 @@ use std::process::ExitCode;
 use std::rt::Files;
 use topology::Net;
 
-/// Prints what the nodes of a file's network did in a stretch of time, according to their records in a
-/// folder, as a list of events, one a line. If no file is given, the network is the one that the nodes
-/// kept there. If the stretch does not begin with the records, the list begins with harms that set up the
-/// network as it stood then. Afterwards a line on standard error names each file that was not read to its
-/// end, another line names each of the first fields that differed from what their nodes' records led to,
-/// and four lines say in numbers what the list shows. The status is 1 if a file was not read to its end,
-/// if a record gives no events, if there is no such folder, or if no network was kept there; then a line
-/// on standard error says which and why.
+/// Prints what the nodes of a file's network did in a stretch of time, according to their records
+/// in a folder, as a list of events, one a line. If no file is given, the network is the one that
+/// the nodes kept there. If the stretch does not begin with the records, the list begins with
+/// events that set up the network as it stood then. Afterwards a line on standard error names each
+/// file that was not read to its end, another line names each of the first fields that differed
+/// from what their nodes' records led to, and four lines say in numbers what the list shows. The
+/// status is 1 if a file was not read to its end, if a record gives no events, if there is no such
+/// folder, or if no network was kept there; then a line on standard error says which and why.
 ///
-/// Two things are unproved: that the entries that are woven are those of the folder's files, and that the
-/// text reaches standard output. Neither the files nor the output say what their bytes are.
-/// [`gather_text`] says all the rest.
+/// It is unproved which network the file gives, that the entries that are woven are those of the
+/// folder's files, that the text reaches standard output, and what is said on standard error:
+/// neither the files nor the outputs say what their bytes are. [`gather_text`] says what list is
+/// made of given entries.
 ///
 /// # Errors
 /// If the file that is given gives no network, memory runs out, or standard output fails. Then the

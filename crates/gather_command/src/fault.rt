@@ -48,7 +48,8 @@ pub struct Flaw {
 pub enum FlawKind {
     /// It ends within an entry.
     Torn,
-    /// No entry begins after the last one that was read.
+    /// What comes after the last entry that was read is no entry, or stands for a frame that was
+    /// not noted before.
     Spoiled,
     /// It could not be read any further.
     Unreadable,

@@ -4,9 +4,9 @@ ghost use Rattle.gather_command.specs.Laws.{WeavingIsFaithful, StretchesAreFaith
 
 use record_gathering::laws as record_gathering_laws;
 
-/// None of the events is refused in the world in which weaving began, so a simulation of them replays
-/// what was recorded. Each entry of each node is woven, in its order. Anyone who trusts a recording
-/// relies on this law.
+/// None of the events is refused in the world in which weaving began. After the events of an entry,
+/// its node lends the lock as was seen. Each entry of each node is woven once, in its order. Anyone
+/// who trusts a recording relies on this law.
 pub fn weaving_is_faithful()
     ensures { WeavingIsFaithful }
 {
@@ -14,9 +14,9 @@ pub fn weaving_is_faithful()
     record_gathering_laws::runs();
 }
 
-/// A list that begins in the middle is set up as the world stood then, if its edges can be set so,
-/// as they can if none changed. A simulation refuses none of its events, and no entry is missing.
-/// Anyone who replays a stretch of a recording relies on this law.
+/// A list that begins in the middle is set up as the world stood then, if the network is a valid
+/// one and the same nodes are joined once the edges are set. A simulation refuses none of its
+/// events, and no entry is missing. Anyone who replays a stretch of a recording relies on this law.
 pub fn stretches_are_faithful()
     ensures { StretchesAreFaithful }
 {

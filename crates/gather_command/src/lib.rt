@@ -1,9 +1,10 @@
 //! The records of all nodes of a network, woven into one list of events.
 //!
-//! [`gather_stretch`] opens the records of all nodes, reads them a page at a time, and turns each entry into
-//! events, in an order in which each frame is taken after it was sent. A reader that plays the events finds
-//! each node in the states that were noted. The records come through a door, [`Records`], which is a folder
-//! in a program and memory in a test:
+//! [`gather_stretch`] opens the records of all nodes, reads them a page at a time, and turns each
+//! entry into events. A frame that was taken comes once it is under way, unless no other entry can
+//! come next. A reader that plays the events finds each node in the states that were noted, as far
+//! as they are in range. The records come through a door, [`Records`], which is a folder in a
+//! program and memory in a test:
 //!
 //! ```
 //! let (all, mut records) = (TimeStretch::Whole, FolderRecords::new(rt, "run"));
@@ -19,14 +20,17 @@
 //! plays the list needs only the network. All that comes before the stretch is woven too, but its events go
 //! nowhere. For the last seconds the records are read twice.
 //!
-//! A record that is missing, empty, of another network or of another node is a [`GatherFault`], which is
-//! found before anything is written. A record that ends within an entry, or is spoiled from some place on,
-//! is read up to there, and counts as a [`Flaw`] of what was gathered.
+//! A record that is missing or empty is a [`GatherFault`], and so is a file that cannot be read, is
+//! no record, or is of another network or node. These are found before anything is written. A file
+//! of a record that ends within an entry after its first one, is spoiled from some place on, or can
+//! be read no further, is read up to there, and counts as a [`Flaw`] of what was gathered. If there
+//! is a later file of that record, it is read after it.
 //!
-//! The trap: instants are those of each node's machine. The list shows the order in which things happened
-//! only in two ways: what one node did is in order, and a frame is taken after it was sent. A stretch begins
-//! with the first entry, in this order, that is of its instant or later. So if a node's clock is slow,
-//! earlier entries of that node may come after that entry, and are gathered too.
+//! The trap: instants are those of each node's machine. The list shows the order in which things
+//! happened only in two ways: what one node did is in order, and a frame is taken after it was
+//! sent, unless it had to be put on its link by a harm. A stretch begins with the first entry, in
+//! this order, that is of its instant or later. So if a node's clock is slow, earlier entries of
+//! that node may come after that entry, and are gathered too.
 #![tactic(auto)]
 
 mod begun_file;

@@ -65,8 +65,8 @@ impl<S: Source + Drop> NodeRecord<S> {
     /// The record of a node of the network with this number.
     ///
     /// # Errors
-    /// If the node has no record, or if one of its files cannot be read, is no record, or is that of
-    /// another node or another network.
+    /// If the node has no record, or if one of its files cannot be read, is no record, or is that
+    /// of another node or another network, or if memory runs out.
     pub fn open<R: Records<File = S>>(
         alloc: Global,
         records: &mut R,

@@ -20,14 +20,17 @@ use record_pages::{Entry, Source};
 use std::alloc::{AllocError, Global};
 use topology::Net;
 
-/// Weaves the records of all nodes of a network, or a stretch of them, into one list of events, which go
-/// to the sink. A frame that was sent is taken after it was sent; apart from that, the earliest entry
-/// comes next. If entries come before the stretch, the list begins with events that set up the network as
-/// it stood when the first entry of the stretch came next: first edges that had joined or parted, then
-/// the state of each node, and last what was under way. The summary counts these events among its events
-/// and harms, but it does not count the frames that were under way among those that nobody sent. It
-/// counts nothing else of what was woven before; a loan that had begun counts from its node's next entry
-/// on.
+/// Weaves the records of all nodes of a network, or a stretch of them, into one list of events,
+/// which go to the sink. Of the nodes' next entries, the earliest that is ready comes next. A frame
+/// that was taken is ready if it is under way, a frame that was sent if its link has room; any
+/// other entry always is, and so is a frame that cannot be on its link. If none is ready, the
+/// earliest frame that was sent comes next; if there is none, the earliest that was taken, which
+/// was not under way. If entries come before the stretch, the list begins with events that set up
+/// the network as it stood when the first entry of the stretch came next: first edges that had
+/// joined or parted, then the state of each node, and last what was under way. The summary counts
+/// these events among its events and harms, but it does not count the frames that were under way
+/// among those that nobody sent. It counts nothing else of what was woven before; a loan that had
+/// begun counts from its node's next entry on.
 ///
 /// # Errors
 /// If a node has no record, if a file cannot be read or is no record of its node in this network, if the

@@ -55,7 +55,7 @@ fn earlier_of(least: u64, head: Option<Entry>) -> u64
     }
 }
 
-/// The instant of the earliest of the next entries of all records.
+/// The instant of the earliest of the next entries of all records; 2^64 - 1 if there is none.
 pub fn earliest<S: Source + Drop>(nodes: &[NodeRecord<S>]) -> u64
     ensures { result ≡ least_of (heads_in nodes.now) }
 {

@@ -8,7 +8,7 @@ use Rattle.held_signals.specs.declared.status_lines.StatusEntry.TheVariants.{Pen
 use Rattle.held_signals.specs.declared.signals.Signals.{Signals}
 use Rattle.held_signals.specs.declared.status_lines.SignalState.{SignalState}
 
--- the line begins with this name and a tab, and then has the digits of a mask
+-- the line begins with this name and a tab; whatever comes after is read as the digits of a mask
 abbrev pub is_named : List ℕ → List ℕ → Bool
 is_named name line = starts_with (λ a b. a == b) line (name ++ 9 ∷ [])
 

@@ -40,11 +40,13 @@ HasSeenSame old new = (start : World) (es : List Event) → HasSeen old start es
 abbrev pub EndsSweep : JudgeView → Event → Type 0
 EndsSweep j e = (start : World) (es : List Event) → HasSeen j start es → (count : ℕ) × IsSweepCount start es count × IsSweepCount start (es ++ e ∷ []) (count + 1)
 
--- in all that the judge has seen, there are `sweeps` sweeps since the last damage
+-- in all that the judge has seen, `sweeps` is the number of sweeps since the last damage, or the
+-- greatest value of a count if there are more
 abbrev pub AreSweepsSeen : JudgeView → ℕ → Type 0
 AreSweepsSeen j sweeps = (start : World) (es : List Event) → HasSeen j start es → (count : ℕ) × IsSweepCount start es count × (sweeps ≡ counted_up_to count)
 
--- of all events that the judge has seen, `refused` were refused
+-- of all events that the judge has seen, `refused` is the number of refused ones, or the greatest
+-- value of a count if there are more
 abbrev pub AreRefusalsSeen : JudgeView → ℕ → Type 0
 AreRefusalsSeen j refused = (start : World) (es : List Event) → HasSeen j start es → refused ≡ counted_up_to (refused_in start es)
 

@@ -17,9 +17,9 @@ refused_in w (e ∷ es) = (if is_some (refusal w e) then 1 else 0) + refused_in 
 abbrev pub counted_up_to : ℕ → ℕ
 counted_up_to n = min n (2 ^ 64 - 1)
 
--- The events of a list have led from the start to the world `now`. Since the last damage the judge
--- has seen `count` sweeps, each ended at the first event that completed it, and then a stretch
--- that is not yet a sweep, of which it keeps what it must.
+-- The events of a list have led from the start, a world in range, to the world `now`. Since the
+-- last damage the judge has seen `count` sweeps, each ended at the first event that completed it,
+-- and then a stretch that is not yet a sweep, of which it keeps what it must.
 pub record IsJudging (start : World) (es : List Event) (now : World) (s : StretchView) (sweeps refused : ℕ) : Type 0 where
   pub in_range : IsWorldInRange start
   pub now_is : now ≡ run start es

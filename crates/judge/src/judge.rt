@@ -119,8 +119,8 @@ impl<A: Allocator + Copy> Judge<A> {
         }
     }
 
-    /// Lets one event happen, as in `World::step`, and counts it if it is refused. Looks at no
-    /// more than two tallies, unless a sweep ends or damage is accepted.
+    /// Lets one event happen, as in `World::step`, and counts it if it is refused. Looks at tallies
+    /// no more than twice, unless a sweep ends or damage is accepted.
     // A separate call would write the event to memory for each line of a text, and read it again.
     #[inline(always)]
     pub fn step(&mut self, event: &Event) -> Result<(), EventFault>
@@ -131,7 +131,7 @@ impl<A: Allocator + Copy> Judge<A> {
             ≡ Some fault) }
         // Whatever it had seen, it has now seen the event too.
         ensures judging { HasSeenNext self.old event.now self.new }
-        // It looks at more than two tallies only for accepted damage, or if a sweep ends.
+        // It looks at tallies more than twice only for accepted damage, or if a sweep ends.
         ensures looked { (self.new.stretch.tallies.looked ≤ 2)
             ⊎ IsTrue (is_damage (world_of self.old.configuration) event.now)
             ⊎ EndsSweep self.old event.now }
@@ -162,11 +162,12 @@ impl<A: Allocator + Copy> Judge<A> {
         Ok(())
     }
 
-    /// How many sweeps there have been since the last accepted damage; the count stops at its
-    /// greatest value.
+    /// How many sweeps there have been since the last accepted damage, or since the start if there
+    /// was none; the count stops at its greatest value.
     pub fn sweeps(&self) -> u64
         ensures count { result ≡ self.now.sweeps }
-        // Whatever it has seen, there are exactly this many sweeps after the last damage.
+        // Whatever it has seen, this is the number of sweeps since the last damage, or the greatest
+        // value if there are more.
         ensures sweeps { AreSweepsSeen self.now result }
     {
         below();
@@ -176,7 +177,8 @@ impl<A: Allocator + Copy> Judge<A> {
     /// How many events were refused; the count stops at its greatest value.
     pub fn refused(&self) -> u64
         ensures count { result ≡ self.now.refused }
-        // Whatever it has seen, this many of the events were refused.
+        // Whatever it has seen, this is the number of refused events, or the greatest value if
+        // there are more.
         ensures refused { AreRefusalsSeen self.now result }
     {
         self.refused
@@ -203,8 +205,8 @@ impl<A: Allocator + Copy> Judge<A> {
     }
 
     /// The tally of the link from one node to another in the unfinished stretch; `None` if no edge
-    /// joins the two. It searches the edges, so any ids are allowed. Like each look at a tally,
-    /// this one is counted: [`looked`](Judge::looked) rises by one.
+    /// joins the two. It searches the edges, so any ids are allowed. Only the count of looks
+    /// changes, which [`looked`](Judge::looked) returns.
     pub fn tally(&mut self, from: u16, to: u16) -> Option<Tally>
         ensures link { IsSome result
             ↔ IsTrue (are_joined (world_of self.old.configuration).net.edges from to) }
@@ -228,8 +230,8 @@ impl<A: Allocator + Copy> Judge<A> {
         }
     }
 
-    /// How many tallies the last step, and each call of [`tally`](Judge::tally) since then, looked
-    /// at; 0 if there was neither.
+    /// How often the last step, and the calls of [`tally`](Judge::tally) since then, read or wrote
+    /// a tally; 0 if there was neither. The count stops at its greatest value.
     pub fn looked(&self) -> u32
         ensures { result ≡ self.now.stretch.tallies.looked }
     {

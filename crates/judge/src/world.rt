@@ -132,7 +132,8 @@ impl<A: Allocator + Copy> World<A> {
     /// Lets one event happen. It is refused for the first cause that holds, in the order of
     /// `EventFault`; then nothing has changed.
     ///
-    /// No step takes memory, looks through the network, or copies a state.
+    /// No step takes memory. None looks through the network or copies a state, unless it is to add
+    /// or remove an edge.
     pub fn step(&mut self, event: &Event) -> Result<(), EventFault>
         // The world is that of the model's step, in which a refused event changes nothing.
         ensures world { world_of self.new ≡ step (world_of self.old) event.now }

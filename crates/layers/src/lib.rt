@@ -13,7 +13,8 @@
 //! ```
 //!
 //! [`are_links_stable`], [`is_tree_reached`], [`is_token_ring_good`] and [`are_loans_privileged`]
-//! ask about one layer, and look no further than the first thing that is wrong.
+//! ask about one layer. [`is_token_ring_good`] goes round the whole tour; the others look no
+//! further than the first node or link that is wrong.
 //!
 //! [`first_stop`] and [`next_stop`] go along the Euler tour of the true tree, which the token ring follows.
 //!

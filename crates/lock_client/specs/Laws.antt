@@ -36,7 +36,8 @@ IsHeldToTheEnd end (e ∷ es) =
     ⊎ (((e ≡ event.TimeIsUp) ⊎ ((signal : Signal) × (e ≡ event.Signal signal)))
     × IsHeldToTheEnd end es)
 
--- what leaves a client waiting: no room, a closed connection, and leftovers of an earlier command
+-- what leaves a client waiting: no room, a closed connection, the end of a guard that was started
+-- early, and the end of a command, though none has started
 abbrev pub IsWaiting : ClientEvent → Type 0
 IsWaiting (event.Line answer.Full) = Unit {0}
 IsWaiting event.Gone = Unit {0}

@@ -30,7 +30,7 @@ pub enum ClientEvent {
     Line(Answer),
     /// The connection closed or failed.
     Gone,
-    /// There is no connection: nobody listens at the node any more.
+    /// There is no connection, and no new one can be made.
     Unserved,
     /// The client has waited as long as it may for an answer.
     TimeIsUp,
@@ -96,8 +96,8 @@ impl LockClient {
         self.stage
     }
 
-    /// Takes note of what happened, and says what to do. What cannot happen at that stage changes
-    /// nothing.
+    /// Takes note of what happened, and says what to do. Once all is over, nothing changes that,
+    /// and each call returns the same `Finish` again.
     pub fn step(&mut self, event: ClientEvent) -> ClientDeed
         ensures stage { self.new ≡ record self.old {
           stage = stage_after self.old.keeps_running event self.old.stage;

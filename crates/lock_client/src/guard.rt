@@ -34,8 +34,8 @@ pub enum GuardStage {
 pub struct GuardSight {
     /// Whether a process of the command is left.
     pub somebody: bool,
-    /// Whether a signal came to the guard. Nobody sends one to the guard alone, so it came to the
-    /// whole group, and the command has had it too.
+    /// Whether a signal came to the guard. It is taken to have come to the whole group, so that the
+    /// command has had it too.
     pub signalled: bool,
 }
 

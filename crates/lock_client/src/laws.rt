@@ -6,9 +6,10 @@ ghost use Rattle.lock_client.specs.GuardLaws.{GivesBackRightly, AsksAtMostOnce, 
 ghost use Rattle.lock_client.specs.GuardLaws.{LeavesAlone, GuardEnds};
 ghost use Rattle.lock_client.specs.Lines.{AnswersAreRead};
 
-/// Unless the command may run on without the lock, its own status is returned exactly if the lock
-/// was held, and the guard lived, all the while it ran, and the node then confirmed the release.
-/// Users who run a build, a migration or a backup under the lock rely on it.
+/// Unless the command may run on without the lock, its own status is returned exactly if the node
+/// said nothing and stayed connected, and the guard lived, from `granted` to the command's end, and
+/// the node's next word, in time, was `released`. Users who run a build, a migration or a backup
+/// under the lock rely on it.
 pub fn a_command_that_is_done_held_the_lock()
     ensures { HeldThroughoutLaw }
 {}
@@ -35,11 +36,11 @@ pub fn signals_are_heeded()
     ensures { SignalsAreHeeded }
 {}
 
-/// A client that waits for an answer ends. Before the lock is granted, it ends when its time is up,
-/// when nobody serves, or when a signal comes. Once it has released the lock, it ends at the latest
-/// with the node's next word, when the node is gone, or when its time is up. In between, its
-/// command's end leads on: the client then releases the lock, or ends if the lock was lost. No
-/// clause bounds that time. Whoever gives a client a limit relies on this law.
+/// Before the lock is granted, a client ends when its time is up, when nobody serves, or when a
+/// signal comes. Once it has released the lock, it ends at the latest with the node's next word,
+/// when the node is gone, or when its time is up. In between, its command's end leads on: the
+/// client then releases the lock, or ends if the lock was lost. No clause says that any of these
+/// comes. Whoever gives a client a limit relies on this law.
 pub fn a_client_ends()
     ensures { EndsByItself }
 {}
@@ -58,8 +59,9 @@ pub fn a_guard_holds_the_lock()
 {}
 
 /// A guard asks the command to end at most once, and kills it only after that. With `--keep` it
-/// does neither. If a look shows, before it asks, that a signal came to the whole group, it does
-/// not ask after that. Once a command is announced, it ends when its client is done.
+/// does neither. If a look shows that a signal came to the whole group, while it still searches for
+/// the command, it does not ask after that. Once a command is announced, it ends when its client is
+/// done.
 pub fn a_guard_is_gentle()
     ensures once { AsksAtMostOnce }
     ensures kills { KillsAfterAsking }

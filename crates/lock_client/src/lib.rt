@@ -16,8 +16,8 @@
 //! node then says `released`, or if the command may run on without the lock. Otherwise the lock may
 //! have been lost while the command ran.
 //!
-//! Its statuses are those of `timeout` and `env`, with one of its own, 122, for a lock that was
-//! lost.
+//! Its statuses are the command's, and those of `timeout`, `env` and a shell, with one of its own
+//! for a lock that was lost: 122, or another that the caller chose.
 #![tactic(auto)]
 
 mod answer;

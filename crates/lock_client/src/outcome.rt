@@ -39,8 +39,8 @@ impl CommandEnd {
 /// How the client ended.
 #[derive(Clone, Copy, PartialEq, Eq)]
 pub enum Outcome {
-    /// The command ended like this. The lock was held all the while, or the command was allowed to
-    /// run on without it.
+    /// The command ended like this. By the node's words the lock was held all the while, or the
+    /// command was allowed to run on without it.
     Done(CommandEnd),
     /// The lock was lost, or may have been, before it was released.
     Lost,

@@ -4,9 +4,9 @@ ghost use Rattle.memchr.specs.Find.{FindsNeedle};
 
 use memchr::memmem;
 
-/// Whether an environment, as `/proc` shows it, has this entry: the bytes of its name, its value
-/// and the zero byte that ends it. They may also be the end of a longer entry, so the entry must
-/// be one that no two programs share.
+/// Whether these bytes of an entry occur in an environment, as `/proc` shows it: at any place, so
+/// they may be a part of another entry, too. They must be such that no two programs share them.
+/// No bytes at all occur in each environment.
 pub fn has_entry(environment: &[u8], entry: &[u8]) -> bool
     ensures { (place : Option ℕ)
         × FindsNeedle environment.now entry.now 0 place

@@ -8,7 +8,7 @@ use byte_lines::{HalfLine, LineReading};
 use line_words::digits_up_to;
 use std::marker::Model;
 
-/// The greatest id of a process on Linux.
+/// No process on Linux has a greater id.
 const MOST_PROCESS: u32 = 4_194_304;
 
 /// A line from a client to its guard.
@@ -16,9 +16,9 @@ const MOST_PROCESS: u32 = 4_194_304;
 pub enum GuardWord {
     /// `start`: the command is about to be started.
     Start,
-    /// `runs N`: the command runs as process N.
+    /// `runs N`: the command runs as process N, at most 4194304.
     Runs(u32),
-    /// `done`: the command has ended, and the lock is released or lost.
+    /// `done`: the command has ended, and the guard need not hold the lock any more.
     Done,
     /// Any other line.
     Other,

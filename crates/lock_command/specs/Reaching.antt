@@ -14,7 +14,7 @@ missing_notice false folder node = NoFolder folder
 
 -- what is reported of a node that is not reached: too many connections wait to be accepted; the
 -- socket's name is too long; the user has no right to it; the process has no descriptor left; else
--- nobody listens
+-- nothing is there
 abbrev pub unreached_notice : ErrorKind → Bool → Bor (List ℕ) → ℕ → Notice
 unreached_notice kind.WouldBlock has_folder folder node = NoService node
 unreached_notice kind.InvalidInput has_folder folder node = TooLong folder node

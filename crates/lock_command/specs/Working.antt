@@ -19,8 +19,8 @@ abbrev pub is_family : {P A B C : Type 0} → Work P A B C → Bool
 is_family (work.Family end) = true
 is_family _ = false
 
--- how it ended: finished work as noted; a command as the system reports it, if it has ended; standard input
--- with 0, and only if it has something to read
+-- how it ended: finished work as noted; a command in any way, since only the system knows it;
+-- standard input with 0, and only if it has something to read
 abbrev pub EndsSo : {P A B C : Type 0} → Work P A B C → Bool → Option CommandEnd → Type 0
 EndsSo work.None has_input end = end ≡ None
 EndsSo (work.Running child) has_input end = Unit {0}

@@ -141,8 +141,9 @@ impl Course {
         }
     }
 
-    /// In how many milliseconds something is due; none if nothing is. If the lock waits for what
-    /// the command started, that is the next look for it.
+    /// In how many milliseconds the time to wait for an answer is up; none if no answer is due. If
+    /// the lock waits for what the command started, that is the next look for it instead. The time
+    /// to kill a command does not count.
     pub fn left(&self, is_family: bool) -> Option<u64>
         ensures { result ≡ left_of is_family self.now }
     {

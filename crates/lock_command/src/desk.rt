@@ -35,7 +35,7 @@ pub struct DeskConnection {
 pub enum DeskAnswer {
     /// This line.
     Line(Answer),
-    /// Nothing more for now.
+    /// No whole line for now.
     Nothing,
     /// The connection is closed, or failed.
     Gone,
@@ -46,7 +46,7 @@ impl DeskConnection {
     ///
     /// # Errors
     /// What the system answers: there is no such file, nobody listens, too many wait to be
-    /// accepted, or the name is too long.
+    /// accepted, the name is too long, the user may not use it, or no descriptor is left.
     pub fn connect<R: Net>(rt: &R, path: &str, node: u16) -> io::Result<DeskConnection>
         ensures { IfOk result (λ desk. desk.node ≡ node) }
     {

@@ -13,7 +13,9 @@ use std::{env, fs, io};
 /// The environment variable that marks a command and whatever it starts.
 pub const MARKS: &str = "TOKENTREE_LOCK";
 
-/// A mark that no other lock on this machine has: the id of this process, and the time.
+/// A mark by which this lock differs from others on this machine: the id of this process, and the
+/// time in nanoseconds. What the system does not say of these is 0, and then another lock may have
+/// the same mark.
 ///
 /// # Errors
 /// If memory runs out.

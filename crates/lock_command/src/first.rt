@@ -23,8 +23,8 @@ const BETWEEN_LOOKS: u64 = 1;
 /// says how it stands.
 ///
 /// # Errors
-/// If there is no such folder, it may not be read, it has no socket, nobody listens, or nobody
-/// answers within a second.
+/// If there is no such folder, it may not be read, it has no socket, nobody listens, nobody answers
+/// within a second, memory runs out, or the system has no descriptor left.
 pub fn reach_first<'a, R: Net + Files + Clock + AllocGlobal>(
     rt: &R,
     folder: &'a str,

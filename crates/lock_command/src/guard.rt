@@ -41,9 +41,10 @@ struct GuardAtWork<'a, R> {
 }
 
 /// Holds the lock, whose connection is standard output, as long as the client on standard input
-/// says so. If the client is killed, the guard holds the lock until no process of the command is
-/// left; it asks the command to end, unless the command may run on or has had the same signal. The
-/// environment names the command's mark. Returns the exit status: 2 if the environment names none.
+/// says so. If the client is killed, the guard holds the lock until four looks in a row find no
+/// process of the command; it asks the command to end, unless the command may run on or has had the
+/// same signal. The environment names the command's mark. Returns the exit status: 0, or 2 if the
+/// environment names none or memory runs out.
 ///
 /// A [`Guard`](lock_client::Guard), whose laws are proved, decides what it does next. No contract
 /// says what `/proc` shows.

@@ -4,8 +4,8 @@ ghost use Rattle.std.specs.Duration.{as_nanos};
 
 use std::time::{Clock, Duration, Instant};
 
-/// A clock that shows milliseconds since its start. If the system's clock cannot be read, it
-/// stands still.
+/// A clock that shows milliseconds since its start. If the system's clock cannot be read, it shows
+/// 0.
 #[derive(Drop)]
 pub struct MillisecondClock {
     start: Instant,

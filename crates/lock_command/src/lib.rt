@@ -8,7 +8,7 @@
 //!
 //! ```
 //! let request = Request { folder: "/run/lock", node: Some(1), limit: None, lost: 122, command, .. };
-//! let status = lock::run(rt, &request);       // the command's own, or 122, 124, 125, 126, 127
+//! let status = lock::run(rt, &request);       // the command's, 122, 124 to 127, 128 + a signal
 //! ```
 #![tactic(auto)]
 

@@ -41,10 +41,12 @@ pub struct Request<'a> {
 }
 
 /// Takes the lock, runs the command, releases the lock, and returns the exit status: the command's
-/// own, or 128 plus the number of the signal that ended it; `lost` if the lock was lost; 124 if it
-/// was not granted in time; 125 if there is no lock service, or no guard could be started; 126 if
-/// the command cannot be run, and 127 if there is no such command. A line on standard error
-/// explains each of `lock`'s own statuses.
+/// own, or 128 plus the number of the signal that ended it, or that came before the lock was
+/// granted; `lost` if the lock was lost; 124 if it was not granted in time; 125 if it could not be
+/// asked for, there is no lock service, no guard could be started, or the system does not say how
+/// the command ended; 126 if the command cannot be run, and 127 if there is no such command;
+/// without a command 0 at the end of standard input, or 1 if `granted` cannot be printed. A line on
+/// standard error explains each of `lock`'s own statuses, except a signal's.
 ///
 /// While the command runs, a guard holds the lock too, so that nobody else gets it if this process
 /// is killed. A [`LockClient`](lock_client::LockClient), whose laws are proved, decides what it

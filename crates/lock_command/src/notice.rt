@@ -10,7 +10,8 @@ use std::fmt;
 /// Why a lock is lost.
 #[derive(Clone, Copy, Drop)]
 pub enum Cause {
-    /// The node ended the loan: its lease was over, or the node was damaged.
+    /// The node said something while the command ran: that it ended the loan, since its lease was
+    /// over, or something else, as a damaged node may.
     Ended,
     /// The node went away, or its connection failed.
     WentAway,
@@ -48,15 +49,16 @@ pub enum Notice<'a> {
     },
     /// The node went away before it lent the lock.
     WentAway(u16),
-    /// What answers for the node is no lock service, or a corrupted one.
+    /// What answers for the node is no lock service, or a corrupted one, or it accepts no
+    /// connection.
     NoService(u16),
     /// The node did not lend the lock within this time.
     NotInTime {
         node: u16,
         limit: Seconds,
     },
-    /// The node closed each connection while the client waited for the lock: it already serves as
-    /// many clients as it has room for.
+    /// The lock was not granted in time, the node had closed a connection, and the latest one had
+    /// not lasted half a second: it seems to serve as many clients as it has room for.
     NoRoom(u16),
     /// Nobody listens at any of the sockets in this folder.
     NobodyListens(&'a str),
@@ -231,8 +233,9 @@ pub fn loss_notice<'a>(node: u16, event: ClientEvent, command: Fate) -> Notice<'
     }
 }
 
-/// The line at the end, by the last event and the outcome: none if the command shows it, or it was
-/// reported before. `waited` is the line if the lock was not granted in time.
+/// The line at the end, by the last event and the outcome: none if the command shows it, a signal
+/// stopped the client, or it was reported before. `waited` is the line if the lock was not granted
+/// in time.
 pub fn end_notice<'a>(
     node: u16,
     waited: Notice<'a>,

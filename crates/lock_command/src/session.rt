@@ -99,7 +99,7 @@ impl<'a, R: System> Surroundings for Live<'_, R, Session<'a, R::Started>> {
     fn act(&mut self, event: ClientEvent, deed: ClientDeed)
         ensures starts { deed ≢ Start
             → is_running self.new.session.work ≡ is_running self.old.session.work }
-        // Only what is due then is set.
+        // The course changes only as this deed says.
         ensures course { IsCourseAfter deed self.old.session.course self.new.session.course }
     {
         self.session.do_deed(self.rt, event, deed)
@@ -110,7 +110,7 @@ impl<'a, P: OpenProcess + Drop> Session<'a, P> {
     /// Asks for the lock on this connection.
     ///
     /// # Errors
-    /// If the connection or the system fails at once, or memory runs out.
+    /// If the system gives no clock or poll, or memory runs out.
     pub fn new<R: Env + Net + Files + Clock + AllocGlobal>(
         rt: &R,
         request: Request<'a>,

@@ -31,7 +31,8 @@ pub enum Work<P: OpenProcess> {
 /// path if it has a slash.
 ///
 /// # Errors
-/// What the system answers if it is not there or cannot be run; `OutOfMemory`.
+/// What the system answers if it is not there or cannot be run; `NotFound` if there are no words;
+/// `OutOfMemory`.
 pub fn start<R: Processes>(
     rt: &R,
     alloc: Global,
@@ -113,7 +114,8 @@ impl<P: OpenProcess + Drop> Work<P> {
         }
     }
 
-    /// Passes SIGTERM on to the command alone.
+    /// Passes SIGTERM on to the command alone. Standard input is no longer read, as if that signal
+    /// had ended a command.
     pub fn pass_on<R: Processes + AllocGlobal>(&mut self, rt: &R)
         ensures { IsAsked (Killed 15) self.old self.new }
     {

@@ -5,8 +5,8 @@ use Rattle.std.specs.List.{list_any, list_all}
 use Rattle.lock_desk.specs.declared.fault.AskFault.{AskFault}
 use Rattle.lock_desk.specs.declared.fault.AskFault.TheVariants.{Full, Twice}
 
--- what a desk knows: the tickets that wait, in the order in which they asked; the ticket that the
--- lock is lent to; how many more ticks that loan outlasts if there is a lease; and whether a loan
+-- what a desk knows: the tickets that wait, the next one first; the ticket that the lock is lent
+-- to; how many more ticks that loan outlasts at most if there is a lease; and a mark that a loan
 -- ended since the last full tick
 pub record DeskState : Type 0 where
   pub waiting : List ℕ

@@ -13,7 +13,7 @@ use crate::{AskFault, DeskAct, OutOfRange, Stranger};
 use std::alloc::{AllocError, Allocator, Global};
 use std::marker::Model;
 
-/// The tickets that wait for the lock at one node, and the loan of the lock to one of them.
+/// The tickets that wait for the lock at one node, and the loan of the lock to another ticket.
 #[derive(Drop)]
 pub struct Desk<A: Allocator = Global> {
     lease: u16,
@@ -83,21 +83,21 @@ impl<A: Allocator> Desk<A> {
         self.waiting.len()
     }
 
-    /// The tickets that wait, in the order in which they asked.
+    /// The tickets that wait, the next one first.
     pub fn tickets(&self) -> &[u16]
         ensures { result.now ≡ self.now.state.waiting }
     {
         self.waiting.as_slice()
     }
 
-    /// How many more ticks the loan outlasts if there is a lease; 0 if there is no loan.
+    /// How many more ticks the loan outlasts at most if there is a lease; 0 if there is no loan.
     pub fn left(&self) -> u16
         ensures { result ≡ self.now.state.left }
     {
         self.left
     }
 
-    /// Whether a loan ended since the last full tick.
+    /// Whether the desk is marked as one whose loan ended since the last full tick.
     pub fn served(&self) -> bool
         ensures { result ≡ self.now.state.served }
     {

@@ -17,7 +17,8 @@ pub enum AskFault {
 #[error("Stranger")]
 pub struct Stranger;
 
-/// Why the writing of a loan is refused: its ticket waits, or what is left of it does not fit.
+/// Why a write is refused. A loan: its ticket waits, or what is left of it does not fit. Tickets
+/// that wait: there are more than 64, one appears twice, or one of them borrows.
 #[derive(Clone, Copy, Debug, PartialEq, Eq, Error)]
 #[error("OutOfRange")]
 pub struct OutOfRange;

@@ -1,9 +1,9 @@
 //! The lock desk of one node, and the lines of the clients that come to it.
 //!
-//! A `Desk` has the tickets that wait for the lock at one node, at most 64 and in the order in
-//! which they asked, and the loan of the lock to one of them. `ask` puts a ticket last, `leave`
-//! takes it out or ends its loan, and `tick`, once in each tick of the node, ends a loan or begins
-//! the next. A `ClientReader` reads what one client writes: `lock`, `unlock` and `status`.
+//! A `Desk` has the tickets that wait for the lock at one node, at most 64 and the next one first,
+//! and the loan of the lock to a ticket that does not wait. `ask` puts a ticket last, `leave` takes
+//! it out or ends its loan, and `tick`, once in each tick of the node, ends a loan or begins the
+//! next. A `ClientReader` reads what one client writes: `lock`, `unlock` and `status`.
 //!
 //! A desk alone does not give mutual exclusion: it lends whenever its node says that it is
 //! privileged. It is the network that ensures that only one node is privileged. Nor does a ticket

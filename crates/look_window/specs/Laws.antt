@@ -29,8 +29,8 @@ is_moved site s t =
     is_none (ticked site s).desk.lent
     && (is_on (tree_of site (recomputed site s)) t && may_move site (recomputed site s) t)
 
--- for a machine that is seen before a tick and after it, one move is counted if it moved, and none if it did
--- not
+-- for a machine whose value is in range, and that is seen before a tick and after it, one move is
+-- counted if it moved, and none if it did not
 abbrev pub MovesAreCounted : Type 0
 MovesAreCounted =
     (site : Site) (s : LocalState) (t : ℕ) → s.value t < site.ranges.ring → 1 < site.ranges.ring

@@ -8,9 +8,9 @@ use node_core::Node;
 use std::alloc::Allocator;
 use turn_watch::MachineSight;
 
-/// The machine that comes in from the node's parent. The root has no parent; there it is the machine from
-/// the least neighbour, which begins each round once the network is settled. A node that is alone has no
-/// machine.
+/// The machine that comes in from the node's parent. At a node that has no parent, such as the
+/// root, it is the machine from the least neighbour; at the root that one begins each round once
+/// the network is settled. A node with neither a parent nor a neighbour has no machine.
 pub fn counted_machine<A: Allocator>(node: &Node<A>) -> Option<MachineSight>
     ensures { result ≡ counted_machine (site_in node.now) (state_of node.now) }
 {

@@ -14,9 +14,10 @@ pub fn a_look_says_the_status()
     nodes_write_their_lines();
 }
 
-/// A reader of how often the token came round relies on this: if one machine is looked at before a
-/// tick and after it, one move is counted if it moved in that tick, and none if it did not. If the
-/// parent changes, another machine is looked at from then on; this law does not speak of that tick.
+/// A reader of how often the token came round relies on this: if one machine, whose value is in
+/// range, is looked at before a tick and after it, one move is counted if it moved in that tick,
+/// and none if it did not. If the parent changes, another machine is looked at from then on; this
+/// law does not speak of that tick.
 pub fn a_move_is_counted()
     ensures { MovesAreCounted }
 {}

@@ -16,9 +16,10 @@
 //! }                                                           // each looker is closed as it is dropped
 //! ```
 //!
-//! Of the lookers that come between two turns, 64 are shown the line, and further ones are closed. A new
-//! socket on Linux takes 100 KB at once, and no line has more than 8 KB. So each line goes out in one
-//! write, a looker that reads nothing keeps nothing waiting, and nobody is kept from one turn to the next.
+//! Of the lookers that come between two turns, 64 are shown the line, and up to 64 further ones are
+//! closed; the others wait. A new socket on Linux takes 100 KB at once, and no line has more than
+//! 8 KB. So each line goes out in one write, a looker that reads nothing keeps nothing waiting, and
+//! no looker that was let in is kept from one turn to the next.
 //!
 //! The trap: a looker that reads nothing before the end came after the first 64. It should ask again.
 #![tactic(auto)]

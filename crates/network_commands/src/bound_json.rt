@@ -19,8 +19,9 @@ use std::rt::Files;
 use topology::Net;
 
 /// Prints the numbers of the network of a file as a JSON object on one line, with the sharp bound
-/// if asked for, and times if premises are given. The names are those of the lines of `bound`, and
-/// `none` is null; `window_us` is in microseconds, the other times in milliseconds, rounded up.
+/// if asked for, and times if premises are given. The names are those of the lines of `bound`,
+/// except for the times: `window_us` is in microseconds, and `recovers_within_ms` and
+/// `lends_within_ms` are in milliseconds, rounded up. `none` is null.
 ///
 /// # Errors
 /// If the file gives no network, memory runs out, or standard output fails.

@@ -5,7 +5,7 @@
 //!
 //! ```
 //! let status = bound::run(rt, "two-nodes.toml", false, None)?;      // prints eight lines
-//! let status = bound_json::run(rt, "two-nodes.toml", true, None)?;  // the same as an object
+//! let status = bound_json::run(rt, "two-nodes.toml", true, None)?;  // as an object, and `sharp`
 //! let status = network::run(rt, wanted)?;                           // prints a network file
 //! ```
 //!

@@ -56,7 +56,7 @@ abbrev pub first_twice : List (ℤ × ℤ) → Option (ℤ × ℤ)
 first_twice [] = None
 first_twice (e ∷ es) = if list_any (is_twice e) es then Some e else first_twice es
 
--- the first edge that names no node; else the first loop; else the first that occurs twice
+-- the first edge of which an end is no node; else the first loop; else the first that occurs twice
 abbrev pub edge_flaw : ℤ → List (ℤ × ℤ) → Option ValueFlaw
 edge_flaw n edges =
     flaw_or (option_map (λ e. NoNode e.0 e.1 n) (find (has_bad_end n) edges))

@@ -6,7 +6,8 @@
 //! ```
 //!
 //! `topology` decides whether a text is a network, and which fault it has. This crate has only what
-//! is shown to a person besides; it looks for the places in the same order.
+//! is shown to a person besides. It is meant to look for the places in the same order, but no
+//! contract says so.
 //!
 //! The trap: this does not look at whether the edges join all nodes. A text whose only fault is that they
 //! do not has no hint here.

@@ -15,7 +15,7 @@ fn is_like(alloc: Global, name: &str, other: &str) -> Result<bool, AllocError>
     Ok(levenshtein(alloc, name, other)? <= 2)
 }
 
-/// An unknown key that is like this one.
+/// An unknown key that is like this one; none if none was found.
 pub fn like<'a>(alloc: Global, table: &'a Table, key: Key) -> Result<Option<&'a str>, AllocError>
     ensures { IfOk result (λ found. IfSome found (λ name. (is_key_name name.now ≡ false)
         × (is_like name.now (key_name key) ≡ true))) }

@@ -20,13 +20,14 @@ pub enum Kind {
     Tree,
     /// Nodes in rows, row after row, each joined to those beside it, above it and below it.
     Grid {
-        /// How many nodes a row has.
+        /// How many nodes a row has; with 0, there is no edge.
         columns: u16,
     },
     /// A tree in which each node is joined to an earlier one that is drawn, and further edges that are
     /// drawn.
     Random {
-        /// How many edges there are.
+        /// How many edges there are; but never fewer than the tree has, nor more than there are
+        /// pairs of nodes.
         edges: u16,
         /// The seed from which all edges are drawn.
         seed: u32,
@@ -43,7 +44,8 @@ pub fn least_nodes(kind: Kind) -> u16
     }
 }
 
-/// The greatest number of nodes that a kind has within the limits of a network.
+/// The greatest number of nodes that a kind has within the limits of a network. For a random one
+/// this is so only if it has at most 256 edges.
 pub fn most_nodes(kind: Kind) -> u16
     ensures { result ≡ most_nodes kind }
 {

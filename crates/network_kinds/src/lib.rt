@@ -11,7 +11,8 @@
 //!
 //! The trap: not every kind has every number of nodes. A complete graph of more than 23 nodes has more
 //! edges than a network may have; [`network_of`] refuses it, as it refuses any network that is beyond
-//! the limits. [`least_nodes`] and [`most_nodes`] give the range of a kind.
+//! the limits. [`least_nodes`] and [`most_nodes`] give the range of a kind. [`network_of`] does not
+//! refuse a ring of two nodes: it makes the line of two.
 //!
 //! The kinds are those of every book on graphs; the random ones are random recursive trees with
 //! further edges.

@@ -10,8 +10,7 @@ use std::alloc::{AllocError, Global};
 use toml::{Table, Value};
 use topology::Net;
 
-/// The text of a network, as a network file has it: a line for each of the five keys, in alphabetical
-/// order.
+/// The text of a network, as a network file has it. It reads as the values of this network.
 ///
 /// # Errors
 /// If memory runs out.

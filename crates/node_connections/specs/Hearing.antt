@@ -33,19 +33,21 @@ pub record HasCome {P : Type 0} (r : Ranges) (gave took : P → Option (List ℕ
   pub stands : is_some new.pipe ≡ is_some old.pipe
   pub loose : old.pipe ≡ None → frames ≡ []
 
--- The port's link was pulled, and these frames came; nothing else of the port changed.
+-- The port's link was pulled, and these frames came. The greeting stays, and so does whether the
+-- port is stuck.
 pub record Comes {P : Type 0} (r : Ranges) (gave took : P → Option (List ℕ)) (frames : List Frame)
     (old new : NodePort P) : Type 0 where
   pub come : HasCome r gave took frames old.link new.link
   pub rest : (new.greeting ≡ old.greeting) × (new.is_stuck ≡ old.is_stuck)
 
--- the port's pipe closed or failed, as its counts show, and was let go; nothing else changed
+-- the port's pipe closed or failed, as its counts show, and was let go; the greeting stays, and so
+-- does whether the port is stuck
 abbrev pub Breaks : {P : Type 0} → (P → Counts) → NodePort P → NodePort P → Type 0
 Breaks counts old new =
     HasBroken counts old.link new.link
     × ((new.greeting ≡ old.greeting) × (new.is_stuck ≡ old.is_stuck))
 
--- The port's link was pulled until no frame came, or often enough: these frames came, and then the
+-- The port's link was pulled any number of times, or not at all: these frames came, and then the
 -- port stands, or its pipe closed or failed.
 pub record Pulls {P : Type 0} (r : Ranges) (gave took : P → Option (List ℕ)) (counts : P → Counts)
     (frames : List Frame) (old new : NodePort P) : Type 0 where

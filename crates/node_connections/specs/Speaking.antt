@@ -56,7 +56,7 @@ pub record PortSpeaks {P : Type 0} (gave took : P → Option (List ℕ)) (counts
   pub pushes : PushesOut gave took counts old pushed
   pub offers : OffersIf gave took counts is_offered line pushed new is_taken
 
--- a frame that is offered at the port would be accepted
+-- the port has a connection, and is not stuck
 abbrev pub takes_frames : {P : Type 0} → Option (NodePort P) → Bool
 takes_frames None = false
 takes_frames (Some port) = is_some port.link.pipe && not port.is_stuck

@@ -76,8 +76,8 @@ impl<P: Pipe, A: Allocator + Copy> Clients<P, A> {
         self.table.contains(ticket as usize)
     }
 
-    /// Takes in a client that has come. If 128 are connected, it is closed; otherwise it gets a
-    /// ticket that no connected client has.
+    /// Takes in a client that has come. Its ticket is the next vacant key of the table, which no
+    /// connected client has. If 128 are connected, or that key is above 127, it is closed instead.
     pub fn admit(&mut self, pipe: P)
         ensures closed { 128 ≤ slab_len self.old.table → self.new ≡ self.old }
         ensures past { 128 ≤ self.old.table.vacant_key → self.new ≡ self.old }
@@ -106,7 +106,8 @@ impl<P: Pipe, A: Allocator + Copy> Clients<P, A> {
         });
     }
 
-    /// Closes the connection of a client, if it is there. What waits for it is dropped.
+    /// Closes the connection of a client, if it is there. What waits for it stays, and is dropped
+    /// once a new client gets that ticket.
     pub fn close(&mut self, ticket: u16)
         ensures closed { (t : ℕ) → is_connected self.new t
             ≡ (is_connected self.old t && not (t == ticket)) }
@@ -150,8 +151,8 @@ impl<P: Pipe, A: Allocator + Copy> Clients<P, A> {
         self.table.get_mut(ticket as usize)?.reader.push(byte)
     }
 
-    /// Adds an answer after those that wait for a client. If there is no room for the whole of it,
-    /// returns false and changes nothing.
+    /// Adds an answer after those that wait for a client. Returns false only if there is no room
+    /// for the whole of it, or the ticket is above 127; then nothing changes.
     pub fn say(&mut self, ticket: u16, text: &[u8]) -> bool
         ensures same { SameClients self.old self.new }
         ensures table { self.new.table ≡ self.old.table }

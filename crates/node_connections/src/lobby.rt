@@ -116,7 +116,8 @@ impl<P: Pipe, A: Allocator + Copy> Lobby<P, A> {
         self.visitors.is_empty()
     }
 
-    /// Takes in a connection that has come. It is closed if 64 wait already.
+    /// Takes in a connection that has come. It is closed if 64 wait already, or if the next vacant
+    /// place is above 63.
     pub fn admit(&mut self, pipe: P)
         ensures closed { 64 ≤ slab_len self.old.visitors → self.new ≡ self.old }
         ensures others { (place : ℕ) → place ≢ self.old.visitors.vacant_key
@@ -130,8 +131,9 @@ impl<P: Pipe, A: Allocator + Copy> Lobby<P, A> {
         }
     }
 
-    /// Listens to the visitor at a place, 0 to 63, if there is one. If it has said who it is, that
-    /// node's id and the connection are returned. A visitor that is waited for no longer is closed.
+    /// Listens to the visitor at a place, 0 to 63, if there is one. Returns a node's id and the
+    /// connection only if that visitor has said that it is this node. A visitor that is waited for
+    /// no longer is closed.
     pub fn listen(&mut self, place: usize, net: &Net) -> Option<(u16, P)>
         // A visitor that has said who it is leaves its place.
         ensures said { IfSome result (λ said.

@@ -61,7 +61,7 @@ impl<P: Pipe> NodePort<P> {
         !self.link.is_attached() && self.greeting.is_none()
     }
 
-    /// Whether a frame that is offered would be accepted.
+    /// Whether a connection stands and the port is not stuck: then it is worth offering a frame.
     pub fn takes_frames(&self) -> bool
         ensures { result ≡ (is_some self.now.link.pipe && not self.now.is_stuck) }
     {
@@ -102,14 +102,14 @@ impl<P: Pipe> NodePort<P> {
         self.greeting = Some(Greeting::new(pipe));
     }
 
-    /// Writes what is left of the hello of node `id`, if there is one. Returns whether the
-    /// connection stands now.
+    /// Writes what is left of the hello of node `id`, if there is one. Returns whether its
+    /// connection stands from now on; false without a hello, even if a connection stands.
     pub fn go_on_greeting(&mut self, id: u16) -> bool
         // The connection stands as before, or it is a new one.
         ensures wires { Wires self.old self.new }
         // Without a hello nothing is done.
         ensures none { self.old.greeting ≡ None → (self.new ≡ self.old) × (result ≡ false) }
-        // If a connection stands now, it counts as one more.
+        // If it returns true, one more connection counts; else the count stays.
         ensures made { self.new.made ≡ (if result then one_more self.old.made else self.old.made) }
     {
         let Some(greeting) = self.greeting.take() else {

@@ -10,9 +10,10 @@ pub use lock_desk::laws::{
     waiting_tickets_are_served,
 };
 
-/// Two accounts of a node, the second from where the first led, are one account. It says of each
-/// neighbour what the first says and then what the second says. An account leads to one state
-/// alone. So the accounts of many turns can be strung together into one.
+/// Two accounts of a node with the same neighbours, the second from where the first led, are one
+/// account. It says of each neighbour what the first says and then what the second says. An account
+/// leads to one state alone. So the accounts of many turns can be strung together into one, if the
+/// neighbours stay the same.
 pub fn accounts()
     ensures join { AccountsJoin }
     ensures one_end { OneEnd }

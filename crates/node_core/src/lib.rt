@@ -4,7 +4,7 @@
 //! A [`Node`] is moved by four calls: it takes an item that a neighbour sent (`take`), it ticks
 //! (`tick`), and its clients `ask` and `leave`. What it sends to a neighbour is `frame_for` that
 //! neighbour. All that it knows of the network is its own id, whether it is the root, the ranges of
-//! numbers, and its neighbours' ids.
+//! numbers, the length of a loan, and its neighbours' ids.
 //!
 //! ```
 //! let mut node = Node::new(alloc, &net, 1)?;
@@ -18,8 +18,9 @@
 //!
 //! A node's *account* is the list of what it did, in order: it took and sent frames, it ticked, and
 //! its clients asked and left. No code computes one: the contracts of the code that drives a node
-//! name it. The account of many turns is that of the first, then that of the second, and so on
-//! (`laws::accounts`). A send is the moment at which the link accepts the whole frame.
+//! name it. While a node keeps its neighbours, the account of many turns is that of the first, then
+//! that of the second, and so on (`laws::accounts`). A send is the moment at which the link accepts
+//! the whole frame.
 //!
 //! The traps: what a node says to a neighbour is what it had to say *before* the frame that it
 //! takes; and a node that lends does not let the token go, so its machines stand still until a tick

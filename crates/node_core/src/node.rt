@@ -196,14 +196,15 @@ impl<A: Allocator> Node<A> {
         self.desk.lent()
     }
 
-    /// How many further ticks the loan outlasts if there is a lease.
+    /// How many further ticks the loan outlasts at most if there is a lease.
     pub fn left(&self) -> u16
         ensures { result ≡ (state_of self.now).desk.left }
     {
         self.desk.left()
     }
 
-    /// Whether a loan ended since the last full tick; until the next one the desk lends to nobody.
+    /// Whether the desk is marked as one whose loan ended since the last full tick; damage may have
+    /// written that mark. If so, no ask, leave or tick begins a loan until a full tick is over.
     pub fn served(&self) -> bool
         ensures { result ≡ (state_of self.now).desk.served }
     {
@@ -218,7 +219,7 @@ impl<A: Allocator> Node<A> {
         self.desk.waiting()
     }
 
-    /// The tickets that wait, in the order in which they asked.
+    /// The tickets that wait, the next one first.
     pub fn tickets(&self) -> &[u16]
         ensures { result.now ≡ (state_of self.now).desk.waiting }
     {

@@ -52,9 +52,9 @@ impl<A: Allocator + Copy> Follower<A> {
         &self.node
     }
 
-    /// Does these deeds, one after the other, up to one that no node in its state does. Returns
-    /// whether it did all of them: then they lead it, by a node's own steps, to the state in which
-    /// it is.
+    /// Does these deeds, one after the other, up to one that no node in its state does, or that
+    /// does not say by itself what the node did. Returns whether it did all of them: then they lead
+    /// it, by a node's own steps, to the state in which it is.
     pub fn follow(&mut self, deeds: &[Deed]) -> bool
         ensures leads { IsTrue result → Leads (site_in self.old) (account_of deeds.now)
             (state_of self.old) (state_of self.new) }
@@ -74,7 +74,8 @@ impl<A: Allocator + Copy> Follower<A> {
         true
     }
 
-    /// Does one deed, if a node in its state does it. Returns whether it did.
+    /// Does one deed, if a node in its state does it and it says by itself what the node did.
+    /// Returns whether it did; if not, nothing has changed.
     pub fn does(&mut self, deed: &Deed) -> bool
         ensures leads { IsTrue result → Leads (site_in self.old) (account_of (deed.now ∷ []))
             (state_of self.old) (state_of self.new) }

@@ -3,8 +3,9 @@
 //! A record says in which state a node was, and what it did from then on. A [`Follower`] is a node
 //! of its own, which does the same: [`Follower::follow`] has it do each deed by the node's own
 //! steps, and says no at a deed that no node in that state does, such as sending a frame that is
-//! not the one of its port. Whether its state is then the node's is for [`Follower::stands_as`] to
-//! say.
+//! not the one of its port. It also says no at a deed that does not say by itself what the node
+//! did: a frame in its short form, or an edge that joined or parted. Whether its state is then the
+//! node's is for [`Follower::stands_as`] to say.
 //!
 //! ```
 //! let mut follower = Follower::new(alloc, &net, 1)?;

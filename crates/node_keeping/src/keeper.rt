@@ -101,8 +101,8 @@ impl Keeper {
         !matches!(self.stage, KeeperStage::Left | KeeperStage::Over)
     }
 
-    /// Takes note of what was seen, and returns what to do. What cannot be seen at that stage
-    /// changes nothing.
+    /// Takes note of what was seen, and returns what to do. A start or an end that cannot be seen
+    /// at that stage changes nothing.
     pub fn step(&mut self, seen: Seen) -> KeeperDeed
         ensures stage { self.new.stage ≡ stage_after seen self.old.failures self.old.stage }
         ensures failures { self.new.failures ≡ failures_after seen self.old.stage self.old.failures }

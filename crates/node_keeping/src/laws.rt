@@ -24,8 +24,9 @@ pub fn a_node_is_started_again()
     ensures left { IsLeftAfterThreeFailures }
 {}
 
-/// Once `up` is asked to end, no node is started, each node that ends is named, and one that does
-/// not end is killed once: after 500 looks, or as soon as `up` is asked again.
+/// Once `up` is asked to end, no node is started, each node that then ends before it is killed is
+/// named, and one that does not end is killed once: by the look after those that it was given, or
+/// as soon as `up` is asked again.
 pub fn up_leaves_nobody()
     ensures nobody { NobodyStartsAfterTheEnd }
     ensures once { IsKilledOnce }

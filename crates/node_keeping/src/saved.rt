@@ -47,8 +47,8 @@ pub struct Lost {
 /// What a node does after a turn that saved its state.
 #[derive(Clone, Copy, PartialEq, Eq)]
 pub enum AfterSave {
-    /// It ends at once, and touches no file: its folder was removed or made again, so another
-    /// network may lend at the same time.
+    /// It ends at once, and touches no file: its lock file is gone or another's, as in a folder
+    /// that was removed or made again, so another network may lend at the same time.
     Displaced,
     /// It removes its sockets, and ends with a fault: if it were started again, it would be ended
     /// again.

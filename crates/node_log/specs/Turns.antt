@@ -42,8 +42,8 @@ abbrev pub full_after : ℕ → Bool → Bool
 full_after waiting false = not (nat_lt waiting 64)
 full_after waiting true = nat_lt 32 waiting
 
--- a node has at most 128 clients, and closes each further one. That is said once, until at most half
--- of them are connected
+-- a node has at most 128 clients, and closes each further one. That is said once, until at most
+-- half of them are connected and none was closed since the turn before
 abbrev pub by_crowd : ℕ → ℕ → Bool → Option NodeEvent
 by_crowd closed connected false = if nat_lt 0 closed then Some event.Crowded else None
 by_crowd closed connected true = if nat_lt 64 connected || nat_lt 0 closed then None else Some event.Seats

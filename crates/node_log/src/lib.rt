@@ -4,7 +4,7 @@
 //!
 //! ```
 //! let mut log = NodeLog::new(Some(Level::Info));       // None says nothing
-//! for event in log.turn_ended(sight).into_iter().flatten() {
+//! for event in log.turn_ended(sight, now).into_iter().flatten() {
 //!     if let Some(left_out) = log.admit(event, now) {  // at most 20 in a second
 //!         let line = LogLine { id, event, left_out, has_priority };
 //!     }

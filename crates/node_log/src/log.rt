@@ -107,8 +107,8 @@ impl NodeLog {
     /// What happened in a turn, by what is seen after it: who released the lock, and who was
     /// granted it or lost it, whether the link is up or down now, whether further clients are
     /// refused now or may wait again, whether they are closed now or may connect again, and whether
-    /// the node has been out of its place for two seconds or is back. Nothing is said of an id
-    /// above 63. `now` is when the turn ended, in microseconds.
+    /// the node has been out of its place for two seconds or is back. Nothing is said of a link to
+    /// an id above 63. `now` is when the turn ended, in microseconds.
     pub fn turn_ended(&mut self, sight: TurnSight, now: u64) -> [Option<NodeEvent>; 6]
         ensures events { result ≡ gave_back self.old.lent sight.act sight.lent ∷ by_act sight.act
             ∷ by_link sight.link sight.is_up self.old.up

@@ -19,7 +19,7 @@ pub record TakesAt {P : Type 0} (R : List Frame → NodePort P → NodePort P �
   pub others : (w : ℕ) → w ≢ id
       → (taken_from w takes.deeds ≡ []) × (slice_get pulled w ≡ slice_get ports w)
 
--- The node took frames, and at each port exactly those that came there.
+-- The node took frames, and at each port exactly those that were pulled there.
 pub record Hears {P : Type 0} (gave took : P → Option (List ℕ)) (counts : P → Counts)
     (old new : NodeView) (ports pulled : List (NodePort P)) : Type 0 where
   pub takes : Became IsTake old new
@@ -28,7 +28,7 @@ pub record Hears {P : Type 0} (gave took : P → Option (List ℕ)) (counts : P 
       (slice_get ports w) (slice_get pulled w)
 
 -- Connections came; then the node took the frames that came on them; then its clients asked and
--- left. Throughout, what its ports were given is remembered.
+-- left. Throughout, what a port was given last is remembered, or no frame is.
 pub record Listens {P : Type 0} (gave took : P → Option (List ℕ)) (counts : P → Counts)
     (old new : Moment P) : Type 0 where
   pub wired : List (NodePort P)

@@ -4,8 +4,8 @@ use Rattle.pace.specs.Plans.{port_of}
 use Rattle.pace.specs.declared.pace.TurnPace.{TurnPace}
 use Rattle.pace.specs.declared.port.PortPace.{PortPace}
 
--- The frame that the port was given last, and when, is still remembered; or the port has a new
--- connection, on which nothing has been given yet.
+-- The frame that the port was given last, and when, is still remembered; or no frame is, as at a
+-- port with a new connection.
 abbrev pub StillGiven : PortPace → PortPace → Type 0
 StillGiven old new =
     ((new.given ≡ old.given) × (new.given_at ≡ old.given_at)) ⊎ (new.given ≡ None)

@@ -10,9 +10,9 @@ use Rattle.node_loop.specs.Moments.{Moment}
 use Rattle.node_loop.specs.Remembering.{Remembers}
 use Rattle.node_loop.specs.Speaking.{IsPlanOf, Speaks}
 
--- A turn: all that came was taken; then the node ticked once; then it spoke to its neighbours, by
--- the plan that the pace makes once it has ticked; and at the end some tickets left. The account is
--- the list of all that it did, in order.
+-- A turn: some or all of what came was taken; then the node ticked once; then it spoke to its
+-- neighbours, by the plan that the pace makes once it has ticked; and at the end some tickets left.
+-- The account is the list of all that it did, in order.
 pub record Turns {P : Type 0} (gave took : P → Option (List ℕ)) (counts : P → Counts)
     (says : Ticked) (now : ℕ) (old new : Moment P) : Type 0 where
   pub heard : Moment P

@@ -20,11 +20,13 @@
 //! A turn takes what came, in this order: connections, hellos, frames of neighbours, lines of
 //! clients. Clients that are gone leave. Then the node ticks once; frames go out on the ports of
 //! the plan, and answers to clients. Each 256th turn saves the state. If a door, a connection or
-//! the store fails, the turn goes on, and the next one tries again. A turn takes no memory.
+//! the store fails, the turn goes on. The next turn asks the doors again, and the store is given
+//! the state again 256 turns later. A turn takes no memory (that is tested, and not part of the
+//! contracts).
 //!
 //! The contract of a turn names its account: one list of all that the node did, in order. At each
 //! port it took exactly the frames that were pulled there, and it sent exactly the frames that the
-//! link accepted.
+//! link accepted. How many frames are pulled at a port is not part of the contract.
 //!
 //! A tick uses up a part of a loan's lease, so a lease stands for a time only if ticks are not too
 //! dense. While such a loan runs, the loop calls `attend` in place of a turn for 2 milliseconds

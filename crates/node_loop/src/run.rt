@@ -117,9 +117,9 @@ impl<D: Doors, S: Store + Drop, A: Allocator + Copy> NodeRun<D, S, A> {
         }
     }
 
-    /// One turn: the node takes all that came, ticks once, and speaks by the plan that the pace
-    /// then makes. `now` is microseconds of a clock that never goes back. All that it did is noted,
-    /// as far as there is room.
+    /// One turn: the node takes frames that came, reads each client once, ticks once, and speaks by
+    /// the plan that the pace then makes. It need not take all that came. `now` is microseconds of
+    /// a clock that never goes back. Its deeds are noted, as far as there is room.
     pub fn turn(&mut self, now: u64, notes: &mut Notes<A>) -> Turned
         // All that it did is one list of deeds, which are the node's own steps.
         ensures turns { Turns D.P.gave D.P.took D.P.counts result.ticked now
@@ -146,7 +146,8 @@ impl<D: Doors, S: Store + Drop, A: Allocator + Copy> NodeRun<D, S, A> {
             (moment_of self.old.node self.old.ports.items self.old.pace self.old.let_go)
             (moment_of self.new.node self.new.ports.items self.new.pace self.new.let_go)
             notes.old notes.new self.old.clients self.new.clients self.new.has_more }
-        // In each 256th turn, and in no other, the state is stored as it is at the turn's end.
+        // In each 256th turn, and in no other, the store is given the state as it is at the turn's
+        // end. It stores that, or answers that it failed.
         ensures saves { IsSome result.saved ↔ (self.old.turns ≡ 255) }
         ensures counts { self.new.turns ≡ (self.old.turns + 1) % 256 }
         ensures stores { IfSome result.saved (λ saved.
@@ -186,8 +187,9 @@ impl<D: Doors, S: Store + Drop, A: Allocator + Copy> NodeRun<D, S, A> {
     }
 
     /// Does what is done between two turns, while a loan with a lease runs and no tick is due: the
-    /// node takes all that came, and speaks by the plan that the pace then makes. It does not tick,
-    /// and this does not count as a turn. `now` and `notes` are as for [`NodeRun::turn`].
+    /// node takes frames that came, reads each client once, and speaks by the plan that the pace
+    /// then makes. It need not take all that came. It does not tick, and this does not count as a
+    /// turn. `now` and `notes` are as for [`NodeRun::turn`].
     pub fn attend(&mut self, now: u64, notes: &mut Notes<A>)
         // All that it did is one list of deeds, which are the node's own steps; no tick is among
         // them.

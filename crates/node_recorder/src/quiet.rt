@@ -12,7 +12,7 @@ pub fn is_quiet(deeds: &[Deed]) -> bool
     deeds.iter().all(|deed| is_silent(deed))
 }
 
-/// Whether no neighbour and no client has to do with this deed.
+/// Whether this deed is neither a frame that was taken or sent, nor a client that asked or left.
 fn is_silent(deed: &Deed) -> bool
     ensures { result ≡ is_silent deed.now }
 {

@@ -44,8 +44,8 @@ AreSendsDue us r notes =
     → IsNoted w v past r → ((u : ℕ) → sent_to u past ≡ []) → r.clock ≤ last_place + 1 → length r.ports.items ≤ 64
     → All (λ u. IsTrue (has_room w v u) → 0 < length (sent_to u notes)) us
 
--- From each of these neighbours, if nothing was taken so far, these notes take as many items as
--- there were on the link, or two if there were more.
+-- From each of these neighbours, if nothing was taken so far, these notes take at least as many
+-- items as there were on the link, or two if there were more.
 abbrev pub AreTakesDue : {A : Type 0} → List ℕ → Runner A → List Note → Type 0
 AreTakesDue us r notes =
     (w : World) (v : ℕ) (past : List Note)

@@ -47,9 +47,9 @@ abbrev pub before_tick : List Event → List Event
 before_tick [] = []
 before_tick (e ∷ es) = if is_tick e then [] else e ∷ before_tick es
 
--- These deeds of v begin with its first turn from the world: a tick, and before its next tick a
--- send over each of its outgoing links that has room, and from each incoming link as many takes as
--- there are items, or two if there are more.
+-- These deeds of v begin with its first turn from the world: a tick, and before its next tick at
+-- least one send over each of its outgoing links that has room in the world, and from each incoming
+-- link at least as many takes as it has items there, or two if it has more.
 pub record IsFirstTurn (w : World) (v : ℕ) (deeds : List Event) : Type 0 where
   pub later : List Event
   pub ticks : deeds ≡ Tick v ∷ later

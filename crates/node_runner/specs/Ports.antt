@@ -46,7 +46,8 @@ pub record IsSender {A : Type 0} (capacity : ℕ) (old : List Item) (sends : Lis
   pub room : capacity - length old ≤ known_free o.frames + length sends
 
 -- The receiver's end of a link that began with this many items, after these takes. They took what
--- came in, in order; each take is later than its item, and gave its place back.
+-- came in, in order; each take is later than its item, and gave its place back unless its own stamp
+-- is above 2^61.
 pub record IsReceiver {A : Type 0} (capacity old : ℕ) (takes : List Stamped) (i : Incoming A) : Type 0 where
   pub taken : AllZip IsTakeOf takes (received i.frames)
   pub returned : sent i.places ≡ given_back takes

@@ -187,7 +187,8 @@ impl<A: Allocator> Runner<A> {
         requires room { length self.old.journal.entries.items + turns * round_room self.old
             ≤ vec_capacity self.old.journal.entries }
         // There are as many rounds as turns, and each begins with its one tick. The first round,
-        // at the start of a run, leaves out nothing for which there is room or an item.
+        // at the start of a run, sends over each link that had room then, and takes at least what
+        // was on each link then, or two items if there were more.
         ensures { (notes : List Note) × Does notes self.old self.new
             × AreRounds (port_ids self.old) turns notes
             × (length notes ≤ turns * round_room self.old)

@@ -44,7 +44,7 @@ impl<A: Allocator> Notes<A> {
         }
     }
 
-    /// Notes with room for the deeds of a turn. `AllocError` comes only if memory is refused.
+    /// Notes with room for 1024 deeds. `AllocError` comes only if memory is refused.
     pub fn with_room(alloc: A) -> Result<Notes<A>, AllocError>
         ensures { IfOk result (λ notes. (notes.deeds ≡ []) × (notes.room ≡ 1024)
             × (notes.is_torn ≡ false)) }

@@ -249,7 +249,8 @@ fn leave_waiting<P: Pipe, A: Allocator + Copy>(
     }
 }
 
-/// Ticks the node once. The client whose loan the tick began or ended hears of it.
+/// Ticks the node once. The client whose loan the tick began or ended hears of it, or is closed if
+/// there is no room for that answer.
 pub fn tick<P: Pipe, A: Allocator + Copy>(
     node: &mut Node<A>,
     notes: &mut Notes<A>,

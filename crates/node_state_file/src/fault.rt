@@ -5,8 +5,7 @@ ghost use Rattle.node_state_file.specs.declared.fault.FileFault.TheVariants.{Mem
 use std::alloc::AllocError;
 use thiserror::Error;
 
-/// The faults of a state file, in the order in which they are checked; `Memory` may come at any
-/// point.
+/// The faults of a state file. [`decode`](crate::decode) says in which order they are checked.
 #[derive(Clone, Copy, Debug, PartialEq, Eq, Drop, Error)]
 pub enum FileFault {
     /// There are fewer bytes than the magic word, the header or the file's own degree requires.
@@ -15,8 +14,8 @@ pub enum FileFault {
     /// The first four bytes are neither `TKT1` nor `TKT2`.
     #[error("Magic")]
     Magic,
-    /// The file is of another network or node, it has a degree that no node may have, or its
-    /// neighbours are not other nodes in ascending order.
+    /// The file has another number of nodes, another capacity or another id than the node, it has a
+    /// degree that no node may have, or its neighbours are not other nodes in ascending order.
     #[error("Shape")]
     Shape,
     /// A field is not in its range.

@@ -8,10 +8,11 @@ use std::os::unix::fs::OpenOptionsExt;
 use std::rt::Files;
 use std::{fs, io};
 
-/// A state in a plain file, which only its owner may read and write. A save writes all of the state
-/// in place, from the start of the file, in one write, and then sets the length if it differs: it
-/// uses no second file, cuts nothing off beforehand, and does not wait for the disk. So a file may
-/// be torn if the machine stops in between, which is damage like any other.
+/// A state in a plain file. If a save has to make the file, only its owner may read and write it; a
+/// file that is there keeps its rights. A save writes all of the state in place, from the start of
+/// the file, in one write, and then sets the length if it differs: it uses no second file, cuts
+/// nothing off beforehand, and does not wait for the disk. So a file may be torn if the machine
+/// stops in between, which is damage like any other.
 ///
 /// A folder, a pipe or a device in the file's place is a failure of the store, and is not waited
 /// for, unless it takes the file's place between the check and the opening.

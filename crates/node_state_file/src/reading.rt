@@ -26,10 +26,10 @@ use topology::{Net, Ranges};
 ///
 /// # Errors
 /// The first of these that holds, in this order: `Short` if there are fewer than 4 bytes; `Magic`;
-/// `Short` if there are fewer bytes than the header has; `Shape` if the header is of another
-/// network or node, or has a degree that no node may have; `Short` if there are fewer bytes than
-/// the file's own degree requires; `Shape` if the neighbours are not other nodes in ascending
-/// order; `Range`; `Long`. `Memory` may come at any point.
+/// `Short` if there are fewer bytes than the header has; `Shape` if the header has another number
+/// of nodes, another capacity or another id, or a degree that no node may have; `Short` if there
+/// are fewer bytes than the file's own degree requires; `Shape` if the neighbours are not other
+/// nodes in ascending order; `Range`; `Long`. `Memory` may come at any point.
 pub fn decode<A: Allocator + Copy, N: Allocator + Copy>(
     alloc: A,
     bytes: &[u8],

@@ -8,7 +8,8 @@
 //! A node runs if its lock file is held. [`next`] decides what is done with a node that should end, by what
 //! was seen of that file; the rest asks the system.
 //!
-//! The trap: a user who may not open the lock file of a node cannot see whether it runs; a line says so.
+//! The trap: a user who may not open the lock file of a node cannot see whether it runs. [`run`]
+//! prints a line that says so; [`warn_of_runner`] then warns of nothing.
 #![tactic(auto)]
 
 mod lines;

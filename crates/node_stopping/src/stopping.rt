@@ -17,9 +17,10 @@ const BETWEEN_LOOKS: u64 = 20;
 /// The number of looks in a second.
 const LOOKS_A_SECOND: u64 = 50;
 
-/// Ends these nodes of a folder, or each that has a socket there if none is named, and prints how it went
-/// with each. Waits at most `seconds` seconds for each. Returns the status to end with: 0 if all have
-/// ended, else 1.
+/// Ends these nodes of a folder, or each that has a socket there if none is named, and prints how
+/// it went with each. Waits about `seconds` seconds for each at most. If `up` keeps the nodes of
+/// the folder running, it ends none, and says so. Returns the status to end with: 0 if all ran and
+/// have ended, else 1.
 pub fn run<R>(rt: &R, dir: &str, ids: &[u16], seconds: u16) -> u8
 where
     R: Files<File = File> + Clock + Print + Eprint + AllocGlobal,

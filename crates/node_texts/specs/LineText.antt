@@ -14,7 +14,8 @@ end_text Unstarted = codes " cannot be started; it is tried again"
 abbrev pub end_line : ℕ → End → List ℕ
 end_line id end = codes "node " ++ (decimal id ++ end_text end)
 
--- the line that says that a network's capacity is less than what may be under way on a link
+-- the line that says that a network's capacity is less than 64, and how much may be under way on a
+-- link
 abbrev pub capacity_line : ℕ → List ℕ
 capacity_line capacity =
     codes "tokentree: capacity " ++ (decimal capacity ++ (codes " is less than " ++ (decimal 64

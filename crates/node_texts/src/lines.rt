@@ -10,8 +10,8 @@ use std::fmt;
 /// of another system takes more, there is room for 28 more.
 pub const SOCKET_FRAMES: u16 = 64;
 
-/// The line that says that this capacity is less than what may be under way. The proofs are then
-/// about links that hold less than the real ones.
+/// The line that says that this capacity is less than [`SOCKET_FRAMES`]. If it is also less than
+/// what may be under way, the proofs are about links that hold less than the real ones.
 #[derive(Drop)]
 pub struct CapacityLine(pub u16);
 

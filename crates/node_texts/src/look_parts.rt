@@ -17,7 +17,7 @@ pub struct LinkPart {
     pub node: u16,
     /// Whether there is a connection.
     pub is_up: bool,
-    /// How long there has been a connection, or none, in microseconds.
+    /// For how long it has been seen like this, and no other connection was made, in microseconds.
     pub since: u64,
     /// How often a connection broke, or was replaced by a newer one.
     pub breaks: u64,

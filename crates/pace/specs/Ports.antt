@@ -58,8 +58,8 @@ times_given frame port = times_after port.given port.given_times frame
 abbrev pub times_heard : Frame → PortPace → ℕ
 times_heard frame port = one_more (times_after port.heard port.heard_times frame)
 
--- a frame that comes now follows the one before it within 4 milliseconds, and within half of the
--- repetition time: it is given again for a reason other than time
+-- a frame that comes now follows the one before it in less than 4 milliseconds, and in less than
+-- half of the repetition time
 abbrev pub is_soon : ℕ → ℕ → PortPace → Bool
 is_soon repeat now port = not (is_over port.heard_at (min 4000 (repeat / 2)) now)
 

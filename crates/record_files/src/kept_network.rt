@@ -30,9 +30,9 @@ pub struct KeepWords<'a> {
 /// own. `net` is the network as the node knows it, which may have other edges.
 ///
 /// # Errors
-/// If the network file cannot be read: `InvalidInput` if it is no plain file. If it is now invalid or a
-/// different network's, or memory runs out while it is looked at: `InvalidData`. If its text cannot be
-/// written; then what was kept before stays.
+/// If the network file cannot be read: `InvalidInput` if it is no plain file. If it is now invalid
+/// or a different network's, or memory runs out while it is looked at: `InvalidData`. If memory
+/// runs out for the names, or its text cannot be written; then what was kept before stays.
 pub fn keep_network<R: Files<File = File> + AllocGlobal>(
     rt: &R,
     words: KeepWords<'_>,

@@ -8,10 +8,10 @@
 //! tape.end();
 //! ```
 //!
-//! `node_recorder` has what a node's turns become in a record, and `process_parts` how to make a file that its
-//! owner alone may read. Contracts know nothing of what is in files. So they say which pages a record may begin
-//! with, whatever the files answer; that a page that is due is written or the record stops; and that the text
-//! kept is the network's.
+//! `node_recorder` has what a node's turns become in a record, and `process_parts` how to make a
+//! file that its owner alone may read. Contracts know nothing of what is in files. So they say
+//! which pages a record may begin with, whatever the files answer; that a page that is due is
+//! written or the record stops; and that the text kept is the network's, apart from edges.
 //!
 //! The trap: a start goes on in the file that was written last by the system's clock. If the clock was
 //! set back in between, that may be the wrong one of the two.

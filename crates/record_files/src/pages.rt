@@ -14,11 +14,12 @@ use std::rt::Files;
 /// The most bytes of a file that a start goes on with: 16 MiB. Longer ones take too long to read.
 const MOST_READ: u64 = 16_777_216;
 
-/// The pages with which the record of node `id` begins, in two files of these names, of at most `size` each.
-/// `network` is the number of its network, as `network_mark` gives it. The record goes on in the file that
-/// was written last, if that is a plain file of at most 16 MiB, begins as a record of this node in this
-/// network, and has room for one more page of 32768 bytes. Else it begins the other file, in place of what
-/// is there. All memory of the pages is reserved here; no file is made or changed yet.
+/// The pages with which the record of node `id` begins, in two files of these names, of at most
+/// `size` each, or 65536 bytes if that is more. `network` is the number of its network, as
+/// `network_mark` gives it. The record goes on in the file that was written last, if that is a
+/// plain file of at most 16 MiB, begins as a record of this node in this network, and has room for
+/// one more page of 32768 bytes. Else it begins the other file, in place of what is there. All
+/// memory of the pages is reserved here; no file is made or changed yet.
 ///
 /// # Errors
 /// If memory for the pages runs out. A file that cannot be read, even if only for want of memory, counts as
@@ -93,7 +94,7 @@ fn side_to_begin(first: Option<u64>, second: Option<u64>) -> Side
 }
 
 /// When a file was written last, in microseconds since the start of 1970, UTC; none if it is not
-/// there.
+/// there, or if its time is not known or out of range.
 fn written_at<F: Files>(files: &F, name: &str) -> Option<u64> {
     let written = fs::symlink_metadata(files, name).ok()?.modified().ok()?;
     micros_of(written)

@@ -44,11 +44,11 @@ pub struct Tape<'a, R> {
 }
 
 impl<'a, R: Files<File = File> + Clock + Eprint + AllocGlobal> Tape<'a, R> {
-    /// The record of the node of these words, which has been running since its clock stood at 0. `now` is the
-    /// time of that clock, in microseconds. The record goes on in the file that was written last, if that is
-    /// a record of this node in this network, has room, and is at most 16 MiB long; else in a new file, in
-    /// place of the other one. All memory is reserved here. The network's text is kept beside it; no other
-    /// file is made or changed yet.
+    /// The record of the node of these words, which has been running since its clock stood at 0.
+    /// `now` is the time of that clock, in microseconds. The record goes on in the file that was
+    /// written last, if that is a record of this node in this network, has room, and is at most 16
+    /// MiB long; else in a new file, in place of the other one. All memory for recording is
+    /// reserved here. The network's text is kept beside it; no other file is made or changed yet.
     ///
     /// # Errors
     /// If memory runs out, or the network has no such node.
@@ -182,7 +182,8 @@ impl<'a, R: Files<File = File> + Clock + Eprint + AllocGlobal> Tape<'a, R> {
     /// text is kept again.
     pub fn rewired(&mut self, words: &NodeWords<'_>, net: &Net, node: &Node)
         ensures pages { self.new.recorder.pages ≡ self.old.recorder.pages }
-        // If it has, and no deed waits, its whole state is noted before its next deeds.
+        // If it has, no deed waits, and the network differs in edges alone, the whole state is
+        // noted before the next deeds.
         ensures taken { (site_in self.old.recorder.follower).neighbours
             ≢ (site_in node.now).neighbours → self.old.recorder.backlog ≡ nothing
             → FitsNetwork net.now (site_in self.old.recorder.follower)

@@ -72,8 +72,9 @@ deed_events w v (deed.Parts neighbour) = Damage (harm.Part v neighbour) ∷ []
 deed_events w v (deed.Connects neighbour) = []
 deed_events w v (deed.Disconnects neighbour) = []
 
--- What a part of v's state becomes: harms wherever the world's node differs from it. `queue` is
--- what waits, as noted before.
+-- What a part of v's state becomes: harms wherever the world's node differs from it; and if other
+-- tickets wait at its desk, these leave, and those that were noted ask. `queue` is what waits, as
+-- noted before.
 abbrev pub part_events : World → List ℕ → ℕ → StatePart → List Event
 part_events w queue v (part.Start network node) = []
 part_events w queue v (part.Own distance parent) =

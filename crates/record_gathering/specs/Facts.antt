@@ -71,7 +71,7 @@ facts_of network net w =
 
 -- ---- what they become
 
--- what a fact becomes; a part of a state becomes harms wherever the node differs from it
+-- what a fact becomes, without what is refused; a part of a state becomes what an entry of it would
 abbrev pub fact_events : World → List (List ℕ) → Fact → List Event
 fact_events w queues (State v p) = accepted w (entry_events w (queue_of queues v) v (noted.State p))
 fact_events w queues (Written h) = accepted w (Damage h ∷ [])

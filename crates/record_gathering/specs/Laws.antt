@@ -53,9 +53,10 @@ pub record IsReached (w : World) (queue : List ℕ) (v : ℕ) (p : StatePart) (n
   pub links : new.link ≡ w.link
   pub network : new.net ≡ w.net
 
--- After a part of a node's state, the node is as it was noted. After a frame that was taken, the
--- node is as if it had taken that frame; after one that was sent, that frame is the newest on its
--- link.
+-- This holds in a world in range. After a part of a node's state that is in range, the node is as
+-- it was noted. After a frame that was taken, and may be on its link, the node is as if it had
+-- taken that frame; after one that was sent, and may be on its link, that frame is the newest
+-- there.
 pub record ReplaysFollowRecords : Type 0 where
   pub parts : (w : World) (queue : List ℕ) (v : ℕ) (p : StatePart) → IsWorldInRange w
       → v < w.net.nodes → IsPartInRange w queue v p

@@ -28,8 +28,8 @@ pub record IsStateReached (w : World) (v : ℕ) (s : LocalState) (new : World) :
   pub links : new.link ≡ w.link
   pub network : new.net ≡ w.net
 
--- After a node's whole state was noted, the node is in it. If it was in it before, there is no
--- event; and if there is no damage, it was in it before.
+-- In a world in range, after a node's whole state in range was noted, the node is in it. If it was
+-- in it before, there is no event; and if there is no damage, it was in it before.
 pub record WholeStatesAreReached : Type 0 where
   pub reached : (w : World) (queue : List ℕ) (v network : ℕ) (s : LocalState) → IsWorldInRange w
       → v < w.net.nodes → IsNodeInRange (site w v) s

@@ -13,7 +13,7 @@ pub struct EventCounts {
     pub events: u64,
     /// How many of them are harms.
     pub harms: u64,
-    /// How many are losses.
+    /// How many are losses. Those in an entry with a frame that nobody sent do not count.
     pub lost: u64,
     /// How many of the harms are frames that nobody sent.
     pub forged: u64,

@@ -14,7 +14,9 @@ pub fn accepted_is_enough()
     ensures { AcceptedIsEnough }
 {}
 
-/// There is no damage if what was noted before leads to what was noted next.
+/// There is no damage in what a part of a state becomes if the node is as it was noted. There is
+/// none if a frame is taken that is under way, or if one is sent that is the one of the node's
+/// port.
 pub fn harms_mean_differences()
     ensures { HarmsMeanDifferences }
 {}
@@ -26,8 +28,8 @@ pub fn fields_mean_differences()
     ensures { FieldsMeanDifferences }
 {}
 
-/// A replay of the events finds each node in the states that were noted, and each frame that was
-/// noted as taken or sent.
+/// A replay of the events finds each node in the states that were noted, if they are in range, and
+/// each frame that was noted as taken or sent, if it may be on its link.
 pub fn replays_follow_records()
     ensures { ReplaysFollowRecords }
 {
@@ -35,9 +37,10 @@ pub fn replays_follow_records()
     configuration_laws::runs();
 }
 
-/// A node whose whole state is noted is in that state afterwards: each of its fields, its desk, and
-/// its port to each neighbour. Nothing else changes. There is damage in the list of events exactly
-/// if the node was in a different state before. The search for damage in a recording rests on this.
+/// A node whose whole state is noted, and is in range, is in that state afterwards: each of its
+/// fields, its desk, and its port to each neighbour. Nothing else changes. There is damage in the
+/// list of events exactly if the node was in a different state before. The search for damage in a
+/// recording rests on this.
 pub fn whole_states_are_reached()
     ensures { WholeStatesAreReached }
 {
@@ -54,9 +57,10 @@ pub fn facts_join()
     configuration_laws::runs();
 }
 
-/// A network that is set up like a world is in the state of that world: each node is in its state,
-/// and each link holds its items. This holds if the same nodes are joined once the edges are set.
-/// The replay of a list of events that begins in the middle of a run rests on this.
+/// A network that is set up like a world in range, with the same nodes, root, capacity and lease,
+/// is in the state of that world: each node is in its state, and each link holds its items. This
+/// holds if the same nodes are joined once the edges are set. The replay of a list of events that
+/// begins in the middle of a run rests on this.
 pub fn set_ups_are_reached()
     ensures { SetUpsAreReached }
 {

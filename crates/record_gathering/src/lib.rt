@@ -3,9 +3,11 @@
 //! A [`Gathering`] has a world, which begins as the network starts. It is given the entries of all
 //! nodes' records, in an order in which each frame is taken after it was sent, as far as there is
 //! such an order. Each entry becomes events of the world. A deed of a node becomes that deed of the
-//! world's node. A state that is noted becomes harms wherever the world's node differs from it. So
-//! a reader who replays the events finds each node in the states that were noted, and finds a harm
-//! only if what was noted before does not lead there.
+//! world's node, or an edge that joins or parts, which is a harm. A state that is noted becomes
+//! harms wherever the world's node differs from it; if other tickets wait at its desk, these leave,
+//! and those that were noted ask. So a reader who replays the events finds each node in the states
+//! that were noted, as far as they are in range, and apart from edges finds a harm only if what was
+//! noted before does not lead there.
 //!
 //! ```
 //! let mut gathering = Gathering::new(alloc, &net, 0)?;
@@ -24,7 +26,8 @@
 //! world: [`Gathering::sets`] turns each of them into events. So a list of events can begin in the
 //! middle of a run.
 //!
-//! The trap: the loss of a frame shows only when a later frame is taken.
+//! The trap: the loss of a frame shows only when a later frame is taken, or when one is sent on a
+//! link that is full.
 #![tactic(auto)]
 
 mod differences;

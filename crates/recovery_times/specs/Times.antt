@@ -24,7 +24,7 @@ window_of p = max (full_of p) (p.repeat + 2 * p.turn + p.delay)
 abbrev pub recovery_of : Network → Premises → ℕ
 recovery_of net p = sharp_of net * window_of p
 
--- the time within which a network that serves lends to a ticket that waits after i others
+-- the time within which a legitimate network lends to a ticket that waits after i others
 abbrev pub lending_of : Network → ℕ → Premises → ℕ
 lending_of net i p = 8 * (net.nodes - 1) * (i + 2) * window_of p
 

@@ -63,7 +63,7 @@ impl Premises {
         u64::from(sweeps) * self.window()
     }
 
-    /// The time within which a network that serves lends to a client that waits alone, in
+    /// The time within which a legitimate network lends to a client that waits alone, in
     /// microseconds. If `loan` is 0, no node lends, and this says nothing.
     pub fn lends_within<A: Allocator + Copy>(&self, net: &Net<A>) -> u64
         ensures { result ≡ lending_of net.now 0 self.now }

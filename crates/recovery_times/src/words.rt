@@ -7,7 +7,8 @@ use crate::reading::{HOUR, micros_of};
 use std::fmt;
 
 /// The words of the options, each a time in milliseconds with at most three decimals. One that is
-/// left out has its usual time; `--loan`, the longest that leaves the window as it is.
+/// left out has its usual time; `--loan`, the longest that leaves the window as it is and is at
+/// most an hour.
 #[derive(Clone, Copy)]
 pub struct PremiseWords<'a> {
     /// The word of `--turn`.

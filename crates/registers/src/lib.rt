@@ -1,8 +1,9 @@
 //! All ports of one node, and the value of the machine that comes in from each neighbour.
 //!
 //! They are kept by the neighbour's id: a place for each node of the network, so that a look-up is
-//! one index and scans nothing, and a list of the ids that are neighbours. No port ever moves. It costs
-//! at most 64 places of 26 bytes a node. A port in a signature is always a neighbour's id.
+//! one index and scans nothing, and a list of the ids that are neighbours. No port ever moves. The
+//! ports cost at most 64 places of 26 bytes a node. A port in a signature is always a neighbour's
+//! id.
 //!
 //! ```
 //! let registers = Registers::new(alloc, &net, 3)?;

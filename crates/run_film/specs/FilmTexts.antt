@@ -33,9 +33,9 @@ film_at reel pace opening = record { opening = opening; later = reel.stills; pac
 abbrev pub IsEachShown : ReelView → FilmPace → Type 0
 IsEachShown reel pace = (opening : Still) (place : ℕ) → place ≤ length reel.stills → 1 ≤ beats_at (film_at reel pace opening) place
 
--- A text shows a run: with tags that nest, it spells what shows a reel of the run, or no still if the
--- window holds no moment. `Shows` says when it shows a film, `spelling` how it is spelled, and `Nests`
--- when its tags nest.
+-- A text shows a run: with tags that nest, it spells what shows a reel of the run, at some pace. If
+-- the window holds no moment, nothing is said of what it shows. `Shows` says when it shows a film,
+-- `spelling` how it is spelled, and `Nests` when its tags nest.
 pub record IsShowing {M : Type 0} (Shows : M → Film → Network → Type 0) (spelling : M → List ℕ) (Nests : List ℕ → Type 0)
     (net : Network) (window : Window) (es : List Event) (text : List ℕ) : Type 0 where
   pub reel : ReelView

@@ -8,7 +8,7 @@ use Rattle.run_film.specs.Beats.{Film, joins_in}
 use Rattle.run_film.specs.Symbols.{is_framed, HasSymbols}
 use Rattle.run_film.specs.Tracks.{track_shown, waits_in}
 
--- a part of a film is somewhere in a list of groups
+-- a part of a film is in a list of groups; nothing is said of its place on the page
 abbrev pub IsPlayed : List Grouped → (ℕ → ℕ → Grouped) → Type 0
 IsPlayed groups part = (x y : ℕ) × (before after : List Grouped) × (groups ≡ before ++ (part x y ∷ after))
 

@@ -1,4 +1,5 @@
--- Which symbols a film defines, so that each symbol that a part shows is there.
+-- Which symbols a film defines: those of the marks, distances, arrows, edges and frames that its
+-- parts show. Nothing is said of the symbols of tickets and of sweeps.
 use Rattle.std.specs.Prelude.{◌≡◌, ℕ, ◌<◌, ◌≤◌, Bool, ◌||◌, ◌&&◌, ◌==◌, nat_le, false, IsTrue, List, [], ◌∷◌, ◌++◌, Option, None, Some, codes, decimal}
 use Rattle.std.specs.List.{list_any}
 use Rattle.topology.specs.Network.{Network}

@@ -1,4 +1,4 @@
-//! The line from a node to another, drawn so that it goes through no third node.
+//! The line from a node to another, bent if a straight one might go through a third node.
 ghost use Rattle.std.specs.Prelude.{◌≡◌, ◌+◌, ◌-◌, ◌/◌, IfOk, max, string_bytes};
 ghost use Rattle.svg_drawing.specs.Lengths.{px};
 ghost use Rattle.run_film.specs.Places.{place_in, IsWay, IsWayFrom, IsWayFromMiddle};

@@ -14,6 +14,9 @@
 //! Each still is shown for some *beats*, a part of a second each. What changes from still to still
 //! is a [`Track`]: its values, beat by beat.
 //!
+//! Contracts say which symbol a part shows at each beat. They do not say where on the page a part
+//! stands, nor what is drawn in a symbol.
+//!
 //! The trap: nodes stand where the network that is given has them, even after edges join and part.
 #![tactic(auto)]
 

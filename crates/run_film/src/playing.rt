@@ -21,8 +21,9 @@ use std::alloc::{AllocError, Global};
 use svg_drawing::{Document, Group, GroupedDrawing};
 use topology::Net;
 
-/// The film of a run that was recorded for it, at a pace. If the recording's window holds no moment,
-/// the film shows a network of which nothing is seen.
+/// The film of a run that was recorded for it, at a pace. If the recording's window holds no
+/// moment, the film shows a network of which nothing is seen; the contract says nothing of this
+/// case.
 pub fn film(
     alloc: Global,
     net: &Net,

@@ -19,9 +19,9 @@ const WIDE: u32 = 112;
 /// The least distance of two neighbours that leaves room for a number between them.
 const NARROW: u32 = 64;
 
-/// Where the nodes of a network stand: each as far below the root as its true distance, and those of
-/// one distance in the order in which the tour of the tree comes to them first. So no two edges of
-/// the tree cross.
+/// Where the nodes of a network stand: each as far below the root as its true distance, and those
+/// of one distance in the order in which the tour of the tree comes to them first, so that edges of
+/// the tree need not cross. Contracts say only how far below the root they stand.
 #[derive(Clone, Copy)]
 pub struct Stage {
     /// The place of each node, by its id.

@@ -17,8 +17,9 @@ fn half_width(stage: &Stage) -> Px
     if stage.is_wide() { Px(49) } else { Px(28) }
 }
 
-/// Where the ticket of a node stands: at the first of its places that is clear of all nodes and of the network's
-/// lines, or else below the node.
+/// Where the ticket of a node stands: at the first of its places that is clear of all nodes and of
+/// the network's lines, or else below the node. The contract says only that it is clear of all
+/// nodes.
 pub fn ticket_place(net: &Net, stage: &Stage, v: u16) -> Point
     ensures clear { IsStage net.now stage.now → v < net.now.nodes
         → IsClearOfNodes net.now stage.now result (half_width stage.now) }

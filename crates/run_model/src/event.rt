@@ -21,7 +21,7 @@ pub enum Event {
     Ask { node: u16, ticket: u16 },
     /// A client of the node releases the lock, or no longer waits for it.
     Leave { node: u16, ticket: u16 },
-    /// A transient fault writes one part of the world.
+    /// A transient fault writes one part of the world, or adds or removes one edge.
     Damage(Harm),
 }
 
@@ -105,8 +105,9 @@ pub enum EventFault {
     /// The link has no such item.
     #[error("NoItem")]
     NoItem,
-    /// A field of a harm is out of range, or the link for its item is full; or no edge may join
-    /// the two nodes, since they are the same, are already joined, or there are 256 edges.
+    /// A field of a harm is out of range. Or a desk would lend to a ticket that waits there, or
+    /// have ticks left without a loan. Or the link for an item is full. Or no edge may join the two
+    /// nodes, since they are the same, are already joined, or there are 256 edges.
     #[error("OutOfRange")]
     OutOfRange,
     /// The desk has no room for another ticket.

@@ -13,7 +13,7 @@ pub enum Happened {
     NothingTaken { from: u16, to: u16 },
     /// An item of a link was lost; 0 was the oldest.
     Lost { from: u16, to: u16, item: u16 },
-    /// A transient fault wrote one part of the world.
+    /// A transient fault wrote one part of the world, or added or removed one edge.
     Damaged,
     /// A frame was sent, or a client asked for the lock or released it: no node ticked, and no
     /// link lost an item.

@@ -2,8 +2,8 @@
 //!
 //! A *world* is a network with the state of each node and the items under way on each link. An
 //! *event* changes it by one atomic step; a *run* is such steps along a list of events. A *sweep*
-//! is a stretch of a run in which every node made a full tick and every link handed over an item
-//! that was sent inside the stretch (Dolev, Self-Stabilization, 2000).
+//! is a stretch of a run, without damage, in which every node made a full tick and every link
+//! handed over an item that was sent inside the stretch (Dolev, Self-Stabilization, 2000).
 //!
 //! The definitions are in `specs/`. The headline rests on World, Step, Run, Sweep, Privilege and
 //! Headline; `docs/trusted` prints all that these use. The others serve the proofs: Count and

@@ -72,8 +72,8 @@ pub data IsLastState (r : RecordingView) (left : ℕ) : List Layers → Type 0 w
 abbrev pub AddsLastState : RecordingView → ℕ → List Layers → List Layers → Type 0
 AddsLastState r left old new = (last : List Layers) × IsLastState r left last × (new ≡ old ++ last)
 
--- These states are what had settled at the last moment of each column: of each full column as it was
--- kept, and of the last one.
+-- These states are what had settled at the last moment of each column of the recording's lanes: of
+-- each full column as it was kept, and of the last one.
 abbrev pub AreStates : RecordingView → Option LanesView → List Layers → Type 0
 AreStates r None states = states ≡ []
 AreStates r (Some lanes) states = AddsLastState r lanes.left lanes.states states
@@ -85,8 +85,8 @@ AreStatesOf r states = AreStates r r.lanes states
 abbrev pub below_shown : Page → List Layers → List Shown
 below_shown page states = rect_shown 0 (page_height page) (page_width page) 72 Paper ∷ all_lanes_shown page states
 
--- The drawing is the picture of a recorded run, and below it are the lanes of what had settled at the
--- last moment of each of its columns; its page is 72 higher.
+-- The drawing is the picture of a recorded run, and below it are the lanes of what had settled at
+-- the last moment of each column of the recording's lanes; its page is 72 higher.
 pub record IsLayeredPicture (net : Network) (r : RecordingView) (drawing : Drawing) : Type 0 where
   pub states : List Layers
   pub are_states : AreStatesOf r states

@@ -79,8 +79,10 @@ impl Draws for Wanted {
 /// on standard error why such lines are refused. If `shows` is set, a line on standard error shows
 /// how much of the events was read, once two seconds have passed.
 ///
-/// What is unproved: that the events of a file are the bytes that were read, and that the picture
-/// reached standard output; neither the file nor standard output says what its bytes are.
+/// What is unproved: which text [`Draws::drawn`] makes of a run, that the events of a file are the
+/// bytes that were read, and that the picture reached standard output; neither the file nor
+/// standard output says what its bytes are. [`draw`](crate::draw) says what a picture shows of a
+/// recording.
 ///
 /// # Errors
 /// If no network can be read from the file, the events cannot be read or are too long, memory runs
@@ -142,7 +144,7 @@ pub fn write_picture<S: Source, W: Write, D: Draws>(
 /// The picture of a recording, as a text: with lanes of what has settled, if the recording has
 /// them.
 fn picture(alloc: Global, net: &Net, recording: &Recording) -> Result<Vec<u8>, AllocError>
-    // It is an XML document whose tags nest.
+    // Its tags nest.
     ensures { IfOk result (λ text. IsContent text.items) }
 {
     let drawing = if recording.lanes().is_some() {

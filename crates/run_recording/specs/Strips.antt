@@ -26,6 +26,6 @@ pub data AreShown (width : ℕ) : ℕ → List Column → List Column → Type 0
 abbrev pub Shows : StripView → List Column → Type 0
 Shows s moments = AreShown s.width s.last moments s.columns × (length moments ≡ s.moments)
 
--- it shows all moments that there were, and a column is at most twice as wide as needed
+-- it shows all moments that there were, and the width is at most one more than twice their number
 abbrev pub IsStrip : StripView → Type 0
 IsStrip s = ((moments : List Column) × Shows s moments) × (0 < s.width) × (s.width ≤ 2 * s.moments + 1)

@@ -7,7 +7,8 @@ use Rattle.world.specs.run_model.World.{World}
 abbrev pub is_framed_between : World → ℕ → ℕ → Bool
 is_framed_between w u v = nat_le w.net.nodes 12 && (nat_lt u w.net.nodes && nat_lt v w.net.nodes)
 
--- how many frames are under way from one node to another; in a larger network none are seen
+-- how many items, frames or noise, are under way from one node to another; in a larger network none
+-- are seen
 abbrev pub sent_between : World → ℕ → ℕ → ℕ
 sent_between w u v = if is_framed_between w u v then length (w.link u v) else 0
 

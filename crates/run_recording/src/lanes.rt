@@ -10,8 +10,9 @@ use std::alloc::{AllocError, Allocator, Global};
 use std::marker::Model;
 use world::Configuration;
 
-/// What has settled at the last moment of each full column. A column shows as many moments as a
-/// column of a [`Strip`](crate::Strip) with the same limit.
+/// What has settled at the last moment of each full column. All full columns show the same number
+/// of moments. That it is the number of a [`Strip`](crate::Strip) with the same limit is not
+/// proved.
 #[derive(Drop)]
 pub struct Lanes<A: Allocator + Copy = Global> {
     /// The layers at the last moment of each full column.

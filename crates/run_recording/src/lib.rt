@@ -16,10 +16,11 @@
 //!
 //! For films, a [`Look`] is what is seen of one node, a [`Still`] what is seen of all nodes at a
 //! moment. A [`Reel`] takes the moments of a run one by one, and keeps no more stills than it was
-//! made for. Moments that do not differ share a still; if that is not enough, a still stands for a
-//! stretch of moments and shows the last of them. Calm stretches are joined first. A moment is
-//! *weighty* if there was damage, or if two nodes are privileged or two lend; it is shown as it
-//! was, unless there are so many of them that the reel is *crowded*.
+//! made for. Neighbouring moments whose nodes and edges look the same may share a still; if that is
+//! not enough, a still stands for a stretch of moments and shows the last of them. Calm stretches
+//! are joined first. A moment is *weighty* if there was damage, or if two nodes are privileged or
+//! two lend; its nodes and edges are shown as they were, unless there are so many such moments that
+//! the reel is *crowded*.
 //!
 //! The traps: a still's counts are the greatest of its moments, but its looks are those of the last
 //! one. A node's distance and parent are compared with the present network, whose edges may join

@@ -600,7 +600,7 @@ impl<A: Allocator + Copy> Recording<A> {
         self.unread.saturating_add(self.judge.refused())
     }
 
-    /// What came before the first moment that is shown.
+    /// What came before the first moment that is shown. If none is shown, this says nothing.
     pub fn before(&self) -> Before
         ensures { result ≡ self.now.before }
     {

@@ -31,9 +31,8 @@ pub struct Still {
     pub places: [Place; MOST_NODES],
     /// The edges, and [`NO_EDGE`] at the places that have none.
     pub edges: [(u16, u16); MOST_EDGES],
-    /// How many frames are under way from one node to another: at the place 12 u + v those from u
-    /// to v. In a network of more than [`MOST_FRAMED`] nodes they are not seen, and all places hold
-    /// 0.
+    /// How many items, frames or noise, are under way: those from u to v at the place 12 u + v. In
+    /// a network of more than [`MOST_FRAMED`] nodes they are not seen, and all places hold 0.
     pub under_way: [u16; MOST_WAYS],
     /// How many events have led to the moment.
     pub events: u64,

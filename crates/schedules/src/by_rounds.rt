@@ -12,7 +12,7 @@ use topology::Net;
 /// Gives the sink the events of `count` rounds, one by one. It keeps no list and takes no memory.
 ///
 /// # Errors
-/// [`Failed`] if the sink failed; then it took an initial part of them.
+/// [`Failed`] if the sink failed; nothing is promised of what it took then.
 pub fn give_rounds<A: Allocator + Copy, S: EventSink>(
     net: &Net<A>,
     count: u64,
@@ -31,7 +31,7 @@ pub fn give_rounds<A: Allocator + Copy, S: EventSink>(
 /// carries one item more than it holds, by ascending source and destination.
 ///
 /// # Errors
-/// [`Failed`] if the sink failed; then it took an initial part of them.
+/// [`Failed`] if the sink failed; nothing is promised of what it took then.
 pub fn give_round<A: Allocator + Copy, S: EventSink>(
     net: &Net<A>,
     sink: &mut S,

@@ -44,8 +44,9 @@ pub fn accepted()
 }
 
 /// Rounds with a slow link or node are without damage. In a network in which no client waits and no
-/// node lends, n rounds hold a sweep for each of them in which the slow one has its part. So a run
-/// under this schedule then reaches any number of sweeps if the share is at least 1.
+/// node lends, and with a share of at most 100, n rounds hold a sweep for each of them in which the
+/// slow one has its part. So a run under this schedule then reaches any number of sweeps if the
+/// share is at least 1.
 pub fn slow_rounds()
     ensures undamaged { SlowRoundIsUndamaged }
     ensures sweeps { IdleSlowRoundsHoldSweeps }

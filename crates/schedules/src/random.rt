@@ -134,7 +134,7 @@ pub fn next_step<A: Allocator + Copy>(
 /// no list and takes no memory.
 ///
 /// # Errors
-/// [`Failed`] if the sink failed; then it took an initial part of them.
+/// [`Failed`] if the sink failed; nothing is promised of what it took then.
 pub fn give_random<A: Allocator + Copy, S: EventSink>(
     configuration: &mut Configuration<A>,
     chances: Chances,

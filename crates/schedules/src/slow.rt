@@ -74,7 +74,7 @@ pub fn has_part(share: u16, round: u64) -> bool
 /// hundred rounds.
 ///
 /// # Errors
-/// [`Failed`] if the sink failed; then it took an initial part of them.
+/// [`Failed`] if the sink failed; nothing is promised of what it took then.
 pub fn give_slow_round<A: Allocator + Copy, S: EventSink>(
     net: &Net<A>,
     slow: Slow,

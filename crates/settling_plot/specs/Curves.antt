@@ -26,8 +26,9 @@ corner_in scale sweeps number = corner scale number (runs_at sweeps number) (run
 abbrev pub end_step : Axis → List ℕ
 end_step axis = codes "H" ++ decimal (right_of axis)
 
--- The steps of a curve: from no run at 0 along the corners at each number up to the last one, and on
--- to the right end. So its height over a number of sweeps is how many runs have that number or less.
+-- The steps of a curve: from no run at 0 along the corners at each number up to the last one, and
+-- on to the right end. So its height over a number of sweeps, up to the last one, is how many runs
+-- have that number or less.
 abbrev pub curve_steps : Scale → List ℕ → List ℕ
 curve_steps scale sweeps =
     codes "M72 378" ++ (flat_map (corner_in scale sweeps) (range_with_len 0 (scale.last + 1)) ++ end_step scale.axis)

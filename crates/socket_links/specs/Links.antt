@@ -53,13 +53,15 @@ module _ {P : Type 0} where
   abbrev pub IsBare : SocketLink P → Type 0
   IsBare link = (link.reader ≡ kept 21 []) × (waiting link ≡ []) × (unsent link ≡ [])
 
-  -- these frames were pulled since the pipe had given what it gave at the start
+  -- these frames were pulled since the pipe had given what it gave at the start; nothing is said
+  -- without a pipe, or of a pipe that does not show its bytes
   abbrev pub IsPulled : Ranges → (P → Option (List ℕ)) → List ℕ → List Frame → SocketLink P → Type 0
   IsPulled r gave start frames link =
       MatchOption link.pipe ⊤ (λ pipe. MatchOption (gave pipe) ⊤
       (λ bytes. HasPulled r start frames bytes link.reader (waiting link)))
 
-  -- what the pipe took, and then what is not yet written, are these bytes
+  -- what the pipe took, and then what is not yet written, are these bytes; nothing is said without
+  -- a pipe, or of a pipe that does not show its bytes
   abbrev pub IsPushed : (P → Option (List ℕ)) → List ℕ → SocketLink P → Type 0
   IsPushed took lines link =
       MatchOption link.pipe ⊤

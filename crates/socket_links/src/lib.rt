@@ -12,8 +12,8 @@
 //! if let Pull::Frame(frame) = link.pull(&net) { /* taken */ }
 //! ```
 //!
-//! A pipe that closed or failed is let go, with the half lines of both sides: the next pipe's bytes
-//! are read as from the start.
+//! A pipe that closed or failed is let go, with all that was read and not yet pulled and with what
+//! is left of the line on its way out: the next pipe's bytes are read as from the start.
 //!
 //! The trap: a frame that was accepted may be lost with its pipe. Nobody notices that, so whoever
 //! needs the frame sends it again.

@@ -35,7 +35,7 @@ pub enum Offer {
 pub enum Pull {
     /// The next frame.
     Frame(Frame),
-    /// No whole frame has come.
+    /// What was read has no further frame. The pipe may have more bytes.
     Later,
     /// The pipe closed or failed, and was let go.
     Broken,
@@ -88,7 +88,8 @@ impl<P: Pipe> SocketLink<P> {
     }
 
     /// Writes and reads this pipe from now on. Returns the pipe that was there before, if any, and
-    /// drops the half lines of both sides.
+    /// drops all that was read and not yet pulled, and what is left of the line that was accepted
+    /// last.
     pub fn attach(&mut self, pipe: P) -> Option<P>
         ensures stands { self.new.pipe ≡ Some pipe }
         ensures back { result ≡ self.old.pipe }
@@ -98,7 +99,7 @@ impl<P: Pipe> SocketLink<P> {
         self.pipe.replace(pipe)
     }
 
-    /// Takes the pipe away, and drops the half lines of both sides.
+    /// Takes the pipe away, and drops the same as [`SocketLink::attach`].
     pub fn detach(&mut self) -> Option<P>
         ensures loose { self.new.pipe ≡ None }
         ensures back { result ≡ self.old.pipe }
@@ -125,7 +126,8 @@ impl<P: Pipe> SocketLink<P> {
 
     /// Writes what is left of the line that was accepted last, as far as the pipe takes it.
     pub fn push_out(&mut self) -> Flow
-        // What the pipe took continues the accepted line, and what was pulled does not change.
+        // Unless the pipe breaks, what it took continues the accepted line, and what was pulled
+        // does not change.
         ensures pushed { Pushed P.gave P.took P.counts self.old self.new result }
         // A loose link has nothing to write.
         ensures loose { self.old.pipe ≡ None → result ≡ Done }
@@ -149,7 +151,8 @@ impl<P: Pipe> SocketLink<P> {
     /// The next frame. If what was read holds a good line, the frame is that line's; else the pipe
     /// is read once.
     pub fn pull(&mut self, net: &Net) -> Pull
-        // The frame comes after those that were pulled before, and what was pushed does not change.
+        // The frame comes after those that were pulled before; and what was pushed does not change,
+        // unless the pipe breaks.
         ensures pulled { Pulled (ranges_of net.now) P.gave P.took P.counts
             self.old self.new result }
         // If a good line ends in what was read, its frame is returned, and nothing is asked of the

@@ -36,7 +36,8 @@ pub trait Pipe: Drop {
     /// All bytes that it took; none if it does not say.
     ghost took: { Self → Option (List ℕ) };
 
-    /// How often it answered `Later`, `Closed` and `Failed`.
+    /// Counts of the answers `Later`, `Closed` and `Failed`. Each rises with its answer, or is at
+    /// 2^64 - 1, and none ever falls.
     ghost counts: { Self → Counts };
 
     /// Puts its next bytes at the front of the buffer, which has room for at least one.

@@ -17,8 +17,8 @@ AreStored given None = ⊤
 AreStored given (Some None) = ⊥
 AreStored given (Some (Some bytes)) = given ≡ take 1277 bytes
 
--- a load gives the first bytes that are stored, and changes none; Absent comes only if nothing
--- is stored, and Device only if the count of failures rose
+-- a load gives the first bytes that are stored, and changes none; Absent comes only if nothing is
+-- stored or the store does not say, and Device only if the count of failures rose
 abbrev pub Loads : Result ℕ StoreFault → Option (Option (List ℕ)) → Option (Option (List ℕ)) → List ℕ → ℕ → ℕ → Type 0
 Loads (Ok count) before after buffer failures more =
     (count ≤ 1277) × AreStored (take count buffer) before × (after ≡ before) × (failures ≤ more)

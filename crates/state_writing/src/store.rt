@@ -31,7 +31,8 @@ pub trait Store {
     /// them, or as many as the buffer has room for, which is one more than any state has.
     ///
     /// # Errors
-    /// `Absent` only if nothing is stored; `Device` only if the store failed in this call.
+    /// `Absent` only if nothing is stored, or the store does not say; `Device` only if the store
+    /// failed in this call.
     fn load(&mut self, buffer: &mut [u8; LOADED_BYTES]) -> Result<usize, StoreFault>
         ensures { Loads result (stored self.old) (stored self.new) buffer.new (failures self.old)
             (failures self.new) };

@@ -32,6 +32,6 @@ abbrev pub notice_status : StatusNotice → ℕ
 notice_status Closed = 141
 notice_status _ = 1
 
--- 0 if all nodes answered, 1 if not, or for another notice, and 141 if the reader is gone
+-- an exit status is 0, 1 or 141; this does not say when it is which
 abbrev pub IsEnd : ℕ → Type 0
 IsEnd status = (status ≤ 1) ⊎ (status ≡ 141)

@@ -20,11 +20,12 @@ abbrev pub with_some : Option Sample → List Sample → List Sample
 with_some None samples = samples
 with_some (Some sample) samples = with_sample sample samples
 
--- what is kept of the last minute after a reading; some nodes may not have said their loans
+-- what is kept of the last minute after a reading: the same as before if a node did not say its
+-- loans
 abbrev pub minute_after : ℕ → List NodeLoans → List Sample → List Sample
 minute_after at loans samples = with_some (sample_of at loans) samples
 
--- each block but the first has an empty line before it
+-- after a block, a screen of blocks remembers that one was shown; no other screen changes
 abbrev pub after_block : Screen → Screen
 after_block (Blocks has_shown) = Blocks true
 after_block screen = screen

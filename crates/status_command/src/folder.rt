@@ -57,8 +57,8 @@ pub fn why_no_nodes<'a>(kind: ErrorKind, folder: &'a str) -> StatusNotice<'a>
     }
 }
 
-/// Whether a folder has neither the socket nor the state of a node, so that it never ran there. If that
-/// cannot be seen, the node counts as one that may have run.
+/// Whether a folder has neither the socket nor the state of a node, so that it counts as one that
+/// never ran there. If that cannot be seen, the node counts as one that may have run.
 pub fn was_never<R: Files + AllocGlobal>(rt: &R, folder: &str, node: u16) -> bool {
     match NodePaths::new(rt.alloc(), folder, node) {
         Ok(paths) => {

@@ -5,7 +5,7 @@
 //! [`report`](status_readings::report) says what is printed of the answers.
 //!
 //! ```
-//! let status = status::run(rt, "/run/lock", &[], AnswerForm::Lines);  // 0 if each node answered, else 1
+//! let status = status::run(rt, "/run/lock", &[], AnswerForm::Lines);  // 0: all answered, 1, 141
 //! let status = check::run(rt, "/run/lock", "ring.toml");        // 0 OK, 1 WARNING, 2 CRITICAL, 3 UNKNOWN
 //! ```
 //!

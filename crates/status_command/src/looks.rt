@@ -28,7 +28,7 @@ pub enum LinePart {
 }
 
 /// Prints this part of what the nodes say to lookers. Returns the exit status: 1 if a node gave no
-/// answer, or nothing can be shown.
+/// answer, or nothing can be shown; 141 if the reader of standard output is gone.
 pub fn run<R: Net + Files + Clock + Print + Eprint + AllocGlobal>(
     rt: &R,
     folder: &str,

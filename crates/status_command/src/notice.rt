@@ -21,7 +21,7 @@ pub enum StatusNotice<'a> {
     Forbidden(&'a str),
     /// No node has a socket in the folder.
     NoSockets(&'a str),
-    /// A node gave no answer, and the folder has no file of it.
+    /// A node gave no answer, and the folder has neither its socket nor its state file.
     NeverWas {
         folder: &'a str,
         node: u16,

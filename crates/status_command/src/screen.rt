@@ -44,8 +44,8 @@ pub enum Screen {
 
 impl Screen {
     /// The terminal, if both standard input and standard output are terminals and the form is
-    /// lines; else blocks, or lines for JSON. From then on keys are not echoed, and Ctrl-C is a
-    /// key.
+    /// lines; else blocks, or lines for JSON. On a terminal, keys are not echoed from then on, and
+    /// Ctrl-C is a key.
     pub fn begin<R: Files<File = File> + Print + Processes + AllocGlobal>(
         rt: &R,
         form: AnswerForm,
@@ -86,9 +86,10 @@ impl Screen {
         Ok(())
     }
 
-    /// Rests for this many milliseconds, or until somebody types a key that ends the watch.
+    /// Rests for this many milliseconds, or until somebody types a key that ends the watch. The end
+    /// counts as asked for, too, if the terminal is gone or has no clock.
     pub fn rest<R: Clock + Input>(&self, rt: &R, millis: u64) -> WatchEnd
-        // Keys are read only from a terminal.
+        // Elsewhere than on a terminal, nobody asks for the end.
         ensures { is_in_place self.now ≡ false → result ≡ NotYet }
     {
         match self {

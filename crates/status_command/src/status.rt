@@ -70,8 +70,8 @@ fn print_status<'a, R: Net + Files + Clock + Print + Eprint + AllocGlobal>(
     }
 }
 
-/// What the nodes answer within `wait` milliseconds, in their order. For a node that has no room for a
-/// client, what it says at its socket for lookers counts.
+/// What the nodes answer within `wait` milliseconds, in their order. A node that has no room for a
+/// client is then asked at its socket for lookers, and has as long again.
 ///
 /// # Errors
 /// If the system or memory fails.

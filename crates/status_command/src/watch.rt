@@ -40,8 +40,9 @@ pub struct Watch<'a> {
 
 /// Shows how nodes stand again and again: in place on a terminal, until a key that ends the watch
 /// is typed, such as Ctrl-C or `q`; elsewhere one after the other, with an empty line between,
-/// until the output fails. JSON is shown one line after the other, even on a terminal. Returns the
-/// exit status.
+/// until the output fails. JSON is shown one line after the other, even on a terminal. The watch
+/// also ends if a reading fails, say if the folder is gone. Returns the exit status: 0 after a key,
+/// 1 after a failure, and 141 if the reader of standard output is gone.
 pub fn run<R: Net + Files<File = File> + Clock + Input + Print + Eprint + Processes + AllocGlobal>(
     rt: &R,
     watch: &Watch,

@@ -13,12 +13,13 @@ use topology::Net;
 /// What was found of a network.
 #[derive(Clone, Copy, Drop)]
 pub enum Finding {
-    /// In each reading every node answers, with its true distance and parent, and at most one lends.
+    /// In each reading every node that was asked answers, with the true distance and parent of the
+    /// node that its line names, and at most one lends.
     AllWell,
     /// This node gave no answer in a reading.
     Silent(u16),
-    /// This node answered with a wrong distance or parent by the network, or with an id that is
-    /// none of its nodes.
+    /// This node answered with an id that is none of the network's nodes, or with a distance or
+    /// parent that is wrong for the node of that id.
     Wrong(u16),
     /// Two or more lent in a reading, but not in each reading.
     TwoLentOnce,

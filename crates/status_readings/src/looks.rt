@@ -31,7 +31,7 @@ pub struct LoansSaid {
 
 impl LoansSaid {
     /// What a line says, if it is a JSON object with a distance and with all these numbers. Only
-    /// the length of the present loan may be absent.
+    /// the length of the present loan may be absent, or be no number.
     ///
     /// # Errors
     /// If memory runs out.

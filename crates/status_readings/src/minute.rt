@@ -86,11 +86,12 @@ impl Sample {
 /// The loans between two times, and how often the token came round.
 #[derive(Clone, Copy, Drop)]
 pub struct Rates {
-    /// How many loans there were in ten seconds, rounded down.
+    /// How many loans there were in ten seconds on average, rounded down.
     pub tenths: u64,
-    /// The longest loan, in microseconds.
+    /// The longest loan, in microseconds: of those that ended in the minute before the later time,
+    /// and of those that a sample saw while they stood.
     pub longest: u64,
-    /// How often the token came round in ten seconds, rounded down.
+    /// How often the token came round in ten seconds on average, rounded down.
     pub rounds: u64,
 }
 

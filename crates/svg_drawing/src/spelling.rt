@@ -10,7 +10,7 @@ ghost use Rattle.svg_drawing.specs.Xml.{IsContent, IsDocument};
 use crate::element::{Attribute, Document, Drawing, Element, Group, GroupedDrawing};
 use std::alloc::{AllocError, Global};
 
-/// The text of a drawing, an XML document whose tags nest.
+/// The text of a drawing: an element `svg`, in which tags nest. Names are written as they are.
 pub fn spelled(alloc: Global, drawing: &Drawing) -> Result<Vec<u8>, AllocError>
     ensures text { IfOk result (λ text. text.items ≡ drawing_text drawing.now) }
     ensures nests { IfOk result (λ text. IsContent text.items) }
@@ -24,7 +24,8 @@ pub fn spelled(alloc: Global, drawing: &Drawing) -> Result<Vec<u8>, AllocError>
     Ok(text)
 }
 
-/// The text of a drawing whose elements hold others, an XML document whose tags nest.
+/// The text of a drawing whose elements hold others: an element `svg`, in which tags nest. Names
+/// are written as they are.
 pub fn spelled_scene(alloc: Global, scene: &GroupedDrawing) -> Result<Vec<u8>, AllocError>
     ensures text { IfOk result (λ text. text.items ≡ scene_text scene.now) }
     ensures nests { IfOk result (λ text. IsContent text.items) }
@@ -34,7 +35,8 @@ pub fn spelled_scene(alloc: Global, scene: &GroupedDrawing) -> Result<Vec<u8>, A
     Ok(text)
 }
 
-/// The text of a document with a drawing: a first line, and then an XML document whose tags nest.
+/// The text of a document with a drawing: a first line, and then an element `html`, in which tags
+/// nest. Names are written as they are.
 pub fn spelled_document(alloc: Global, document: &Document) -> Result<Vec<u8>, AllocError>
     ensures text { IfOk result (λ text. text.items ≡ document_text document.now) }
     ensures nests { IfOk result (λ text. IsDocument text.items) }

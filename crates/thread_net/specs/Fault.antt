@@ -14,7 +14,7 @@ pub record IsPartRun (turns : ℕ) (start : World) (events : List Event) (last :
   pub idle : (v : ℕ) × (v < start.net.nodes) × (did v ≡ 0)
   pub run : IsThreadRun did start events last
 
--- if memory was refused, the world is as it was
+-- if memory was refused, the world is as it was; otherwise what nodes did is such a run
 abbrev pub IsFault : ℕ → ConfigurationView → RunFault → Type 0
 IsFault turns world (Memory back) = back ≡ world
 IsFault turns world (Spawn woven) = IsPartRun turns (world_of world) woven.events.items (world_of woven.world)

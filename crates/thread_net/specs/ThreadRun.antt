@@ -16,8 +16,8 @@ use Rattle.node_runner.specs.FirstTurn.{IsFirstTurn, count_of, deeds_of, is_tick
 -- or a take of an item that is there, and none is refused. They are woven of one journal a node;
 -- the stamps of each journal rise, and the journals match. v did `turns v` rounds: each is one
 -- tick, then to each neighbour at most one send, then from each at most two takes. So it ticks
--- `turns v` times, and in its first turn it sends over each link that has room, and takes what is
--- there, two items at most.
+-- `turns v` times. In its first turn it sends over each link that had room in the first world, and
+-- takes from each link at least what was there in that world, or two items if there were more.
 pub record IsThreadRun (turns : ℕ → ℕ) (start : World) (events : List Event) (last : World) : Type 0 where
   pub leads : run start events ≡ last
   pub through : GoesThrough start events

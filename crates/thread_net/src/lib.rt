@@ -1,10 +1,10 @@
 //! Nodes that each run on a thread of their own, over rings between neighbours.
 //!
 //! A directed link is two rings of `rtrb`: one carries items to its receiver, the other carries the
-//! places that these leave free back to its sender. Together they hold as many items and places as
-//! the link's capacity, so no send meets a full link. Each item and each place has the stamp of the
-//! event that sent it. What one node does on its thread is in `node_runner`, whose gates are
-//! offered here too.
+//! places that these leave free back to its sender. The sender also counts what is left of the
+//! places that were free at the start. Items and places are together no more than the link's
+//! capacity, so no send meets a full link. Each item and each place has the stamp of the event that
+//! sent it. What one node does on its thread is in `node_runner`, whose gates are offered here too.
 //!
 //! What nodes do is a run, whatever the scheduler does; a [`Gate`] only holds them back.
 //!

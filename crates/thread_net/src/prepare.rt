@@ -1,5 +1,5 @@
 //! Makes a world into runners whose rings are its links. All memory that a run takes is taken here,
-//! or by the start of a thread.
+//! except for two tables of what comes back, and what the start of a thread takes.
 ghost use Rattle.std.specs.Prelude.{◌≡◌, ◌≤◌, ℕ, [], IfOk, IfErr, OnOk, All, length, vec_len};
 ghost use Rattle.std.specs.Prelude.{vec_capacity};
 ghost use Rattle.judge.specs.run_model.World.{World};

@@ -33,8 +33,8 @@ pub struct Woven<A: Allocator + Copy = Global> {
 pub enum RunFault {
     /// Memory was refused before the first turn. The world is as it was.
     Memory(World),
-    /// A thread was refused. This is what the nodes did whose threads had been started; the others
-    /// did nothing.
+    /// A thread was refused. This is what the nodes did: each did all its turns or none, and at
+    /// least one did none. A node whose thread had been started may have done none, too.
     Spawn(Woven),
 }
 
@@ -122,8 +122,8 @@ pub fn prepare_world<A: Allocator + Copy>(
 ///
 /// # Errors
 /// [`RunFault::Memory`] if memory is refused, before the first turn; the world comes back as it
-/// was. [`RunFault::Spawn`] if a thread is refused, with what the nodes did whose threads had been
-/// started.
+/// was. [`RunFault::Spawn`] if a thread is refused, with what the nodes did: each all its turns or
+/// none, and at least one none.
 pub fn run_threads<R: Threads + Wait + Sync, G: Gate>(
     rt: &R,
     alloc: Global,

@@ -7,9 +7,10 @@ ghost use Rattle.topology.specs.Ranges.{payload_fits, frame_fits};
 pub struct Payload {
     /// Its distance from the root, 0 to the number of nodes.
     pub distance: u16,
-    /// The neighbour that it takes to be its parent, if any.
+    /// The node that it takes to be its parent, if any: below the number of nodes. Damage may have
+    /// written one that is no neighbour.
     pub parent: Option<u16>,
-    /// The value of its machine that leaves towards that neighbour, below the ring's modulus.
+    /// The value of its machine that leaves towards the one neighbour, below the ring's modulus.
     pub ring: u16,
 }
 

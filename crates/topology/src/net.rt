@@ -79,7 +79,7 @@ impl<A: Allocator + Copy> Net<A> {
         self.lease
     }
 
-    /// The edges, as they were given.
+    /// The edges, in the order in which they were given or joined.
     pub fn edges(&self) -> &[(u16, u16)]
         ensures { result.now ≡ self.now.edges }
     {

@@ -8,7 +8,7 @@ use Rattle.turn_watch.specs.declared.links.LinkTimes.{LinkTimes}
 abbrev pub down_since : ℕ → LinkTimes
 down_since now = record { sight = record { is_up = false; made = 0 }; since = now }
 
--- each connection that was made broke or was replaced, but for the one that stands
+-- each connection that was made broke, was closed or was replaced, but for the one that stands
 abbrev pub break_count : LinkSight → ℕ
 break_count sight = sight.made - (if sight.is_up then 1 else 0)
 

@@ -12,7 +12,8 @@ pub struct LinkSight {
 }
 
 impl LinkSight {
-    /// How often a connection broke, or was replaced by a newer one.
+    /// How many connections stand no longer: each broke, was closed, or was replaced by a newer
+    /// one.
     pub fn breaks(self) -> u64
         ensures { result ≡ break_count self }
     {

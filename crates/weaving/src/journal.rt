@@ -14,7 +14,8 @@ pub struct JournalEntry {
     pub event: Event,
 }
 
-/// An item of a link, with the time of its sender's clock when it was sent.
+/// An item of a link, with the time of its sender's clock when it was sent; or, as an item that was
+/// taken, with the time of its receiver's clock then.
 #[derive(Clone, Copy, Debug, PartialEq, Eq)]
 pub struct Stamped {
     /// The clock's time.
@@ -26,6 +27,6 @@ pub struct Stamped {
 /// What one node did, in order.
 #[derive(Drop)]
 pub struct Journal<A: Allocator = Global> {
-    /// Its entries, with stamps that rise.
+    /// Its entries. To be woven, their stamps must rise strictly.
     pub entries: Vec<JournalEntry, A>,
 }

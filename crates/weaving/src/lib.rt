@@ -9,9 +9,10 @@
 //! weave(&journals, &mut events);      // room for all entries is reserved in `events`
 //! ```
 //!
-//! The law in `laws` says when that list is a run: if on each link what was taken is what was
-//! sent, in order, a take is later than its send, and a send that needs a place is later than the
-//! take that freed it. It speaks only of lists, not of threads.
+//! The law `laws::weave` says when that list is a run from a world in range: if each journal
+//! reports its node's own steps, and on each link what was taken is what was there and then what
+//! was sent, in order, a take is later than its send, and a send that needs a place is later than
+//! the take that freed it. It speaks only of lists, not of threads.
 //!
 //! Source: L. Lamport, Time, clocks, and the ordering of events in a distributed system, 1978.
 //!

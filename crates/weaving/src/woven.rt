@@ -65,7 +65,8 @@ fn nothing_read() -> [usize; MOST]
 }
 
 /// Weaves journals, each at the place of its node's id: all their entries, by stamp, then by node.
-/// `out` must be empty, with room for all of them. Takes no memory.
+/// There must be at most 64 journals, and the stamps of each must rise strictly. `out` must be
+/// empty, with room for all entries. Takes no memory.
 pub fn weave<A: Allocator, B: Allocator>(journals: &[Journal<A>], out: &mut Vec<Event, B>)
     requires few { length journals.now ≤ 64 }
     // A journal's own order is that of its stamps.

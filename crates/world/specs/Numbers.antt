@@ -8,8 +8,8 @@ use Rattle.judge.specs.run_model.Count.{after_damage}
 use Rattle.judge.specs.run_model.declared.event.Event.{Event}
 use Rattle.convergence.specs.tree_convergence.Present.{number_moves}
 
--- if the events since the last damage end with two sweeps after a first part, and an edge joins u
--- and v, the number that u sends to v moves in these two sweeps
+-- if the events since the last damage are a first part and then a part that holds two sweeps, and
+-- an edge joins u and v, the number that u sends to v moves in the second part
 abbrev pub DoNumbersMove : World → List Event → World → Type 0
 DoNumbersMove start es now =
     (first last : List Event) (u v : ℕ) → (after_damage start es).rest ≡ first ++ last → IsTrue (are_joined now.net.edges u v)

@@ -25,7 +25,8 @@ use std::alloc::{Allocator, Global};
 pub struct Report<A: Allocator + Copy = Global> {
     /// The world now.
     pub world: World<A>,
-    /// The sweeps since the last accepted damage; the count stops at its greatest value.
+    /// The sweeps since the last accepted damage, or since the start if there was none; the count
+    /// stops at its greatest value.
     pub sweeps: u64,
     /// The refused events; the count stops at its greatest value.
     pub refused: u64,
@@ -36,16 +37,18 @@ pub struct Report<A: Allocator + Copy = Global> {
 
 /// Lets events happen one after the other, from this world on, and counts sweeps and refusals.
 ///
-/// From any state, any two sweeps move the number of each sender. After 4(C + 1) sweeps the links
-/// are stable. Three sweeps later, and from then on, all that is staged and copied is what its node
-/// would have said at some moment of the last three. The tree is reached 4(n + 1) sweeps after the
-/// links are stable, and after as many sweeps as `Net::bound` says, the world is legitimate: each
-/// distance is the least length of a walk and each parent the true one, and at most one node is
-/// privileged and at most one lends. `Net::sharp_bound` is never more than that, and is enough too.
-/// C, n and the bounds are those of the network at the end. The sweeps are those since the last
-/// damage: how the world came to its state does not matter. From a legitimate world, events without
-/// damage lead only through legitimate worlds, and in 16(n - 1) sweeps each node is privileged
-/// once; from any world, in that many sweeps more than either of the bounds.
+/// From any state, the last two sweeps move the number of each sender. After 4(C + 1) sweeps the
+/// links are stable. Three sweeps later, and from then on, all that is staged and copied is what
+/// its node would have said at some moment of the last three. The tree is reached 4(n + 1) sweeps
+/// after the links are stable, and after as many sweeps as `Net::bound` says, the world is
+/// legitimate: each distance is the least length of a walk and each parent the true one, and at
+/// most one node is privileged and at most one lends. `Net::sharp_bound` is never more than that,
+/// and is enough too. C, n and the bounds are those of the network at the end. The sweeps are those
+/// since the last damage: how the world came to its state does not matter. From a legitimate world,
+/// events without damage lead only through legitimate worlds, and in 16(n - 1) sweeps each node is
+/// privileged at some moment. From any world, in that many sweeps more than either of the bounds,
+/// each node is privileged at some moment since the last damage. The world need not be legitimate
+/// yet at that moment.
 pub fn judge<A: Allocator + Copy>(start: World<A>, events: &[Event]) -> Report<A>
     ensures world { world_of result.world ≡ run (world_of start) events.now }
     // the counts are exact, up to the greatest value of their type
@@ -74,8 +77,8 @@ pub fn judge<A: Allocator + Copy>(start: World<A>, events: &[Event]) -> Report<A
         → IsServing (world_of result.world) }
     // the mask is exact
     ensures visited { AreVisited (world_of start) events.now result.visited }
-    // service: from a legitimate world, and from any other once it is legitimate, each node has
-    // its turn
+    // service: since the last damage each node was privileged at some moment; if the world was not
+    // legitimate at first, it need not have been so at that moment
     ensures visits { IsLegitimate (world_of start) → IsUndamaged (world_of start) events.now
         → 16 * ((world_of start).net.nodes - 1) ≤ result.sweeps
         → AreAllVisited (world_of start).net result.visited }

@@ -45,7 +45,8 @@ pub struct Summary {
     /// The refused lines, which are those with a refusal line in the output; the count stops at
     /// its greatest value.
     pub refused: u64,
-    /// The sweeps since the last accepted damage; the count stops at its greatest value.
+    /// The sweeps since the last accepted damage, or since the start if there was none; the count
+    /// stops at its greatest value.
     pub sweeps: u64,
     /// How many nodes lend the lock at the end.
     pub lending: usize,

@@ -20,7 +20,7 @@ impl<D: Doors, S: Store + Drop, A: Allocator + Copy> NodeRun<D, S, A> {
     ghost use Rattle.node_loop.specs.Said.{ListensTo};
     ghost use Rattle.node_loop.specs.Moments.{moment_of};
 
-    /// First part of a turn: the node takes all that came, and clients that are gone leave.
+    /// First part of a turn: the node takes what came, and clients that are gone leave.
     pub(super) fn listen(&mut self, now: u64, notes: &mut Notes<A>)
         ensures listens { ListensTo D.P.gave D.P.took D.P.counts
             (moment_of self.old.node self.old.ports.items self.old.pace self.old.let_go)

@@ -124,7 +124,7 @@ impl<A: Allocator + Copy> Net<A> {
             && self.lease == other.lease
     }
 
-    /// Makes this network equal to the other one.
+    /// Makes this network equal to the other one, which must differ at most in its edges.
     pub fn copy_from<B: Allocator + Copy>(&mut self, other: &Net<B>)
         requires { IsTrue (is_same_frame self.old other.now) }
         ensures { self.new ≡ other.now }

@@ -60,7 +60,7 @@ impl<A: Allocator + Copy> Simulation<A> {
         sink: &mut W,
     ) -> Result<(), SimFault>
         requires { self.old.lines ≡ 0 }
-        // No line is counted twice: there are at most as many lines as a text may have bytes.
+        // There are at most as many lines as a text may have bytes.
         ensures lines { OnOk result (self.new.lines ≤ longest_text) }
         // What its whole lines spell has happened, and their refusals are written.
         ensures text { ReadsAll self.old (R.rest source.old) (W.taken sink.old) result self.new
@@ -99,7 +99,7 @@ impl<A: Allocator + Copy> Simulation<A> {
         requires { self.old.lines < 2 ^ 64 - 1 }
         // The last line counts even if no newline ended it; then comes the state.
         ensures text { EndsThere self.old (W.taken sink.old) result (W.taken sink.new) }
-        // The simulation has come to the world that the events of the text lead to.
+        // If the text of the world was written, this is the world that the events lead to.
         ensures led { LeadsThere self.old (W.taken sink.old) result self.new }
         ensures failures { CountsFailures result (W.failures sink.old) (W.failures sink.new) }
         ensures err { IfErr result (λ fault. fault ≡ Write) }
