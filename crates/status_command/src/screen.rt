@@ -45,7 +45,8 @@ pub enum Screen {
 impl Screen {
     /// The terminal, if both standard input and standard output are terminals and the form is
     /// lines; else blocks, or lines for JSON. On a terminal, keys are not echoed from then on, and
-    /// Ctrl-C is a key.
+    /// Ctrl-C is a key. If it cannot be set or written, it gets its settings again, and blocks are
+    /// shown.
     pub fn begin<R: Files<File = File> + Print + Processes + AllocGlobal>(
         rt: &R,
         form: AnswerForm,
@@ -59,10 +60,14 @@ impl Screen {
         if !is_terminal(rt, "/dev/stdout") {
             return Screen::Blocks(false);
         }
-        match settings(rt, rt.alloc()) {
-            Some(settings) if rt.print(BEGIN).is_ok() => Screen::Terminal(settings),
-            _ => Screen::Blocks(false),
+        let Some(settings) = settings(rt, rt.alloc()) else {
+            return Screen::Blocks(false);
+        };
+        if rt.print(BEGIN).is_err() {
+            restore(rt, rt.alloc(), settings.as_str());
+            return Screen::Blocks(false);
         }
+        Screen::Terminal(settings)
     }
 
     /// Shows a block.
@@ -105,7 +110,7 @@ impl Screen {
     pub fn end<R: Print + Processes + AllocGlobal>(&self, rt: &R) {
         if let Screen::Terminal(settings) = self {
             let _ = rt.print(END);
-            let _ = stty(rt, rt.alloc(), &[settings.as_str()]);
+            restore(rt, rt.alloc(), settings.as_str());
         }
     }
 }
@@ -124,8 +129,16 @@ fn is_terminal<R: Files<File = File>>(rt: &R, path: &str) -> bool {
 fn settings<R: Processes>(rt: &R, alloc: Global) -> Option<String> {
     let before = stty(rt, alloc, &["-g"])?;
     let watching = ["-icanon", "-isig", "-echo", "min", "0", "time", "1"];
-    stty(rt, alloc, &watching)?;
+    if stty(rt, alloc, &watching).is_none() {
+        restore(rt, alloc, before.as_str());
+        return None;
+    }
     Some(before)
+}
+
+/// Gives the terminal on standard input these settings again, if that is possible.
+fn restore<R: Processes>(rt: &R, alloc: Global, settings: &str) {
+    let _ = stty(rt, alloc, &[settings]);
 }
 
 /// What `stty` prints about the terminal on standard input; none if it fails.
