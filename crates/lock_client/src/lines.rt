@@ -2,6 +2,7 @@
 ghost use Rattle.std.specs.Prelude.{◌≡◌, ◌++◌, ◌∷◌, [], List, ℕ};
 ghost use Rattle.std.specs.Option.{option_to_list};
 ghost use Rattle.byte_lines.specs.Kept.{StandsAfter, Kept};
+ghost use Rattle.byte_lines.specs.Lines.{half_line};
 ghost use Rattle.lock_desk.specs.ClientText.{client_lines};
 ghost use Rattle.lock_client.specs.Lines.{answer_line, answer_lines};
 
@@ -11,9 +12,10 @@ use lock_desk::ClientLine;
 use std::marker::Model;
 
 /// The bytes that a client writes for this line, with its newline. A desk reads them as exactly
-/// this line. For `Unknown` they are an empty line.
+/// this line, and nothing comes after the newline. For `Unknown` they are an empty line.
 pub fn spelled(line: ClientLine) -> &'static [u8]
-    ensures { client_lines result.now ≡ line ∷ [] }
+    ensures line { client_lines result.now ≡ line ∷ [] }
+    ensures whole { half_line result.now ≡ [] }
 {
     match line {
         ClientLine::Lock => b"lock\n",

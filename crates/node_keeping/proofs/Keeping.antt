@@ -1,12 +1,12 @@
 -- What `up` makes of a node, whatever it sees.
-use Rattle.std.proofs.Common.{◌≡◌, ◌≢◌, ◌≤◌, ◌+◌, ℕ, zero, suc, Bool, true, false, if◌then◌else◌, List, [], ◌∷◌}
+use Rattle.std.proofs.Common.{◌≡◌, ◌≢◌, ◌<◌, ◌≤◌, ◌+◌, ◌⊎◌, inl, inr, ℕ, zero, suc, Bool, true, false, nat_lt, if◌then◌else◌, List, [], ◌∷◌}
 use Rattle.std.proofs.Common.{length, filter, arith, refl}
 use Rattle.std.proofs.lemmas.Grind.{common_steps}
 use Rattle.std.proofs.lemmas.Bool.Decides.{nat_tests}
 use Rattle.node_texts.specs.declared.lines.End.{End}
 use Rattle.node_texts.specs.declared.lines.End.TheVariants.{Status}
 use Rattle.node_keeping.specs.declared.keeper.KeeperStage.{KeeperStage}
-use Rattle.node_keeping.specs.declared.keeper.KeeperStage.TheVariants.{Runs, Closes, Left, Over}
+use Rattle.node_keeping.specs.declared.keeper.KeeperStage.TheVariants.{Starts, Runs, Closes, Left, Over}
 use Rattle.node_keeping.specs.declared.keeper.Seen.{Seen}
 use Rattle.node_keeping.specs.declared.keeper.Seen.TheVariants.{Ended}
 use Rattle.node_keeping.specs.declared.keeper.KeeperDeed.TheVariants.{Rest, Start, SayAgain}
@@ -72,13 +72,14 @@ pub kills_in_time : (failures n : ℕ) → length (filter is_kill (deeds failure
 kills_in_time failures zero = refl
 kills_in_time failures (suc n) = let rest : _ = kills_in_time failures n in grind (arith, common_steps)
 
-well : (end : End) (age failures : ℕ) → is_failed end age ≡ false → failures_now end age failures ≡ 0
-well end age failures h = grind (arith, common_steps)
+few : (n : ℕ) → n < 3 → nat_lt n 3 ≡ true
+few n l = grind (arith, nat_tests, l)
 
-pub again : (failures age : ℕ) (end : End) → is_failed end age ≡ false
-    → deeds failures (Runs age) (Ended end ∷ looks 11)
+pub again : (failures age : ℕ) (stage : KeeperStage) (end : End) → (stage ≡ Starts) ⊎ ((stage ≡ Runs age) × (failures_now end age failures < 3))
+    → deeds failures stage (Ended end ∷ looks 11)
     ≡ SayAgain end ∷ Rest ∷ Rest ∷ Rest ∷ Rest ∷ Rest ∷ Rest ∷ Rest ∷ Rest ∷ Rest ∷ Rest ∷ Start ∷ []
-again failures age end h = rw (well end age failures h) refl
+again failures age stage end (inl starts) = rw starts refl
+again failures age stage end (inr (runs, l)) = rw (runs, few (failures_now end age failures) l) refl
 
 -- what is left alone failed
 left-seen : (failures : ℕ) (stage : KeeperStage) (seen : Seen) → stage ≢ Left → stage_after seen failures stage ≡ Left

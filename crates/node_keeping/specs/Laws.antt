@@ -1,5 +1,5 @@
 -- Laws of what a node's process and `up` decide.
-use Rattle.std.specs.Prelude.{◌≡◌, ◌≢◌, ◌≤◌, ◌↔◌, ℕ, ◌+◌, Bool, true, false, List, [], ◌∷◌, filter, length}
+use Rattle.std.specs.Prelude.{◌≡◌, ◌≢◌, ◌<◌, ◌≤◌, ◌↔◌, ◌⊎◌, ℕ, ◌+◌, Bool, true, false, List, [], ◌∷◌, filter, length}
 use Rattle.node_texts.specs.declared.lines.End.{End}
 use Rattle.node_texts.specs.declared.lines.End.TheVariants.{Status}
 use Rattle.node_keeping.specs.declared.sight.FileSight.TheVariants.{NotOwn}
@@ -8,13 +8,13 @@ use Rattle.node_keeping.specs.declared.saved.Sights.{Sights}
 use Rattle.node_keeping.specs.declared.saved.Lost.{Lost}
 use Rattle.node_keeping.specs.declared.saved.AfterSave.TheVariants.{Displaced, Stop, GoOn}
 use Rattle.node_keeping.specs.declared.keeper.KeeperStage.{KeeperStage}
-use Rattle.node_keeping.specs.declared.keeper.KeeperStage.TheVariants.{Runs, Closes, Left, Over}
+use Rattle.node_keeping.specs.declared.keeper.KeeperStage.TheVariants.{Starts, Runs, Closes, Left, Over}
 use Rattle.node_keeping.specs.declared.keeper.Seen.{Seen}
 use Rattle.node_keeping.specs.declared.keeper.Seen.TheVariants.{Ended, Urged}
 use Rattle.node_keeping.specs.declared.keeper.KeeperDeed.{KeeperDeed}
 use Rattle.node_keeping.specs.declared.keeper.KeeperDeed.TheVariants.{Rest, Start, SayAgain, SayGone, Kill}
 use Rattle.node_keeping.specs.AfterSave.{after_save, lost_of}
-use Rattle.node_keeping.specs.Steps.{stage_after, stage_after_all, deeds, asked_after, looks, is_failed}
+use Rattle.node_keeping.specs.Steps.{stage_after, stage_after_all, deeds, asked_after, looks, is_failed, failures_now}
 
 -- a node ends at once, whatever else it sees, exactly if it sees that its lock file is gone or
 -- another's
@@ -50,11 +50,13 @@ NobodyStartsAfterTheEnd =
     (failures : ℕ) (stage : KeeperStage) (seen : List Seen)
     → filter is_start (deeds failures (asked_after stage) seen) ≡ []
 
--- a node that ran and ended, and did not fail at its start, is started again after 10 looks
+-- a node that ran and ended is started again after 10 looks, unless it has now failed three times in
+-- a row at its start; so is one for which there was no process
 abbrev pub IsStartedAgain : Type 0
 IsStartedAgain =
-    (failures age : ℕ) (end : End) → is_failed end age ≡ false
-    → deeds failures (Runs age) (Ended end ∷ looks 11)
+    (failures age : ℕ) (stage : KeeperStage) (end : End)
+    → (stage ≡ Starts) ⊎ ((stage ≡ Runs age) × (failures_now end age failures < 3))
+    → deeds failures stage (Ended end ∷ looks 11)
     ≡ SayAgain end ∷ Rest ∷ Rest ∷ Rest ∷ Rest ∷ Rest ∷ Rest ∷ Rest ∷ Rest ∷ Rest ∷ Rest
     ∷ Start ∷ []
 

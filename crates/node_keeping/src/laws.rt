@@ -16,9 +16,9 @@ pub fn a_node_runs_on_in_its_place()
     ensures asked { StopsWhenAsked }
 {}
 
-/// A node that ran and ended is started again if it did not fail at its start. It is left alone
-/// only after the third failure in a row. What becomes of one that failed once or twice, no clause
-/// says.
+/// A node that ended, or for which there was no process, is started again, unless it failed at its
+/// start for the third time in a row. Only then it is left alone. Whoever runs nodes under `up`
+/// relies on this.
 pub fn a_node_is_started_again()
     ensures again { IsStartedAgain }
     ensures left { IsLeftAfterThreeFailures }
