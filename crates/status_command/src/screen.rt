@@ -63,11 +63,12 @@ impl Screen {
         let Some(settings) = settings(rt, rt.alloc()) else {
             return Screen::Blocks(false);
         };
+        let screen = Screen::Terminal(settings);
         if rt.print(BEGIN).is_err() {
-            restore(rt, rt.alloc(), settings.as_str());
+            screen.end(rt);
             return Screen::Blocks(false);
         }
-        Screen::Terminal(settings)
+        screen
     }
 
     /// Shows a block.
@@ -110,7 +111,7 @@ impl Screen {
     pub fn end<R: Print + Processes + AllocGlobal>(&self, rt: &R) {
         if let Screen::Terminal(settings) = self {
             let _ = rt.print(END);
-            restore(rt, rt.alloc(), settings.as_str());
+            let _ = stty(rt, rt.alloc(), &[settings.as_str()]);
         }
     }
 }
@@ -130,15 +131,10 @@ fn settings<R: Processes>(rt: &R, alloc: Global) -> Option<String> {
     let before = stty(rt, alloc, &["-g"])?;
     let watching = ["-icanon", "-isig", "-echo", "min", "0", "time", "1"];
     if stty(rt, alloc, &watching).is_none() {
-        restore(rt, alloc, before.as_str());
+        let _ = stty(rt, alloc, &[before.as_str()]);
         return None;
     }
     Some(before)
-}
-
-/// Gives the terminal on standard input these settings again, if that is possible.
-fn restore<R: Processes>(rt: &R, alloc: Global, settings: &str) {
-    let _ = stty(rt, alloc, &[settings]);
 }
 
 /// What `stty` prints about the terminal on standard input; none if it fails.
